@@ -33,6 +33,7 @@ from machine.frames import Frame
 from machine.lists import read_requests
 from machine.loan import loan_page_of
 from machine.projects import project
+from machine.drawing import drawing_of
 from machine.report import page_of
 from machine.world import Receipt, World
 from make_sample import List, rehearsed as rehearsed_sample
@@ -270,6 +271,9 @@ def papers(session):
     session.run(f"report maps {CREW[:4].upper()}", loan_page_of(world, {}, reference.reply_text, CREW))
     session.run(f"report maps {nordmark.ARCHIVE[:5]}", "refused: no such package\n", 1)
     session.run("report maps harbour", "refused: uuid\n", 1)
+    for words, named in (("", {}), (" --names samples/names.csv", called)):
+        session.run(f"map maps{words}", drawing_of(world, named))
+    session.run("map maps --names samples/nowhere.csv", "refused: names\n", 1)
     for name, text in (("header", "uuid;name\n"), ("record", f"uuid,name\n{CREW},crew\nharbour,crew\n"), ("fields", f"uuid,name\n{CREW}\n"), ("nothing", "")):
         session.run(f"report maps --names {session.name(f'samples/names_{name}.csv', text.encode())}", "refused: names\n", 1)
     session.run("report maps --names samples/nowhere.csv", "refused: names\n", 1)
@@ -278,6 +282,21 @@ def papers(session):
     session.run("report folders/missing_package", fault_page_of("MissingPackage", f"package {loan} is named by an open split and has no file"), 3)
     session.run("report folders/no_archive", fault_page_of("NoArchive", "no file says that it is the archive's"), 3)
     session.run("report folders/no_database", "", 3)
+    session.run("map folders/altered", "", 3)
+
+
+def drawings(session, oblong):
+    """The map of an archive with nothing in it over an oblong frame, and of the sample while a loan has lent on: samples/lending.svg."""
+    session.run("map oblong", drawing_of(oblong, {}))
+    with open(os.path.join(HERE, "archive.csv"), "rb") as it:
+        requests = b"".join(it.readlines()[:58])
+    done = rehearsed(requests)
+    with open(os.path.join(HERE, "lending.svg"), encoding="utf-8", newline="") as it:
+        drawn = it.read()
+    session.type("mkdir lending", "")
+    session.run(f"init {MAKING} lending", f"archive {nordmark.ARCHIVE}\n")
+    session.run("import lending " + session.name("lists/lending.csv", requests), report_of(done))
+    session.run("map lending --names samples/names.csv", drawn)
 
 
 def making(check):
@@ -444,6 +463,9 @@ def all_sessions():
     every.show("")
     every.show("# The custody of a loan, and folders that do not open.")
     papers(every)
+    every.show("")
+    every.show("# The map of all zooms, with marks and names.")
+    drawings(every, oblong)
     every.show("")
     every.show("# What bash needs to complete words.")
     completions(every)

@@ -12,12 +12,13 @@ _sheetdesk_options() {
         return|join|part) echo --at --request --dry-run ;;
         put) echo --type --tms --as --at --request --dry-run ;;
         drop) echo --yes --at --dry-run ;;
-        log) echo --from --last ;;
+        status|explain) echo --json ;;
+        log) echo --from --last --json ;;
         export) echo --qgis ;;
         holds) echo --tiles --points --geometry --code --label ;;
         changes) echo --more --at --summary ;;
         bring) echo --more --at --dry-run --summary ;;
-        map) echo --zoom ;;
+        map) echo --zoom --names ;;
         report) echo --names ;;
         serve) echo --log ;;
     esac

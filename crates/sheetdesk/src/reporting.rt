@@ -1,4 +1,4 @@
-//! The pages of `report`: its words are read, and its file of names.
+//! The pages of `report`, and the drawing of `map`: their words are read, and the file of names.
 use crate::naming::package_given;
 use crate::running::{ended, is_printed, out_of_memory, output_failed, text_of};
 use clap::ArgMatches;
@@ -21,7 +21,10 @@ fn loan_paper(loan: &str) -> Result<Paper, Ending> {
 }
 
 /// What is asked of the register. Of a folder that does not open, the page says why, whatever was asked.
-fn paper_of(rt: &HostRuntime, given: &ArgMatches<'_>) -> Result<Paper, Ending> {
+fn paper_of(rt: &HostRuntime, name: &str, given: &ArgMatches<'_>) -> Result<Paper, Ending> {
+    if name == "map" {
+        return Ok(Paper::Map);
+    }
     if given.get_str("package").is_none() {
         return Ok(Paper::Whole);
     }
@@ -59,7 +62,7 @@ fn names_in(rt: &HostRuntime, path: &str, is_asked: bool) -> Result<Vec<Name>, u
     }
 }
 
-/// The names for a page: of the file that is asked for, or of the folder's.
+/// The names for a page or a drawing: of the file that is asked for, or of the folder's.
 fn names_for(rt: &HostRuntime, given: &ArgMatches<'_>) -> Result<Vec<Name>, u8> {
     if let Some(path) = given.get_str("names") {
         return names_in(rt, path, true);
@@ -71,9 +74,23 @@ fn names_for(rt: &HostRuntime, given: &ArgMatches<'_>) -> Result<Vec<Name>, u8> 
     }
 }
 
-/// Writes a page, and answers the exit status.
-pub(crate) fn reported(rt: &HostRuntime, given: &ArgMatches<'_>) -> u8 {
-    let paper = match paper_of(rt, given) {
+/// Whether all zooms are asked for with marks and names, and not one zoom.
+fn is_drawing(name: &str, given: &ArgMatches<'_>) -> bool {
+    name == "map" && given.get_str("zoom").is_none()
+}
+
+/// Writes a page or a drawing, where the command asks for one, and answers the exit status.
+pub(crate) fn reported(rt: &HostRuntime, name: &str, given: &ArgMatches<'_>) -> Option<u8> {
+    if name == "report" || is_drawing(name, given) {
+        Some(written(rt, name, given))
+    } else {
+        None
+    }
+}
+
+/// Writes it, and answers the exit status.
+fn written(rt: &HostRuntime, name: &str, given: &ArgMatches<'_>) -> u8 {
+    let paper = match paper_of(rt, name, given) {
         Ok(paper) => paper,
         Err(ending) => return ended(rt, &ending),
     };

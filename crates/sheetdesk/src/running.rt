@@ -245,8 +245,8 @@ pub(crate) fn carried_out(
     if let Some(ending) = projected(rt, name, given) {
         return ended(rt, &ending);
     }
-    if name == "report" {
-        return reported(rt, given);
+    if let Some(status) = reported(rt, name, given) {
+        return status;
     }
     if let Some(wish) = wish_of(name, given) {
         return looked(

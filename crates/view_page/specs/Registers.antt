@@ -73,10 +73,10 @@ pub record IsRegisterOf (w : World) (names : List Name) (r : Register) : Type 0 
   pub frame : r.frame ≡ w.frame
   pub packages : r.packages.items ≡ arranged loan_key (map (live_of w) w.packages)
   pub archive : option_map (λ p. p.uuid) (slice_get r.packages.items 0) ≡ Some r.archive
-  pub things : r.things.items ≡ flat_map (λ s. things_under w s.uuid) (by_depth (package_sights w))
+  pub things : r.things ≡ flat_map (λ s. things_under w s.uuid) (by_depth (package_sights w))
   pub ties : r.ties.items ≡ flat_map (λ s. ties_under w s.uuid) (by_depth (package_sights w))
   pub receipts : r.receipts.items ≡ receipts_of w
-  pub named : r.names.items ≡ names
+  pub named : r.names ≡ names
 
 module _ {S : Type 0} (g : Ghosts S) where
   -- A world ended with a look at all that it holds. It was only read, and so were its stores.

@@ -20,6 +20,7 @@ use std::alloc::{AllocError, Global};
 use uuid::Uuid;
 use view_history::ledgers::ledger_of;
 use view_history::loans::loans_of;
+use view_report::lists::{Names, Things};
 use view_report::registers::{Live, Name, Register};
 use view_world::packages::{Kept, kept_of};
 use view_world::usable::are_ready;
@@ -108,6 +109,8 @@ fn register_by<S: Alter + Drop>(
     };
     let archive = first.uuid;
     let Contents { things, ties } = contents;
+    let things = Things::new(things)?;
+    let names = Names::new(names)?;
     Ok(Register {
         archive,
         frame,

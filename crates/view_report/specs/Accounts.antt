@@ -25,7 +25,7 @@ held_row s = codes "<tr class=\"sum\"><th scope=\"row\">held</th>" ++ (sum_cells
 abbrev pub account_text : Register → Live → Flow → List ℕ
 account_text r p flow =
     codes "<tbody>\n<tr class=\"name\"><th scope=\"rowgroup\" colspan=\"6\">" ++ (swatch_text (number_of r.packages.items p.loan)
-    ++ (codes "<b>" ++ (name_text r.names.items p.uuid ++ (codes "</b></th></tr>\n"
+    ++ (codes "<b>" ++ (name_text r.names p.uuid ++ (codes "</b></th></tr>\n"
     ++ (totals_row (codes "came in") flow.came ++ (totals_row (codes "went out") flow.left ++ held_row p.sums))))))
 
 -- the same by the receipts

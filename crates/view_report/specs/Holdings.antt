@@ -29,7 +29,7 @@ thing_kind (Mark x y code label) = RowItem
 abbrev pub thing_row : Register → Thing → List ℕ
 thing_row r t =
     codes "<tr id=\"i-" ++ (uuid_text t.identity ++ (codes "\"><th scope=\"row\">" ++ (kind_word (thing_kind t.about) ++ (codes " "
-    ++ (about_text r.names.items t ++ (codes "</th><td>" ++ (short_text t.identity
+    ++ (about_text r.names t ++ (codes "</th><td>" ++ (short_text t.identity
     ++ (codes "</td><td class=\"n\" data-l=\"bytes\">" ++ (decimal t.size
     ++ (codes "</td><td>" ++ (digest_text t.fingerprint ++ codes "</td></tr>\n")))))))))))
 
@@ -51,5 +51,5 @@ tie_if r holder t = if bytes_eq t.holder holder then tie_row r t else []
 abbrev pub holding_text : Register → Live → List ℕ
 holding_text r p =
     codes "<details id=\"d-" ++ (uuid_text p.uuid ++ (codes "\">\n<summary>" ++ (swatch_text (number_of r.packages.items p.loan)
-    ++ (codes "<b>" ++ (name_text r.names.items p.uuid ++ (codes "</b> " ++ (sums_text p.sums.tiles p.sums.media p.sums.rows p.sums.links
-    ++ (HOLDING_HEAD.now ++ (flat_map (thing_if r p.uuid) r.things.items ++ (flat_map (tie_if r p.uuid) r.ties.items ++ HOLDING_END.now))))))))))
+    ++ (codes "<b>" ++ (name_text r.names p.uuid ++ (codes "</b> " ++ (sums_text p.sums.tiles p.sums.media p.sums.rows p.sums.links
+    ++ (HOLDING_HEAD.now ++ (flat_map (thing_if r p.uuid) r.things ++ (flat_map (tie_if r p.uuid) r.ties.items ++ HOLDING_END.now))))))))))

@@ -16,7 +16,7 @@ use Rattle.view_report.specs.declared.words.TheConstants.{ACCOUNT_HEAD, BODY, CH
 use Rattle.view_report.specs.declared.registers.Register.{Register}
 
 abbrev pub title_text : Register → List ℕ
-title_text r = plain_name r.names.items r.archive
+title_text r = plain_name r.names r.archive
 
 abbrev pub head_text : Register → List ℕ
 head_text r =

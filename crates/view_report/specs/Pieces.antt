@@ -58,7 +58,7 @@ holder_class r id = option_map_or (λ p. class_text (number_of r.packages.items 
 abbrev pub holder_text : Register → List ℕ → List ℕ
 holder_text r id =
     codes "<a class=\"h " ++ (holder_class r id ++ (codes "\" href=\"#p-" ++ (uuid_text id
-    ++ (codes "\">" ++ (name_text r.names.items id ++ codes "</a>")))))
+    ++ (codes "\">" ++ (name_text r.names id ++ codes "</a>")))))
 
 -- ---- receipts
 
@@ -117,4 +117,4 @@ found_text names id t = codes "<a href=\"#i-" ++ (uuid_text id ++ (codes "\">" +
 
 -- an item that a receipt or a link names: told where a package holds it
 abbrev pub thing_text : Register → List ℕ → List ℕ
-thing_text r id = option_map_or (found_text r.names.items id) (thing_found r.things.items id) (short_text id)
+thing_text r id = option_map_or (found_text r.names id) (thing_found r.things id) (short_text id)

@@ -7,13 +7,14 @@ use crate::escaping::put_moment;
 use crate::pieces::{
     put, put_called, put_count, put_holder, put_receipt, put_short, put_sums, put_swatch, put_uuid,
 };
-use crate::registers::{Live, Name, Register, command_of, number_of, receipt_found};
+use crate::lists::Names;
+use crate::registers::{Live, Register, command_of, number_of, receipt_found};
 use sheet_types::receipt::{Receipt, Sums};
 use std::alloc::AllocError;
 use uuid::Uuid;
 
 /// Puts what people call a package, and its UUID.
-pub(crate) fn put_full_name(text: &mut String, names: &[Name], id: Uuid) -> Result<(), AllocError>
+pub(crate) fn put_full_name(text: &mut String, names: &Names, id: Uuid) -> Result<(), AllocError>
     ensures { IfOk result (λ _. string_bytes text.new ≡ string_bytes text.old ++ full_name names.now id) }
 {
     put_called(text, names, id)?;
@@ -165,7 +166,7 @@ fn put_home(
     put(text, "</th><td data-l=\"home to\">")?;
     put_end(text, register, receipt.target, "&ndash;")?;
     put(text, "</td><td class=\"t\" data-l=\"home\">")?;
-    put_when(text, register, receipt.seq)?;
+    put_dated(text, register, receipt, receipt.seq)?;
     put(text, "</td><td data-l=\"with\">")?;
     put_sums(
         text,

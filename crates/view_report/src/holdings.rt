@@ -173,7 +173,7 @@ fn put_holding(text: &mut String, register: &Register, live: &Live) -> Result<()
         live.sums.links,
     )?;
     put(text, HOLDING_HEAD)?;
-    put_items(text, register, live.uuid, &register.things)?;
+    put_items(text, register, live.uuid, register.things.as_slice())?;
     put_ties(text, register, live.uuid, &register.ties)?;
     put(text, HOLDING_END)?;
     Ok(())

@@ -3,6 +3,7 @@ ghost use Rattle.std.specs.Prelude.{◌≡◌, IfOk, bytes_eq, option_map};
 ghost use Rattle.sheet_types.specs.Custody.{ends_at};
 ghost use Rattle.view_report.specs.Registers.{about_of, command_of, live_of, name_of, number_of, receipt_found, thing_found, thing_of};
 
+use crate::lists::{Names, Things};
 use sheet_types::collections::Text;
 use sheet_types::command::{Content, Item};
 use sheet_types::error::OutOfMemory;
@@ -82,10 +83,10 @@ pub struct Register {
     pub archive: Uuid,
     pub frame: Frame,
     pub packages: Vec<Live>,
-    pub things: Vec<Thing>,
+    pub things: Things,
     pub ties: Vec<Tie>,
     pub receipts: Vec<Receipt>,
-    pub names: Vec<Name>,
+    pub names: Names,
 }
 
 /// What an item is.
@@ -151,10 +152,10 @@ pub fn ends_at(end: Option<Uuid>, id: Uuid) -> bool
 }
 
 /// What people call a package or a sheet, if they do.
-pub(crate) fn name_of<'t>(names: &'t [Name], uuid: Uuid) -> Option<&'t Name>
+pub fn name_of<'t>(names: &'t Names, uuid: Uuid) -> Option<&'t Name>
     ensures { option_map (λ n. n.now) result ≡ name_of names.now uuid }
 {
-    names.iter().find(|name| is_same(name.uuid, uuid))
+    names.found(uuid)
 }
 
 /// The package of this UUID, if it lives.
@@ -165,12 +166,10 @@ pub fn live_of(packages: &[Live], uuid: Uuid) -> Option<&Live>
 }
 
 /// The item of this identity, if a package holds it.
-pub fn thing_found(things: &[Thing], identity: Uuid) -> Option<&Thing>
+pub fn thing_found(things: &Things, identity: Uuid) -> Option<&Thing>
     ensures { option_map (λ t. t.now) result ≡ thing_found things.now identity }
 {
-    things
-        .iter()
-        .find(|thing| is_same(thing.identity, identity))
+    things.found(identity)
 }
 
 /// The receipt of this number, if there is one.
@@ -192,7 +191,7 @@ pub fn command_of(receipt: &Receipt) -> &str
 }
 
 /// How many packages were lent before this receipt: the number of a package, by which it has its colour.
-pub(crate) fn number_of(packages: &[Live], loan: u64) -> usize
+pub fn number_of(packages: &[Live], loan: u64) -> usize
     ensures { result ≡ number_of packages.now loan }
 {
     packages

@@ -20,6 +20,12 @@ returns-in_err-lives-clause-asked g c = asks_cut g.S.Store _ _ c.from_residual-i
 pub returns-in_err-packages-clause-asked : goal.returns-in_err-packages-clause-asked
 returns-in_err-packages-clause-asked g c = asks_cut g.S.Store _ _ c.from_residual-in_err-packages.result c.from_residual-in_err-packages.ensures.0 c.loans_of.ensures c.ledger_of.ensures
 
+pub returns-in_err-things-clause-asked : goal.returns-in_err-things-clause-asked
+returns-in_err-things-clause-asked g c = asks_cut g.S.Store _ _ c.from_residual-in_err-things.result c.from_residual-in_err-things.ensures.0 c.loans_of.ensures c.ledger_of.ensures
+
+pub returns-in_err-names-clause-asked : goal.returns-in_err-names-clause-asked
+returns-in_err-names-clause-asked g c = asks_cut g.S.Store _ _ c.from_residual-in_err-names.result c.from_residual-in_err-names.ensures.0 c.loans_of.ensures c.ledger_of.ensures
+
 pub returns-in_default-clause-asked : goal.returns-in_default-clause-asked
 returns-in_default-clause-asked g c = asks_cut g.S.Store _ _ (Err StoreFault) refl c.loans_of.ensures c.ledger_of.ensures
 
@@ -35,9 +41,9 @@ returns-clause-asked g c =
       frame = sym framed;
       packages = c.in_ok-packages.ensures ∙ ap (arranged loan_key) (c.in_ok-lives.ensures w kept made);
       archive = ap (option_map (λ (p : Live). p.uuid)) (ap (λ l. slice_get l 0) (sym c.deref-4.ensures.value) ∙ first);
-      things = seen.held.things;
+      things = c.in_ok-things.ensures ∙ seen.held.things;
       ties = seen.held.ties;
       receipts = two ∙ ap ledger_of same;
-      named = refl;
+      named = c.in_ok-names.ensures;
     })
     c.loans_of.ensures c.ledger_of.ensures

@@ -11,6 +11,6 @@ returns c =
     onward (string_bytes c.put_class.new.text) _ _ c.in_ok-put-3.ensures (
     onward (string_bytes c.put-3.new.text) _ _ (rw (c.pattern_of.ensures, c.number_of-number.ensures, c.deref.ensures.value) at c.in_ok-put_count.ensures) (
     onward (string_bytes c.put_count.new.text) _ _ c.in_ok-put-4.ensures (
-    onward (string_bytes c.put-4.new.text) _ _ (rw c.deref-2.ensures.value at c.in_ok-put_name.ensures) (
+    onward (string_bytes c.put-4.new.text) _ _ c.in_ok-put_name.ensures (
     onward (string_bytes c.put_name.new.text) _ _ c.in_ok-put-5.ensures (
     onward (string_bytes c.put-5.new.text) _ _ c.in_ok-put_sums.ensures c.in_ok-put-6.ensures)))))))))

@@ -11,6 +11,6 @@ returns c =
     onward (string_bytes c.put_swatch.new.text) _ _ c.in_ok-put-3.ensures (
     onward (string_bytes c.put-3.new.text) _ _ c.in_ok-put_uuid-2.ensures (
     onward (string_bytes c.put_uuid-2.new.text) _ _ c.in_ok-put-4.ensures (
-    onward (string_bytes c.put-4.new.text) _ _ (rw c.deref-2.ensures.value at c.in_ok-put_full_name.ensures) (
+    onward (string_bytes c.put-4.new.text) _ _ c.in_ok-put_full_name.ensures (
     onward (string_bytes c.put_full_name.new.text) _ _ c.in_ok-put-5.ensures (
     onward (string_bytes c.put-5.new.text) _ _ c.in_ok-put_sum_cells.ensures c.in_ok-put_lent.ensures)))))))))
