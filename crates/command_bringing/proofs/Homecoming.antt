@@ -91,7 +91,7 @@ module _ {S : Type 0} (g : Ghosts S) (a : Ask) (text : Option (List ℕ)) (timed
 
   module _ (old read new : Seen S) (failed fails : ℕ) (before after : Option (List ℕ)) (untouched : IsUntouched g old read)
       (told : AllClean g read.members → (w : World) → StandsFor g old w → AnswersText w a text (Asked requests))
-      (it : IsImported g requests.items read new failed fails before after (Ok tt)) where
+      (x : Unit {0}) (it : IsImported g requests.items read new failed fails before after (Ok x)) where
     ran_whole : IsRun g requests.items read it.replies new failed fails
     ran_whole = subst (λ qs. IsRun g qs read it.replies new failed fails) (ap (λ n. take n requests.items) it.written.0 ∙ take_all (length requests.items) requests.items (omega arith)) it.ran
 
@@ -128,7 +128,7 @@ module _ {S : Type 0} (g : Ghosts S) {W : Type 0} (writer writer' : W) (before a
 
   carried_home : (requests : Vec Request Global) (r : Result (Unit {0}) ImportFault) → (AllClean g read.members → (w : World) → StandsFor g old w → AnswersText w a text (Asked requests))
       → ending ≡ import_ending r → IsCarried g requests.items read new failed fails before after r → Home
-  carried_home requests (Ok x) told end it = came_home g a text timed requests old read new failed fails before after untouched told it
+  carried_home requests (Ok x) told end it = came_home g a text timed requests old read new failed fails before after untouched told x it
   carried_home requests (Err fault) told end it = absurd (no_import fault (sym end ∙ is_done))
 
   answered_home : (answer : Answer) → (AllClean g read.members → (w : World) → StandsFor g old w → AnswersText w a text answer)
