@@ -1,5 +1,5 @@
 -- Where no record of a file is told, a package can take it.
-use Rattle.std.specs.Prelude.{◌≡◌, ◌≤◌, ◌+◌, ◌-◌, ◌==◌, ℕ, ℤ, pos, ◌+ℤ◌, Bool, true, false, cond, not, ◌&&◌, ◌||◌, int_le, int_lt, List, [], ◌∷◌, ◌++◌, map, filter, flat_map, codes, Option, Some, None, is_none, IsTrue, bytes_eq, count_by, unsigned_abs, IsPermutation, refl}
+use Rattle.std.specs.Prelude.{◌≡◌, ◌≤◌, ◌+◌, ◌-◌, ◌==◌, ℕ, ℤ, pos, negsuc, ◌+ℤ◌, Bool, true, false, cond, not, ◌&&◌, ◌||◌, int_le, int_lt, List, [], ◌∷◌, ◌++◌, map, filter, flat_map, codes, Option, Some, None, is_none, IsTrue, bytes_eq, count_by, unsigned_abs, IsPermutation, refl}
 use Rattle.std.proofs.Common.{sym, ap, subst, ◌∙◌, inl, inr, arith, append_assoc}
 use Rattle.std.specs.List.{list_any, list_all, AllByRecursion, IsDistinct}
 use Rattle.std.specs.Fmt.{signed_decimal}
@@ -22,7 +22,7 @@ use Rattle.sheet_types.specs.declared.command.Item.{Item}
 use Rattle.sheet_types.specs.declared.command.Request.{Request}
 use Rattle.sheet_types.specs.declared.frame.Frame.{Frame}
 use Rattle.sheet_types.specs.declared.receipt.MovedKind.TheVariants.{TileItem}
-use Rattle.sheet_types.proofs.Basics.{None≢Some, bytes_eq_itself, not_false, not_true}
+use Rattle.sheet_types.proofs.Basics.{None≢Some, bytes_eq_itself, bytes_eq_swap, not_false}
 use Rattle.sheet_types.proofs.Distinct.{distinct_counts}
 use Rattle.sheet_types.proofs.Every.{All-append, All-snoc, All-weaker, none_pass, none_any}
 use Rattle.sheet_types.proofs.Same.{In, In-all, All-In, In-of_map, any_in, any_at}
@@ -74,6 +74,10 @@ both_none : (o other : Option Reason) → reason_or o other ≡ None → (o ≡ 
 both_none None other e = (refl, e)
 both_none (Some r) other e = absurd (None≢Some (sym e))
 
+false_by : (b : Bool) → (b ≡ true → ⊥) → b ≡ false
+false_by true f = absurd (f refl)
+false_by false f = refl
+
 -- ---- one item
 
 abbrev IsHeldBy : Frame → HeldItem → Type 0
@@ -112,7 +116,7 @@ fits f (Row x y code label) e =
 
 module _ (f : Frame) (items : List Item) (more exported : Bool) where
   -- none of them has a reason, behind those before
-  NoneTold : List HeldItem → List HeldItem → Type 0
+  abbrev NoneTold : List HeldItem → List HeldItem → Type 0
   NoneTold before [] = Unit {0}
   NoneTold before (h ∷ hs) = (IsHeldBy f h × (reason_among f items more exported before h h.content ≡ None)) × NoneTold (before ++ h ∷ []) hs
 
@@ -171,7 +175,18 @@ itself a z e = subst (λ v. is_same v a ≡ true) (sym e) (one a)
 
 -- numbers that are not below 0 are told by how far they are from it
 same_abs : (a b : ℤ) → int_le (pos 0) a ≡ true → int_le (pos 0) b ≡ true → unsigned_abs a ≡ unsigned_abs b → a ≡ b
-same_abs a b low low' e = omega (arith, ints, low, low', e)
+same_abs (pos m) (pos n) low low' e = ap pos e
+same_abs (pos m) (negsuc n) low low' e = absurd (false≢true low')
+same_abs (negsuc m) b low low' e = absurd (false≢true low)
+
+abbrev place_at : ℤ → ℤ → ℤ → List ℕ
+place_at zoom column row = unsigned_abs zoom ∷ unsigned_abs column ∷ unsigned_abs row ∷ []
+
+abbrev is_tile_of : HeldItem → Bool
+is_tile_of h = kind_is TileItem (kind_of h.content)
+
+abbrev lies_at : List ℕ → HeldItem → Bool
+lies_at k h = bytes_eq (place_of h.content) k
 
 module _ (f : Frame) (good : GoodFrame f) where
   record IsPlaced (zoom column row : ℤ) : Type 0 where
@@ -219,18 +234,8 @@ module _ (f : Frame) (good : GoodFrame f) where
   twice_snoc (x ∷ ks) k once out =
       let first = or_parts (is_among ks x) (has_twice ks) once in
       let other = or_parts (bytes_eq x k) (is_among ks k) out in
-      ap (λ b. b || has_twice (ks ++ k ∷ [])) (list_any-append (λ z. bytes_eq z x) ks (k ∷ []) ∙ ap (λ b. b || (bytes_eq k x || false)) first.0 ∙ ap (λ b. b || false) (swapped k x other.0))
+      ap (λ b. b || has_twice (ks ++ k ∷ [])) (list_any-append (λ z. bytes_eq z x) ks (k ∷ []) ∙ ap (λ b. b || (bytes_eq k x || false)) first.0 ∙ ap (λ b. b || false) (bytes_eq_swap k x ∙ other.0))
       ∙ twice_snoc ks k first.1 other.1
-    where
-      swapped : (a b : List ℕ) → bytes_eq b a ≡ false → bytes_eq a b ≡ false
-      swapped a b e = false_by (bytes_eq a b) (λ same. true≢false (sym ((bytes_eq-Decides b a).1 (sym ((bytes_eq-Decides a b).0 same))) ∙ e))
-        where
-          false_by : (v : Bool) → (v ≡ true → ⊥) → v ≡ false
-          false_by true g = absurd (g refl)
-          false_by false g = refl
-
-  abbrev is_tile_of : HeldItem → Bool
-  is_tile_of h = kind_is TileItem (kind_of h.content)
 
   places_both : (xs ys : List HeldItem) → tile_places (xs ++ ys) ≡ tile_places xs ++ tile_places ys
   places_both [] ys = refl
@@ -253,21 +258,14 @@ module _ (f : Frame) (good : GoodFrame f) where
 
   -- no tile before stands at a place where no good one does
   place_out : (zoom column row : ℤ) → IsPlaced zoom column row → (before : List HeldItem) → AllByRecursion (IsHeldBy f) before → list_any (is_good_at f zoom column row) before ≡ false
-      → is_among (tile_places before) (unsigned_abs zoom ∷ unsigned_abs column ∷ unsigned_abs row ∷ []) ≡ false
-  place_out zoom column row at before held none = by (is_among (tile_places before) place) refl
-    where
-      place : List ℕ
-      place = unsigned_abs zoom ∷ unsigned_abs column ∷ unsigned_abs row ∷ []
-
-      by : (v : Bool) → is_among (tile_places before) place ≡ v → v ≡ false
-      by false e = refl
-      by true e =
-          let k = any_at (λ x. bytes_eq x place) (tile_places before) e in
-          let g = In-of_map (λ h. place_of h.content) k.0 (filter is_tile_of before) k.1 in
-          let there = of_filter is_tile_of g.0 before g.1 in
-          let same : bytes_eq (place_of g.0.content) place ≡ true = ap (λ l. bytes_eq l place) g.2 ∙ k.2 in
-          let meet = meets zoom column row g.0 g.0.content refl at (All-In (IsHeldBy f) g.0 before held there.0) there.1 same in
-          absurd (true≢false (sym (any_in (is_good_at f zoom column row) g.0 before there.0 meet) ∙ none))
+      → is_among (tile_places before) (place_at zoom column row) ≡ false
+  place_out zoom column row at before held none = false_by (is_among (tile_places before) (place_at zoom column row)) (λ e.
+      let k = any_at (λ x. bytes_eq x (place_at zoom column row)) (tile_places before) e in
+      let g = In-of_map (λ h. place_of h.content) k.0 (filter is_tile_of before) k.1 in
+      let there = of_filter is_tile_of g.0 before g.1 in
+      let same : bytes_eq (place_of g.0.content) (place_at zoom column row) ≡ true = ap (λ l. bytes_eq l (place_at zoom column row)) g.2 ∙ k.2 in
+      let meet = meets zoom column row g.0 g.0.content refl at (All-In (IsHeldBy f) g.0 before held there.0) there.1 same in
+      true≢false (sym (any_in (is_good_at f zoom column row) g.0 before there.0 meet) ∙ none))
 
   module _ (items : List Item) (more exported : Bool) where
     next : (before : List HeldItem) (h : HeldItem) (c : Content) → c ≡ h.content → has_twice (tile_places before) ≡ false → AllByRecursion (IsHeldBy f) before → reason_of f c ≡ None
@@ -297,30 +295,22 @@ of_new P (n ∷ ns) (h ∷ hs) all =
 
 -- of a content no more are in a file than there are tiles of its place
 fewer : (k : List ℕ) (p : HeldItem → Bool) → ((h : HeldItem) → p h ≡ true → (kind_is TileItem (kind_of h.content) ≡ true) × (bytes_eq (place_of h.content) k ≡ true))
-    → (hs : List HeldItem) → count_by p hs ≤ count_by (λ h. bytes_eq (place_of h.content) k) (filter (λ h. kind_is TileItem (kind_of h.content)) hs)
+    → (hs : List HeldItem) → count_by p hs ≤ count_by (lies_at k) (filter is_tile_of hs)
 fewer k p to [] = omega arith
-fewer k p to (h ∷ hs) = by (p h) refl (kind_is TileItem (kind_of h.content)) refl
-  where
-    q : HeldItem → Bool
-    q g = bytes_eq (place_of g.content) k
-
-    t : HeldItem → Bool
-    t g = kind_is TileItem (kind_of g.content)
-
-    by : (v : Bool) → p h ≡ v → (u : Bool) → t h ≡ u → count_by p (h ∷ hs) ≤ count_by q (cond (t h) (h ∷ filter t hs) (filter t hs))
-    by true e u d =
-        let it = to h e in
-        subst (λ b. count_by p (h ∷ hs) ≤ count_by q (cond b (h ∷ filter t hs) (filter t hs))) (sym it.0)
-        (omega (arith, fewer k p to hs, count-cons p h hs true e, count-cons q h (filter t hs) true it.1))
-    by false e true d =
-        subst (λ b. count_by p (h ∷ hs) ≤ count_by q (cond b (h ∷ filter t hs) (filter t hs))) (sym d)
-        (elim (q h) as (λ b. q h ≡ b → count_by p (h ∷ hs) ≤ count_by q (h ∷ filter t hs)) [
-          | true ↦ λ m. omega (arith, fewer k p to hs, count-cons p h hs false e, count-cons q h (filter t hs) true m)
-          | false ↦ λ m. omega (arith, fewer k p to hs, count-cons p h hs false e, count-cons q h (filter t hs) false m)
-        ] refl)
-    by false e false d =
-        subst (λ b. count_by p (h ∷ hs) ≤ count_by q (cond b (h ∷ filter t hs) (filter t hs))) (sym d)
-        (omega (arith, fewer k p to hs, count-cons p h hs false e))
+fewer k p to (h ∷ hs) =
+    elim (p h) as (λ v. p h ≡ v → count_by p (h ∷ hs) ≤ count_by (lies_at k) (cond (is_tile_of h) (h ∷ filter is_tile_of hs) (filter is_tile_of hs))) [
+      | true ↦ λ e.
+          let it = to h e in
+          subst (λ b. count_by p (h ∷ hs) ≤ count_by (lies_at k) (cond b (h ∷ filter is_tile_of hs) (filter is_tile_of hs))) (sym it.0)
+          (omega (arith, fewer k p to hs, count-cons p h hs true e, count-cons (lies_at k) h (filter is_tile_of hs) true it.1))
+      | false ↦ λ e. elim (is_tile_of h) as (λ u. count_by p (h ∷ hs) ≤ count_by (lies_at k) (cond u (h ∷ filter is_tile_of hs) (filter is_tile_of hs))) [
+        | true ↦ elim (lies_at k h) as (λ b. lies_at k h ≡ b → count_by p (h ∷ hs) ≤ count_by (lies_at k) (h ∷ filter is_tile_of hs)) [
+          | true ↦ λ m. omega (arith, fewer k p to hs, count-cons p h hs false e, count-cons (lies_at k) h (filter is_tile_of hs) true m)
+          | false ↦ λ m. omega (arith, fewer k p to hs, count-cons p h hs false e, count-cons (lies_at k) h (filter is_tile_of hs) false m)
+        ] refl
+        | false ↦ omega (arith, fewer k p to hs, count-cons p h hs false e)
+      ]
+    ] refl
 
 -- a tile of the package at this place, whose bytes are no others
 same_tile : (zoom column row : ℤ) (bytes : List ℕ) (c : Content) → refuse.is_at zoom column row c ≡ true → (is_at zoom column row c && not (bytes_eq (bytes_of c) bytes)) ≡ false → c ≡ Tile zoom column row bytes
@@ -354,30 +344,24 @@ module _ (p : List ℕ) (ticket : ℕ) (more : Bool) (x : Package) (file : List 
         fewer (place_of d) (λ h. same_content d h.content) (λ h same.
             let is : d ≡ h.content = same_key d h.content ((bytes_eq-Decides (content_key d) (content_key h.content)).0 same) in
             (ap (λ v. kind_is TileItem (kind_of v)) (sym is), ap (λ v. bytes_eq (place_of v) (place_of d)) (sym is) ∙ bytes_eq_itself (place_of d))) file,
-        distinct_counts (λ (h : HeldItem). place_of h.content) (place_of d) (filter (λ h. kind_is TileItem (kind_of h.content)) file) (are_distinct (tile_places file) once),
+        distinct_counts (λ (h : HeldItem). place_of h.content) (place_of d) (filter is_tile_of file) (are_distinct (tile_places file) once),
       )
 
   free : more ≡ true → (a : Item) → In a (new_items ns file) → IsOwn more x.items a.content → (c : Content) → c ≡ a.content → takes_place x c ≡ false
-  free asks a new own (Tile zoom column row bytes) is = by (list_any (λ i. refuse.is_at zoom column row i.content) x.items) refl
-    where
-      d : Content
-      d = Tile zoom column row bytes
-
-      by : (v : Bool) → list_any (λ i. refuse.is_at zoom column row i.content) x.items ≡ v → v ≡ false
-      by false e = refl
-      by true e =
-          let i = any_at (λ j. refuse.is_at zoom column row j.content) x.items e in
-          let none : is_other_at zoom column row bytes i.0 ≡ false = All-In (λ j. is_other_at zoom column row bytes j ≡ false) i.0 x.items (none_pass (is_other_at zoom column row bytes) x.items (own zoom column row bytes (sym is) asks)) i.1 in
-          let same : i.0.content ≡ d = same_tile zoom column row bytes i.0.content i.2 none in
-          let here : same_content d i.0.content ≡ true = ap (λ v. same_content d v) same ∙ bytes_eq_itself (content_key d) in
-          let there : same_content d a.content ≡ true = ap (λ v. same_content d v) (sym is) ∙ bytes_eq_itself (content_key d) in
-          absurd (omega (
-            arith,
-            any_some (λ j. same_content d j.content) x.items (any_in (λ j. same_content d j.content) i.0 x.items i.1 here),
-            any_some (λ j. same_content d j.content) (new_items ns file) (any_in (λ j. same_content d j.content) a (new_items ns file) new there),
-            one_of zoom column row bytes,
-            new_differ x.items file distinct d p ticket,
-          ))
+  free asks a new own (Tile zoom column row bytes) is = false_by (list_any (λ i. refuse.is_at zoom column row i.content) x.items) (λ e.
+      let i = any_at (λ j. refuse.is_at zoom column row j.content) x.items e in
+      let d : Content = Tile zoom column row bytes in
+      let none : is_other_at zoom column row bytes i.0 ≡ false = All-In (λ j. is_other_at zoom column row bytes j ≡ false) i.0 x.items (none_pass (is_other_at zoom column row bytes) x.items (own zoom column row bytes (sym is) asks)) i.1 in
+      let same : i.0.content ≡ d = same_tile zoom column row bytes i.0.content i.2 none in
+      let here : same_content d i.0.content ≡ true = ap (λ v. same_content d v) same ∙ bytes_eq_itself (content_key d) in
+      let there : same_content d a.content ≡ true = ap (λ v. same_content d v) (sym is) ∙ bytes_eq_itself (content_key d) in
+      omega (
+        arith,
+        any_some (λ j. same_content d j.content) x.items (any_in (λ j. same_content d j.content) i.0 x.items i.1 here),
+        any_some (λ j. same_content d j.content) (new_items ns file) (any_in (λ j. same_content d j.content) a (new_items ns file) new there),
+        one_of zoom column row bytes,
+        new_differ x.items file distinct d p ticket,
+      ))
   free asks a new own (Media t b) is = refl
   free asks a new own (Row y z k l) is = refl
 
