@@ -83,7 +83,7 @@ module _ {S : Type 0} (g : Ghosts S) (a : Ask) (text : Option (List ℕ)) (timed
     | inr here ↦ elim here.1 [
       | inl unlisted ↦ let wrong : Asked requests ≡ NoList = unlisted.0 in absurd (cc)
       | inr it ↦ elim it.2 [
-        | inl head ↦ absurd (no_head (ticket w a.«package») head.0 head.2)
+        | inl met ↦ absurd (no_head (ticket w a.«package») met.0 met.2)
         | inr answered ↦ record { file = it.0; listed = it.1; live = here.0; none = answered.1.0; changes = answered.1.1 }
       ]
     ]
