@@ -153,13 +153,13 @@ fn entry_of<'a>(alloc: Global, entry: Entry) -> Result<Command<'a>, AllocError> 
     }
 }
 
-/// A command that has these commands of its own.
+/// The command line with these commands more.
 pub(crate) fn with_entries<'a>(
     alloc: Global,
     command: Command<'a>,
     entries: &'static [Entry],
 ) -> Result<Command<'a>, AllocError> {
-    let mut command = command.subcommand_required(true);
+    let mut command = command;
     for entry in entries {
         command = command.subcommand(entry_of(alloc, *entry)?)?;
     }

@@ -148,8 +148,8 @@ const SHELLS: &[Verb] = &[Verb {
     words: &[],
 }];
 
-/// The commands of the program.
-pub(crate) const ENTRIES: &[Entry] = &[
+/// The verbs for people, and what makes a folder.
+pub(crate) const VERBS: &[Entry] = &[
     One(Verb {
         name: "init",
         about: "Makes a new archive in a folder that holds no packages",
@@ -271,6 +271,10 @@ pub(crate) const ENTRIES: &[Entry] = &[
             Place("identity", "IDENTITY", "The item, as 6523"),
         ],
     }),
+];
+
+/// What carries out requests, and looks at a register.
+pub(crate) const LOOKS: &[Entry] = &[
     One(Verb {
         name: "apply",
         about: "Carries out one request, as JSON on standard input",
@@ -353,6 +357,10 @@ pub(crate) const ENTRIES: &[Entry] = &[
             ),
         ],
     }),
+];
+
+/// What other programs read, or have written.
+pub(crate) const FILES: &[Entry] = &[
     One(Verb {
         name: "manifest",
         about: "Prints what a package holds, a record for each item and link",
@@ -475,6 +483,10 @@ pub(crate) const ENTRIES: &[Entry] = &[
             NAMES,
         ],
     }),
+];
+
+/// What keeps a register, and the rest.
+pub(crate) const KEEPING: &[Entry] = &[
     One(Verb {
         name: "audit",
         about: "Says whether all packages and receipts agree",
