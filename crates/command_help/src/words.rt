@@ -251,27 +251,15 @@ fn holds_command<'a>(alloc: Global) -> Result<Command<'a>, AllocError> {
     naming_points(alloc, command)
 }
 
-/// The option that names a file of names.
-fn names<'a>(alloc: Global) -> Arg<'a> {
-    option(
-        alloc,
-        "names",
-        "FILE",
-        "What people call packages and sheets, as CSV: uuid,name; else FOLDER/names.csv, if it is there",
-    )
-}
-
-/// Draws who holds what.
+/// Draws who holds which sheets.
 fn map_command<'a>(alloc: Global) -> Result<Command<'a>, AllocError> {
     let zoom = option(
         alloc,
         "zoom",
         "ZOOM",
-        "The one zoom that is drawn, as 2; else all up to 10,000 places, with marks and names",
+        "Which zoom is drawn, as 2; else the finest with at most 10,000 places",
     );
-    over_folder(alloc, Command::new(alloc, "map"), MAP_ABOUT)?
-        .arg(zoom.required(false))?
-        .arg(names(alloc).required(false))
+    over_folder(alloc, Command::new(alloc, "map"), MAP_ABOUT)?.arg(zoom.required(false))
 }
 
 /// Prints the page of a register, or of one loan.
@@ -282,9 +270,15 @@ fn report_command<'a>(alloc: Global) -> Result<Command<'a>, AllocError> {
         "LOAN",
         "The custody page of this loan, by its whole UUID; else the page of the register",
     );
+    let names = option(
+        alloc,
+        "names",
+        "FILE",
+        "What people call packages and sheets, as CSV: uuid,name; else FOLDER/names.csv, if it is there",
+    );
     over_folder(alloc, Command::new(alloc, "report"), REPORT_ABOUT)?
         .arg(loan.required(false))?
-        .arg(names(alloc).required(false))
+        .arg(names.required(false))
 }
 
 /// Says whether the packages of a folder are in order.
