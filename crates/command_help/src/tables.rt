@@ -24,6 +24,13 @@ const FRAME: Word = Needed(
     "Its frame, as 25832,0,0,4096,4096,256,256,0,3,1,1",
 );
 
+/// What things are called.
+const NAMES: Word = Value(
+    "names",
+    "FILE",
+    "What people call packages and sheets, as CSV: uuid,name; else FOLDER/names.csv, if it is there",
+);
+
 /// What `--log` is for.
 const LOG: &str = "Tell standard error of each request: moment, method, path, status";
 
@@ -390,15 +397,16 @@ pub(crate) const ENTRIES: &[Entry] = &[
     }),
     One(Verb {
         name: "map",
-        about: "Prints a drawing of who holds which sheets, as SVG",
+        about: "Prints a drawing of who holds which sheets and marks, as SVG",
         after: FOLDER_WORDS,
         words: &[
             FOLDER,
             Value(
                 "zoom",
                 "ZOOM",
-                "Which zoom is drawn, as 2; else the finest with at most 10,000 places",
+                "The one zoom that is drawn, as 2; else all with at most 10,000 places, with marks and names",
             ),
+            NAMES,
         ],
     }),
     One(Verb {
@@ -412,11 +420,7 @@ pub(crate) const ENTRIES: &[Entry] = &[
                 "LOAN",
                 "The custody page of this loan, by its whole UUID; else the page of the register",
             ),
-            Value(
-                "names",
-                "FILE",
-                "What people call packages and sheets, as CSV: uuid,name; else FOLDER/names.csv, if it is there",
-            ),
+            NAMES,
         ],
     }),
     One(Verb {
