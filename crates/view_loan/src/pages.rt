@@ -149,11 +149,12 @@ fn only(register: Register, holder: Uuid) -> Result<Register, AllocError>
     } = register;
     let mut held = things.into_vec();
     held.retain(|thing| is_same(thing.holder, holder));
+    let kept = Things::new(held)?;
     Ok(Register {
         archive,
         frame,
         packages,
-        things: Things::new(held)?,
+        things: kept,
         ties,
         receipts,
         names,
