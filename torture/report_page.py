@@ -7,7 +7,7 @@ Without a page: those of samples/make_report.py, which are the sample's, its mid
 fault, and two hostile ones; and two drawings, the sample's and a hostile one. Then the program itself carries the sample out in a folder
 up to the same time, and prints the same: the register's page, the loan's and the map with the names of samples/names.csv, as FILE and as
 the folder's own, and the page of the fault once a mark was altered behind its back; and the page of a register with more receipts than
-have rows. They must be the second machine's to the byte. With --only-machine the program is left out. The program is the one that
+have rows, which is compared alone. They must be the second machine's to the byte. With --only-machine the program is left out. The program is the one that
 SHEETDESK names, or else the proved one.
 
 Of each page: tidy finds no error; every link leads to a place of the page; no request leaves it; what a browser makes of it has no
@@ -201,11 +201,11 @@ def main():
         made, faults = machine_pages(folder), []
         if not pages:
             made["lending"] = os.path.join(SAMPLES, "lending.svg")
-            pages = [os.path.join(SAMPLES, "report.html"), *made.values()]
+            pages = [os.path.join(SAMPLES, "report.html"), *(page for name, page in made.items() if name != "many")]
             if "--only-machine" not in words:
                 own = own_pages(folder)
                 faults += [f"the program's {name} is another" for name, page in own if not same_bytes(page, made[name])]
-                pages += [page for _, page in own if not page.endswith("-2.html")]
+                pages += [page for name, page in own if name != "many" and not os.path.splitext(page)[0].endswith("-2")]
         print("".join(f"{fault}\n" for fault in faults), end="")
         faults += [fault for page in pages for fault in (look_at_drawing if page.endswith(".svg") else look_at)(folder, page)]
         if "--pictures" in words:
