@@ -9,6 +9,7 @@ Usage: make_report.py                writes report.html and lending.svg
        make_report.py --fault FILE   writes the page of a folder in which an item is altered
        make_report.py --odd FILE     writes the page of a world whose texts are hostile
        make_report.py --odd-map FILE  draws that world
+       make_report.py --many FILE    writes the page of a world with more receipts than a page shows
        make_report.py --odd-loan FILE  writes the custody page of a loan in that world
 
 Nothing here runs the program.
@@ -23,7 +24,7 @@ import reference
 from machine.drawing import drawing_of
 from machine.fault import fault_page_of
 from machine.loan import loan_page_of
-from machine.report import page_of
+from machine.report import SHOWN, page_of
 from machine.world import Receipt, apply
 
 HERE = os.path.dirname(os.path.abspath(__file__))
@@ -44,6 +45,18 @@ def world_of(lines):
     with open(path("archive.csv"), "rb") as found:
         records = found.read().split(b"\n")
     return reference.rehearse(nordmark.ARCHIVE, nordmark.FRAME, b"\n".join(records[:lines]) + b"\n").world
+
+
+def many_requests():
+    """A list of ten requests more than a page shows: marks, one behind the other."""
+    adds = ({"request": nordmark.new(f"many request {n}"), "identity": nordmark.new(f"many {n}"), "x": 500000001 + n * 20000, "text": f"mark {n}"} for n in range(SHOWN + 10))
+    head = "request,at,command,package,identity,other,kind,zoom,column,row,last_column,last_row,x,y,code,ticket,text,data\n"
+    rows = (f"{a['request']},2026-03-02T09:00:00.000Z,add,{nordmark.ARCHIVE},{a['identity']},,row,,,,,,{a['x']},5915000000,1,,{a['text']},\n" for a in adds)
+    return (head + "".join(rows)).encode()
+
+
+def many_world():
+    return reference.rehearse(nordmark.ARCHIVE, nordmark.FRAME, many_requests()).world
 
 
 def odd_world():
@@ -83,6 +96,8 @@ def main():
         return write(words[1], page_of(odd_world(), odd_names(), reference.reply_text))
     if words[:1] == ["--odd-map"] and len(words) == 2:
         return write(words[1], drawing_of(odd_world(), odd_names()))
+    if words[:1] == ["--many"] and len(words) == 2:
+        return write(words[1], page_of(many_world(), names(), reference.reply_text))
     if words[:1] == ["--middle"] and len(words) == 2:
         return write(words[1], page_of(world_of(58), names(), reference.reply_text))
     if words[:1] == ["--loan"] and len(words) == 2:

@@ -317,7 +317,7 @@ class Page:
         hashed = "".join(raw(self.json_of(r)) + "\n" for r in self.shown())
         return ('<section id="ledger" aria-labelledby="hl">\n<h2 id="hl">Ledger</h2>\n'
                 "<p>Each accepted request left one receipt. A number is an anchor: <code>#r1</code> behind the address of this page leads to the first.</p>\n"
-                f'{table("led cards", f"The newest receipts, at most {SHOWN}, in order.", head, rows)}'
+                f'{table("led cards", f"The newest receipts, at most {SHOWN}, in order. <code>sheetdesk log FOLDER</code> lists all.", head, rows)}'
                 f'<details class="raw">\n<summary>The receipts as they are hashed</summary>\n<pre>\n{hashed}</pre>\n</details>\n</section>\n')
 
     def account_row(self, word, receipts):

@@ -464,7 +464,7 @@ pub(crate) const FILES: &[Entry] = &[
             Value(
                 "zoom",
                 "ZOOM",
-                "The one zoom that is drawn, as 2; else all up to 10,000 places, with marks and names",
+                "The one zoom that is drawn, as 2; else all with at most 10,000 places, with marks and names",
             ),
             NAMES,
         ],

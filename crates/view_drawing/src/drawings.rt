@@ -115,7 +115,11 @@ fn put_drawing(text: &mut String, register: &Register) -> Result<(), AllocError>
 {
     let total = level_total(&register.frame);
     let height = map_height(&finest_of(&register.frame));
-    put_head(text, register, whole_height(height, package_count(register)))?;
+    put_head(
+        text,
+        register,
+        whole_height(height, package_count(register)),
+    )?;
     put_defs(text, register)?;
     put_map(text, register, total, height)?;
     put_legend(text, register, height)?;

@@ -7,9 +7,7 @@ use sheet_types::frame::Frame;
 use std::alloc::AllocError;
 use view_report::drawing::{x_share, y_share};
 use view_report::escaping::put_escaped;
-use view_report::pieces::{
-    pattern_of, put, put_class, put_count, put_plain_name, put_signed,
-};
+use view_report::pieces::{pattern_of, put, put_class, put_count, put_plain_name, put_signed};
 use view_report::registers::{About, Register, Thing, live_of, number_of};
 
 /// Puts where a point stands on the map.

@@ -19,9 +19,9 @@ use view_report::accounts::put_account;
 use view_report::digests::ledger_digest;
 use view_report::drawing::put_map;
 use view_report::holdings::{put_items, put_ties};
+use view_report::lists::Things;
 use view_report::patterns::put_patterns;
 use view_report::pieces::{put, put_count, put_plain_name, put_uuid};
-use view_report::lists::Things;
 use view_report::registers::{Live, Register, is_same, live_of, receipt_found};
 use view_report::style::STYLE;
 use view_report::words::{HEAD, SHAPES};
@@ -149,11 +149,12 @@ fn only(register: Register, holder: Uuid) -> Result<Register, AllocError>
     } = register;
     let mut held = things.into_vec();
     held.retain(|thing| is_same(thing.holder, holder));
+    let kept = Things::new(held)?;
     Ok(Register {
         archive,
         frame,
         packages,
-        things: Things::new(held)?,
+        things: kept,
         ties,
         receipts,
         names,

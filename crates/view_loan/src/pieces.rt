@@ -4,10 +4,10 @@ ghost use Rattle.view_loan.specs.Pieces.{keeper_or, keeper_text, tie_found, told
 
 use std::alloc::AllocError;
 use uuid::Uuid;
+use view_report::lists::Names;
 use view_report::pieces::{
     put, put_about, put_called, put_holder_class, put_name, put_short, put_uuid,
 };
-use view_report::lists::Names;
 use view_report::registers::{Register, Tie, is_same, thing_found};
 
 /// Puts a package in its colour, if it lives; it leads nowhere.

@@ -20,7 +20,7 @@ pub one_noted : {X : Type 0} (key : X → List ℕ) (places new : BTreeMap (List
 one_noted key places new xs at x within noted rest = λ id.
     ap (option_and_then (slice_get xs)) (at_key places new (key (get_or xs at x)) (Some at) noted id)
     ∙ elim (bytes_eq (key (get_or xs at x)) id) as (λ b. option_and_then (slice_get xs) (cond b (Some at) (get (slice_cmp nat_cmp) places id))
-        ≡ cond b (Some (get_or xs at x)) (entry key id (drop (at + 1) xs))) [
+    ≡ cond b (Some (get_or xs at x)) (entry key id (drop (at + 1) xs))) [
       | true ↦ slice_get-get_or xs at x within
       | false ↦ rest id
     ]

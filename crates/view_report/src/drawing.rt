@@ -11,11 +11,11 @@ use crate::escaping::put_escaped;
 use crate::levels::{
     Level, extent, inset_of, level_at, level_total, plus, scale_of, share, start, times,
 };
+use crate::lists::Names;
 use crate::pieces::{
     pattern_of, put, put_class, put_count, put_name, put_place, put_plain_name, put_signed,
     put_sums, put_swatch, put_uuid,
 };
-use crate::lists::Names;
 use crate::registers::{About, Live, Name, Register, Thing, live_of, name_of, number_of};
 use crate::words::{LEGEND_END, LEGEND_HEAD, MAP_HEAD};
 use sheet_types::frame::Frame;
@@ -276,7 +276,12 @@ pub fn put_pattern_links(
 /// # Errors
 ///
 /// Want of memory.
-pub fn put_sides(text: &mut String, layout: &Layout, by: u64, between: &str) -> Result<(), AllocError>
+pub fn put_sides(
+    text: &mut String,
+    layout: &Layout,
+    by: u64,
+    between: &str,
+) -> Result<(), AllocError>
     ensures { IfOk result (λ _. string_bytes text.new ≡ string_bytes text.old ++ sides_text layout.now by between.now) }
 {
     put_count(text, times(by, times(layout.columns, layout.width)))?;

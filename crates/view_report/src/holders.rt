@@ -4,10 +4,10 @@ ghost use Rattle.std.specs.List.{list_any};
 ghost use Rattle.view_report.specs.Holders.{cell_text, dated_text, end_text, full_name, home_if, home_of, home_row, is_merge, lent_text, package_row, sum_cells, when_text};
 
 use crate::escaping::put_moment;
+use crate::lists::Names;
 use crate::pieces::{
     put, put_called, put_count, put_holder, put_receipt, put_short, put_sums, put_swatch, put_uuid,
 };
-use crate::lists::Names;
 use crate::registers::{Live, Register, command_of, number_of, receipt_found};
 use sheet_types::receipt::{Receipt, Sums};
 use std::alloc::AllocError;

@@ -316,12 +316,7 @@ pub fn put_called(text: &mut String, names: &Names, id: Uuid) -> Result<(), Allo
 /// # Errors
 ///
 /// Want of memory.
-pub fn put_place(
-    text: &mut String,
-    zoom: i64,
-    column: i64,
-    row: i64,
-) -> Result<(), AllocError>
+pub fn put_place(text: &mut String, zoom: i64, column: i64, row: i64) -> Result<(), AllocError>
     ensures { IfOk result (λ _. string_bytes text.new ≡ string_bytes text.old ++ place_text zoom column row) }
 {
     put_signed(text, zoom)?;
