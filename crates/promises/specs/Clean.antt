@@ -49,4 +49,4 @@ module _ {S : Type 0} (g : Ghosts S) where
   pub record WhereClean (IsGiven : List S → Type 0) (seen : Seen S) (Fact : Type 0) : Type 0 where
     pub stores : List S
     pub given : IsGiven stores
-    pub so : AllClean g seen.members → HaveCleanDisks g stores → Fact
+    pub so : AllClean g seen.members → HaveCleanDisks stores → Fact
