@@ -154,9 +154,17 @@ fn export_command<'a>(alloc: Global) -> Result<Command<'a>, AllocError> {
     over_package(alloc, "export", EXPORT_ABOUT)?.arg(project.required(false))
 }
 
+/// The option that asks for JSON.
+fn json<'a>(alloc: Global) -> Arg<'a> {
+    Arg::new(alloc, "json")
+        .long("json")
+        .help("The same as one JSON array, an object a line")
+        .action(ArgAction::SetTrue)
+}
+
 /// Says what lives.
 fn status_command<'a>(alloc: Global) -> Result<Command<'a>, AllocError> {
-    over_folder(alloc, Command::new(alloc, "status"), STATUS_ABOUT)
+    over_folder(alloc, Command::new(alloc, "status"), STATUS_ABOUT)?.arg(json(alloc))
 }
 
 /// Prints the ledger.
@@ -172,7 +180,8 @@ fn log_command<'a>(alloc: Global) -> Result<Command<'a>, AllocError> {
     over_folder(alloc, Command::new(alloc, "log"), LOG_ABOUT)?
         .arg(package.required(false))?
         .arg(from.required(false))?
-        .arg(last.required(false))
+        .arg(last.required(false))?
+        .arg(json(alloc))
 }
 
 /// Prints what stands in an item, or keeps it in a file.
@@ -195,12 +204,14 @@ fn get_command<'a>(alloc: Global) -> Result<Command<'a>, AllocError> {
 
 /// Tells the way of an item.
 fn explain_command<'a>(alloc: Global) -> Result<Command<'a>, AllocError> {
-    over_folder(alloc, Command::new(alloc, "explain"), EXPLAIN_ABOUT)?.arg(word(
-        alloc,
-        "identity",
-        "IDENTITY",
-        "Identity of the item, as 00000000-0000-4000-8000-000000000001",
-    ))
+    over_folder(alloc, Command::new(alloc, "explain"), EXPLAIN_ABOUT)?
+        .arg(word(
+            alloc,
+            "identity",
+            "IDENTITY",
+            "Identity of the item, as 00000000-0000-4000-8000-000000000001",
+        ))?
+        .arg(json(alloc))
 }
 
 /// Shows a receipt.

@@ -70,8 +70,21 @@ fn naming_word(as_item: bool, as_end: bool) -> &'static str
     }
 }
 
-/// The first word of a line.
-pub(crate) fn first_word(line: &str) -> &str
+/// How a receipt names an identity: as that of an item, of an end of a link, or of both. `None` where it does not.
+pub fn named_as(receipt: &Receipt, identity: Uuid) -> Option<&'static str>
+    ensures { MatchOption result (speaks_of identity receipt.now ≡ false) (λ word. (speaks_of identity receipt.now ≡ true) × (word.now ≡ naming_word (names_identity identity receipt.now) (names_end identity receipt.now))) }
+{
+    let as_item = names_item(receipt, identity);
+    let as_end = names_end(receipt, identity);
+    if as_item || as_end {
+        Some(naming_word(as_item, as_end))
+    } else {
+        None
+    }
+}
+
+/// The first word of a line, which is the command where it is that of a receipt.
+pub fn first_word(line: &str) -> &str
     ensures { result.now ≡ first_word line.now }
 {
     match line.split_once(' ') {
@@ -81,19 +94,14 @@ pub(crate) fn first_word(line: &str) -> &str
 }
 
 /// Puts the line of a receipt that names an identity so.
-fn put_line(
-    text: &mut String,
-    receipt: &Receipt,
-    as_item: bool,
-    as_end: bool,
-) -> Result<(), AllocError>
-    ensures { IfOk result (λ _. (id : List ℕ) → names_identity id receipt.now ≡ as_item → names_end id receipt.now ≡ as_end → string_bytes text.new ≡ string_bytes text.old ++ way_line id receipt.now) }
+fn put_line(text: &mut String, receipt: &Receipt, naming: &str) -> Result<(), AllocError>
+    ensures { IfOk result (λ _. (id : List ℕ) → naming.now ≡ naming_word (names_identity id receipt.now) (names_end id receipt.now) → string_bytes text.new ≡ string_bytes text.old ++ way_line id receipt.now) }
 {
     put_number(text, 10, receipt.seq)?;
     put_left(text, 24, receipt.at.as_str())?;
     put_uuid(text, receipt.request)?;
     put_left(text, 6, first_word(receipt.line.as_str()))?;
-    put_left(text, 4, naming_word(as_item, as_end))?;
+    put_left(text, 4, naming)?;
     put_end(text, receipt.source)?;
     put_last_end(text, receipt.target)?;
     put(text, "\n")?;
@@ -104,12 +112,10 @@ fn put_line(
 fn put_if_named(text: &mut String, receipt: &Receipt, identity: Uuid) -> Result<(), AllocError>
     ensures { IfOk result (λ _. string_bytes text.new ≡ string_bytes text.old ++ way_lines identity (receipt.now ∷ [])) }
 {
-    let as_item = names_item(receipt, identity);
-    let as_end = names_end(receipt, identity);
-    if as_item || as_end {
-        put_line(text, receipt, as_item, as_end)?;
+    match named_as(receipt, identity) {
+        Some(naming) => put_line(text, receipt, naming),
+        None => Ok(()),
     }
-    Ok(())
 }
 
 /// Puts the lines of the receipts that name the identity.
@@ -152,7 +158,7 @@ fn put_place(text: &mut String, place: Option<Uuid>) -> Result<(), AllocError>
 }
 
 /// Whether a receipt names the identity.
-fn is_spoken_of(receipts: &[Receipt], identity: Uuid) -> bool
+pub fn is_spoken_of(receipts: &[Receipt], identity: Uuid) -> bool
     ensures { result ≡ list_any (speaks_of identity) receipts.now }
 {
     receipts.iter().any(|receipt| names_item(receipt, identity) || names_end(receipt, identity))
