@@ -26,6 +26,7 @@ if [ -d /dev/shm ]; then
   each page_in_memory - "$bench/page_times.py" --folder /dev/shm $((quick ? 1 : 3)) "${items[@]}"
   each folder_in_memory - "$bench/folder_times.py" --folder /dev/shm $((quick ? 1 : 5)) $((quick ? 300 : 1000)) $((quick ? 3000 : 10000))
 fi
+each growth - "$bench/growth_times.py" $((quick ? 1000 : 10000)) $((quick ? 10000 : 100000))
 each field - "$bench/field_times.py" --folder "$disk" --tiles $((quick ? 1000 : 10000)) $((quick ? 2 : 3))
 each folder - "$bench/folder_times.py" --folder "$disk" $((quick ? 1 : 3)) $((quick ? 300 : 1000)) $((quick ? 1000 : 10000))
 each folder_memory - "$bench/folder_times.py" --memory "${items[@]}"
