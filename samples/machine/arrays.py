@@ -11,7 +11,7 @@ def array_of(objects):
 
 
 def packages_of(world, sight_of):
-    """An object for each live package, by UUID. Of files that are no live package the second machine knows nothing."""
+    """An object for each live package, by UUID, and one for how many files are of none: the second machine has no files."""
     found = []
     for uuid in sorted(world.packages):
         package, ticket = world.packages[uuid], world.tickets[uuid]
@@ -19,7 +19,7 @@ def packages_of(world, sight_of):
         sums = {name: sight[name] for name in ("tiles", "media", "rows", "links", "bytes")}
         changed = world.receipts[ticket - 1].at if ticket else None
         found.append({"package": uuid, "parent": package.parent or None, "depth": package.depth, "loan": package.loan, **sums, "last_change": changed})
-    return array_of(found)
+    return array_of([*found, {"strays": 0}])
 
 
 def front_of(receipt):

@@ -1,14 +1,17 @@
 -- One object more behind those of an open array.
-use Rattle.std.proofs.Common.{◌≡◌, ◌∙◌, ℕ, List, [], ◌∷◌, ◌++◌, refl, sym, ap, subst}
-use Rattle.std.specs.Prelude.{Bool, true, filter, map, string_bytes}
-use Rattle.std.proofs.lemmas.List.{append_assoc, append-nil, map-append}
+use Rattle.std.proofs.Common.{◌≡◌, ◌∙◌, ◌+◌, ◌<◌, ℕ, List, [], ◌∷◌, ◌++◌, refl, sym, ap, subst, length, take, get_or}
+use Rattle.std.specs.Prelude.{Bool, true, false, cond, filter, map, string_bytes}
+use Rattle.std.specs.Borrow.{Bor}
+use Rattle.std.proofs.lemmas.List.{append_assoc, append-nil, map-append, take_more}
 use Rattle.std.proofs.lemmas.List.Elements.{filter-append}
 use Rattle.serde_json.specs.Data.{Data}
 use Rattle.serde_json.specs.Written.{comma_if, compact_text}
+use Rattle.sheet_types.specs.Balance.{names_identity}
 use Rattle.sheet_types.specs.declared.receipt.Receipt.{Receipt}
-use Rattle.view_text.specs.Ways.{speaks_of}
+use Rattle.view_text.specs.Ways.{names_end, naming_word, speaks_of}
 use Rattle.view_json.specs.Arrays.{IsOpen, PutsLine, has_some, lines, so_far}
-use Rattle.view_json.specs.Ways.{way_data, way_datas}
+use Rattle.view_json.specs.Ledgers.{receipt_data}
+use Rattle.view_json.specs.Ways.{naming_data, way_data, way_datas}
 use Rattle.view_json.specs.declared.arrays.Lines.{Lines}
 
 -- ---- one line more
@@ -38,18 +41,44 @@ put_more ds d object old new put is open = record {
 
 -- ---- objects of a list, one after the other
 
--- none yet
+pub open_same : (ds es : List Data) (it : Lines) → ds ≡ es → IsOpen ds it → IsOpen es it
+open_same ds es it is open = subst (λ xs. IsOpen xs it) is open
+
 pub none_yet : (ds : List Data) (it : Lines) → IsOpen ds it → IsOpen (ds ++ []) it
-none_yet ds it open = subst (λ xs. IsOpen xs it) (sym (append-nil ds)) open
+none_yet ds it open = open_same ds (ds ++ []) it (sym (append-nil ds)) open
 
--- those of a list that is told from two parts
-pub behind : (ds before more after : List Data) (it : Lines) → after ≡ before ++ more → IsOpen ((ds ++ before) ++ more) it → IsOpen (ds ++ after) it
-behind ds before more after it is open = subst (λ xs. IsOpen xs it) (append_assoc ds before more ∙ ap (λ xs. ds ++ xs) (sym is)) open
+taken : {X : Type 0} (xs : List X) (i : ℕ) (x : X) → i < length xs → x ≡ get_or xs i x → take i xs ++ x ∷ [] ≡ take (i + 1) xs
+taken xs i x within is = ap (λ z. take i xs ++ z ∷ []) is ∙ sym (take_more xs i x within)
 
-pub maps_more : {X : Type 0} (f : X → Data) (before : List X) (x : X) (after : List X) → after ≡ before ++ x ∷ [] → map f after ≡ map f before ++ f x ∷ []
-maps_more f before x after is = ap (map f) is ∙ map-append f before (x ∷ [])
+mapped : {X : Type 0} (f : X → Data) (xs : List X) (i : ℕ) (x : X) → i < length xs → x ≡ get_or xs i x → map f (take i xs) ++ f x ∷ [] ≡ map f (take (i + 1) xs)
+mapped f xs i x within is = sym (map-append f (take i xs) (x ∷ [])) ∙ ap (map f) (taken xs i x within is)
 
-pub ways_more : (id : List ℕ) (before : List Receipt) (r : Receipt) (after : List Receipt) → after ≡ before ++ r ∷ [] → way_datas id after ≡ way_datas id before ++ way_datas id (r ∷ [])
-ways_more id before r after is =
-    ap (way_datas id) is ∙ ap (map (way_data id)) (filter-append (speaks_of id) before (r ∷ []))
-    ∙ map-append (way_data id) (filter (speaks_of id) before) (filter (speaks_of id) (r ∷ []))
+pub one_more : {X : Type 0} (f : X → Data) (xs : List X) (i : ℕ) (x : X) (it : Lines) → i < length xs → x ≡ get_or xs i x → IsOpen (map f (take i xs) ++ f x ∷ []) it → IsOpen (map f (take (i + 1) xs)) it
+one_more f xs i x it within is open = open_same _ _ it (mapped f xs i x within is) open
+
+-- the same behind others
+pub one_behind : {X : Type 0} (f : X → Data) (ds : List Data) (xs : List X) (i : ℕ) (x : X) (it : Lines) → i < length xs → x ≡ get_or xs i x → IsOpen ((ds ++ map f (take i xs)) ++ f x ∷ []) it → IsOpen (ds ++ map f (take (i + 1) xs)) it
+one_behind f ds xs i x it within is open = open_same _ _ it (append_assoc ds (map f (take i xs)) (f x ∷ []) ∙ ap (λ l. ds ++ l) (mapped f xs i x within is)) open
+
+-- ---- receipts that name an identity
+
+wayed : (id : List ℕ) (xs : List Receipt) (i : ℕ) (r : Receipt) → i < length xs → r ≡ get_or xs i r → way_datas id (take i xs) ++ way_datas id (r ∷ []) ≡ way_datas id (take (i + 1) xs)
+wayed id xs i r within is =
+    sym (map-append (way_data id) (filter (speaks_of id) (take i xs)) (filter (speaks_of id) (r ∷ [])))
+    ∙ ap (map (way_data id)) (sym (filter-append (speaks_of id) (take i xs) (r ∷ [])))
+    ∙ ap (way_datas id) (taken xs i r within is)
+
+pub way_behind : (id : List ℕ) (ds : List Data) (xs : List Receipt) (i : ℕ) (r : Receipt) (it : Lines) → i < length xs → r ≡ get_or xs i r → IsOpen ((ds ++ way_datas id (take i xs)) ++ way_datas id (r ∷ [])) it → IsOpen (ds ++ way_datas id (take (i + 1) xs)) it
+way_behind id ds xs i r it within is open = open_same _ _ it (append_assoc ds (way_datas id (take i xs)) (way_datas id (r ∷ [])) ∙ ap (λ l. ds ++ l) (wayed id xs i r within is)) open
+
+pub named_alone : (id : List ℕ) (r : Receipt) (naming : List ℕ) → speaks_of id r ≡ true → naming ≡ naming_word (names_identity id r) (names_end id r) → naming_data r naming ∷ [] ≡ way_datas id (r ∷ [])
+named_alone id r naming speaks is = ap (λ w. naming_data r w ∷ []) is ∙ ap (λ b. map (way_data id) (cond b (r ∷ []) [])) (sym speaks)
+
+pub unnamed_alone : (id : List ℕ) (r : Receipt) → speaks_of id r ≡ false → way_datas id (r ∷ []) ≡ []
+unnamed_alone id r speaks = ap (λ b. map (way_data id) (cond b (r ∷ []) [])) speaks
+
+-- ---- receipts that are borrowed
+
+pub data_behind : (xs : List (Bor Receipt)) → map (λ (r : Bor Receipt). receipt_data r.now) xs ≡ map receipt_data (map (λ (r : Bor Receipt). r.now) xs)
+data_behind [] = refl
+data_behind (x ∷ xs) = ap (λ l. receipt_data x.now ∷ l) (data_behind xs)

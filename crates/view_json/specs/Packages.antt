@@ -1,5 +1,5 @@
 -- The table of packages as JSON: an object for each, by the names of its columns. Profile.
-use Rattle.std.specs.Prelude.{ℕ, zero, suc, List, [], ◌∷◌, ◌++◌, codes, map}
+use Rattle.std.specs.Prelude.{ℕ, List, [], ◌∷◌, ◌++◌, codes, map}
 use Rattle.serde_json.specs.Data.{Data, string, object, member, no_members}
 use Rattle.sheet_types.specs.Texts.{uuid_text}
 use Rattle.view_text.specs.declared.packages.PackageRow.{PackageRow}
@@ -12,14 +12,9 @@ package_data p =
     (member (codes "package") (string (uuid_text p.uuid)) (member (codes "parent") (end_data p.parent) (member (codes "rows") (count p.sums.rows)
     (member (codes "tiles") (count p.sums.tiles) no_members))))))))))
 
--- how many files are of no live package
-abbrev pub strays_object : ℕ → Data
-strays_object n = object (member (codes "strays") (count n) no_members)
-
--- the last object, where there are such
-abbrev pub strays_data : ℕ → List Data
-strays_data zero = []
-strays_data (suc n) = strays_object (suc n) ∷ []
+-- the last object: how many files are of no live package
+abbrev pub strays_data : ℕ → Data
+strays_data strays = object (member (codes "strays") (count strays) no_members)
 
 abbrev pub status_json : List PackageRow → ℕ → List ℕ
-status_json rows strays = array_text (map package_data rows ++ strays_data strays)
+status_json rows strays = array_text (map package_data rows ++ strays_data strays ∷ [])

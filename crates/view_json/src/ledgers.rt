@@ -20,6 +20,7 @@ fn receipt_value(alloc: Global, receipt: &Receipt) -> Result<Value, AllocError>
     let from = end_value(alloc, receipt.source)?;
     let to = end_value(alloc, receipt.target)?;
     let things = receipt.items.as_slice().len() as u64;
+    let what = first_word(receipt.line.as_str());
     json!(in alloc; {
         "at": receipt.at.as_str(),
         "bytes": receipt.bytes,
@@ -27,7 +28,7 @@ fn receipt_value(alloc: Global, receipt: &Receipt) -> Result<Value, AllocError>
         "receipt": receipt.seq,
         "things": things,
         "to": to,
-        "what": first_word(receipt.line.as_str())
+        "what": what
     })
 }
 
@@ -36,7 +37,8 @@ fn receipt_text(alloc: Global, receipt: &Receipt) -> Result<String, AllocError>
     ensures { IfOk result (λ text. string_bytes text ≡ compact_text (receipt_data receipt.now)) }
 {
     let value = receipt_value(alloc, receipt)?;
-    value.to_string(alloc)
+    let text = value.to_string(alloc)?;
+    Ok(text)
 }
 
 /// Puts the object of a receipt.
@@ -73,5 +75,6 @@ pub fn excerpt_json(
     let asked = asked_of(alloc, ledger, excerpt)?;
     let mut lines = opened(alloc)?;
     put_receipts(alloc, &mut lines, asked.as_slice())?;
-    closed(lines)
+    let text = closed(lines)?;
+    Ok(text)
 }

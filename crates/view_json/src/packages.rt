@@ -4,7 +4,7 @@ ghost use Rattle.serde_json.specs.Data.{Data};
 ghost use Rattle.serde_json.specs.View.{view};
 ghost use Rattle.serde_json.specs.Written.{compact_text};
 ghost use Rattle.view_json.specs.Arrays.{IsOpen};
-ghost use Rattle.view_json.specs.Packages.{package_data, status_json, strays_data, strays_object};
+ghost use Rattle.view_json.specs.Packages.{package_data, status_json, strays_data};
 
 use crate::arrays::{Lines, closed, end_value, opened, put_object, text_value};
 use serde_json::{Value, json};
@@ -40,7 +40,8 @@ fn package_text(alloc: Global, row: &PackageRow) -> Result<String, AllocError>
     ensures { IfOk result (λ text. string_bytes text ≡ compact_text (package_data row.now)) }
 {
     let value = package_value(alloc, row)?;
-    value.to_string(alloc)
+    let text = value.to_string(alloc)?;
+    Ok(text)
 }
 
 /// Puts the object of a package.
@@ -52,26 +53,31 @@ fn put_package(alloc: Global, lines: &mut Lines, row: &PackageRow) -> Result<(),
     Ok(())
 }
 
-/// The text of the object that says how many files are of no live package.
-fn strays_text(alloc: Global, strays: u64) -> Result<String, AllocError>
-    ensures { IfOk result (λ text. string_bytes text ≡ compact_text (strays_object strays)) }
+/// The JSON of how many files are of no live package.
+fn strays_value(alloc: Global, strays: u64) -> Result<Value, AllocError>
+    ensures { IfOk result (λ value. view value ≡ strays_data strays) }
 {
-    let value = json!(in alloc; {"strays": strays})?;
+    json!(in alloc; {"strays": strays})
+}
+
+/// Its text.
+fn strays_text(alloc: Global, strays: u64) -> Result<String, AllocError>
+    ensures { IfOk result (λ text. string_bytes text ≡ compact_text (strays_data strays)) }
+{
+    let value = strays_value(alloc, strays)?;
     value.to_string(alloc)
 }
 
-/// Puts that object, or nothing where there is none.
+/// Puts that object.
 fn put_strays(alloc: Global, lines: &mut Lines, strays: u64) -> Result<(), AllocError>
-    ensures { IfOk result (λ _. (ds : List Data) → IsOpen ds lines.old → IsOpen (ds ++ strays_data strays) lines.new) }
+    ensures { IfOk result (λ _. (ds : List Data) → IsOpen ds lines.old → IsOpen (ds ++ strays_data strays ∷ []) lines.new) }
 {
-    if strays > 0 {
-        let text = strays_text(alloc, strays)?;
-        put_object(lines, text.as_str())?;
-    }
+    let text = strays_text(alloc, strays)?;
+    put_object(lines, text.as_str())?;
     Ok(())
 }
 
-/// An object for each package, in their order, as one array; and a last object that says how many files are of no live package, where there are such.
+/// An object for each package, in their order, and a last one that says how many files are of no live package, as one array.
 ///
 /// # Errors
 ///
@@ -84,5 +90,6 @@ pub fn status_json(alloc: Global, rows: &[PackageRow], strays: u64) -> Result<St
         put_package(alloc, &mut lines, row)?;
     }
     put_strays(alloc, &mut lines, strays)?;
-    closed(lines)
+    let text = closed(lines)?;
+    Ok(text)
 }

@@ -23,6 +23,7 @@ fn naming_value(alloc: Global, receipt: &Receipt, naming: &str) -> Result<Value,
     let request = receipt.request.hyphenated().encode_lower(&mut letters);
     let from = end_value(alloc, receipt.source)?;
     let to = end_value(alloc, receipt.target)?;
+    let what = first_word(receipt.line.as_str());
     json!(in alloc; {
         "as": naming,
         "at": receipt.at.as_str(),
@@ -30,7 +31,7 @@ fn naming_value(alloc: Global, receipt: &Receipt, naming: &str) -> Result<Value,
         "receipt": receipt.seq,
         "request": request,
         "to": to,
-        "what": first_word(receipt.line.as_str())
+        "what": what
     })
 }
 
@@ -39,7 +40,22 @@ fn naming_text(alloc: Global, receipt: &Receipt, naming: &str) -> Result<String,
     ensures { IfOk result (λ text. string_bytes text ≡ compact_text (naming_data receipt.now naming.now)) }
 {
     let value = naming_value(alloc, receipt, naming)?;
-    value.to_string(alloc)
+    let text = value.to_string(alloc)?;
+    Ok(text)
+}
+
+/// Puts that object.
+fn put_named(
+    alloc: Global,
+    lines: &mut Lines,
+    receipt: &Receipt,
+    naming: &str,
+) -> Result<(), AllocError>
+    ensures { IfOk result (λ _. (ds : List Data) → IsOpen ds lines.old → IsOpen (ds ++ naming_data receipt.now naming.now ∷ []) lines.new) }
+{
+    let text = naming_text(alloc, receipt, naming)?;
+    put_object(lines, text.as_str())?;
+    Ok(())
 }
 
 /// Puts the object of a receipt, if it names the identity.
@@ -51,11 +67,13 @@ fn put_if_named(
 ) -> Result<(), AllocError>
     ensures { IfOk result (λ _. (ds : List Data) → IsOpen ds lines.old → IsOpen (ds ++ way_datas identity (receipt.now ∷ [])) lines.new) }
 {
-    if let Some(naming) = named_as(receipt, identity) {
-        let text = naming_text(alloc, receipt, naming)?;
-        put_object(lines, text.as_str())?;
+    match named_as(receipt, identity) {
+        Some(naming) => {
+            put_named(alloc, lines, receipt, naming)?;
+            Ok(())
+        }
+        None => Ok(()),
     }
-    Ok(())
 }
 
 /// Puts the objects of the receipts that name the identity.
@@ -73,13 +91,21 @@ fn put_receipts(
     Ok(())
 }
 
-/// The text of the object that says where an item stands.
+/// The JSON of where an item stands.
+fn place_value(alloc: Global, place: Option<Uuid>) -> Result<Value, AllocError>
+    ensures { IfOk result (λ value. view value ≡ place_data place) }
+{
+    let now = end_value(alloc, place)?;
+    json!(in alloc; {"now": now})
+}
+
+/// Its text.
 fn place_text(alloc: Global, place: Option<Uuid>) -> Result<String, AllocError>
     ensures { IfOk result (λ text. string_bytes text ≡ compact_text (place_data place)) }
 {
-    let now = end_value(alloc, place)?;
-    let value = json!(in alloc; {"now": now})?;
-    value.to_string(alloc)
+    let value = place_value(alloc, place)?;
+    let text = value.to_string(alloc)?;
+    Ok(text)
 }
 
 /// Puts that object.
@@ -89,6 +115,17 @@ fn put_place(alloc: Global, lines: &mut Lines, place: Option<Uuid>) -> Result<()
     let text = place_text(alloc, place)?;
     put_object(lines, text.as_str())?;
     Ok(())
+}
+
+/// An object for each receipt that names the identity, in their order, and a last one for where the item stands, as one array.
+fn way_array(alloc: Global, receipts: &[Receipt], identity: Uuid) -> Result<String, AllocError>
+    ensures { IfOk result (λ text. string_bytes text ≡ way_json identity receipts.now) }
+{
+    let mut lines = opened(alloc)?;
+    put_receipts(alloc, &mut lines, receipts, identity)?;
+    put_place(alloc, &mut lines, place_by(receipts, identity))?;
+    let text = closed(lines)?;
+    Ok(text)
 }
 
 /// The way of an item by receipts in the order of their numbers: an object for each that names its identity, and a last one for where it stands now, as one array. `None` where no receipt names it.
@@ -106,9 +143,6 @@ pub fn way_json(
     if !is_spoken_of(receipts, identity) {
         return Ok(None);
     }
-    let mut lines = opened(alloc)?;
-    put_receipts(alloc, &mut lines, receipts, identity)?;
-    put_place(alloc, &mut lines, place_by(receipts, identity))?;
-    let text = closed(lines)?;
+    let text = way_array(alloc, receipts, identity)?;
     Ok(Some(text))
 }
