@@ -1,5 +1,5 @@
 //! The ledger as a table: a line for each receipt that is asked for.
-ghost use Rattle.std.specs.Prelude.{◌≡◌, ◌≤◌, ◌++◌, IfOk, filter, flat_map, map, string_bytes};
+ghost use Rattle.std.specs.Prelude.{◌≡◌, ◌≤◌, ◌++◌, IfOk, drop, filter, flat_map, length, map, string_bytes};
 ghost use Rattle.sheet_types.specs.Texts.{uuid_text};
 ghost use Rattle.command_verbs.specs.Names.{begins};
 ghost use Rattle.command_verbs.specs.Verbs.{text_of};
@@ -109,6 +109,20 @@ fn passed(last: Option<usize>, count: usize) -> usize
     }
 }
 
+/// The last so many of some receipts.
+fn last_among<'r>(
+    alloc: Global,
+    found: &[&'r Receipt],
+    last: Option<usize>,
+) -> Result<Vec<&'r Receipt>, AllocError>
+    ensures { IfOk result (λ asked. asked.items ≡ drop (passed last (length found.now)) found.now) }
+{
+    let start = passed(last, found.len());
+    let mut asked = Vec::new(alloc);
+    asked.extend_from_slice(&found[start..])?;
+    Ok(asked)
+}
+
 /// The receipts of a ledger that are asked for, in their order.
 ///
 /// # Errors
@@ -122,9 +136,7 @@ pub fn asked_of<'r>(
     ensures { IfOk result (λ asked. map (λ r. r.now) asked.items ≡ asked_of receipts.now excerpt.now) }
 {
     let found = asked_among(alloc, receipts, excerpt)?;
-    let start = passed(excerpt.last, found.len());
-    let mut asked = Vec::new(alloc);
-    asked.extend_from_slice(&found[start..])?;
+    let asked = last_among(alloc, found.as_slice(), excerpt.last)?;
     Ok(asked)
 }
 

@@ -76,11 +76,10 @@ pub fn named_as(receipt: &Receipt, identity: Uuid) -> Option<&'static str>
 {
     let as_item = names_item(receipt, identity);
     let as_end = names_end(receipt, identity);
-    if as_item || as_end {
-        Some(naming_word(as_item, as_end))
-    } else {
-        None
+    if !as_item && !as_end {
+        return None;
     }
+    Some(naming_word(as_item, as_end))
 }
 
 /// The first word of a line, which is the command where it is that of a receipt.
@@ -94,14 +93,19 @@ pub fn first_word(line: &str) -> &str
 }
 
 /// Puts the line of a receipt that names an identity so.
-fn put_line(text: &mut String, receipt: &Receipt, naming: &str) -> Result<(), AllocError>
-    ensures { IfOk result (λ _. (id : List ℕ) → naming.now ≡ naming_word (names_identity id receipt.now) (names_end id receipt.now) → string_bytes text.new ≡ string_bytes text.old ++ way_line id receipt.now) }
+fn put_line(
+    text: &mut String,
+    receipt: &Receipt,
+    as_item: bool,
+    as_end: bool,
+) -> Result<(), AllocError>
+    ensures { IfOk result (λ _. (id : List ℕ) → names_identity id receipt.now ≡ as_item → names_end id receipt.now ≡ as_end → string_bytes text.new ≡ string_bytes text.old ++ way_line id receipt.now) }
 {
     put_number(text, 10, receipt.seq)?;
     put_left(text, 24, receipt.at.as_str())?;
     put_uuid(text, receipt.request)?;
     put_left(text, 6, first_word(receipt.line.as_str()))?;
-    put_left(text, 4, naming)?;
+    put_left(text, 4, naming_word(as_item, as_end))?;
     put_end(text, receipt.source)?;
     put_last_end(text, receipt.target)?;
     put(text, "\n")?;
@@ -112,10 +116,12 @@ fn put_line(text: &mut String, receipt: &Receipt, naming: &str) -> Result<(), Al
 fn put_if_named(text: &mut String, receipt: &Receipt, identity: Uuid) -> Result<(), AllocError>
     ensures { IfOk result (λ _. string_bytes text.new ≡ string_bytes text.old ++ way_lines identity (receipt.now ∷ [])) }
 {
-    match named_as(receipt, identity) {
-        Some(naming) => put_line(text, receipt, naming),
-        None => Ok(()),
+    let as_item = names_item(receipt, identity);
+    let as_end = names_end(receipt, identity);
+    if as_item || as_end {
+        put_line(text, receipt, as_item, as_end)?;
     }
+    Ok(())
 }
 
 /// Puts the lines of the receipts that name the identity.
