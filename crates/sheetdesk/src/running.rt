@@ -177,11 +177,14 @@ fn asked_form(given: &ArgMatches<'_>) -> Form {
 fn asked_look<'m>(name: &str, given: &ArgMatches<'m>) -> Option<AskedLook<'m>> {
     match name {
         "status" => Some(AskedLook::Status(asked_form(given))),
-        "log" => Some(AskedLook::Log(asked_form(given), LogWords {
-            package: given.get_str("package"),
-            from: given.get_str("from"),
-            last: given.get_str("last"),
-        })),
+        "log" => Some(AskedLook::Log(
+            asked_form(given),
+            LogWords {
+                package: given.get_str("package"),
+                from: given.get_str("from"),
+                last: given.get_str("last"),
+            },
+        )),
         "get" => Some(AskedLook::Get(text_of(given, "identity"))),
         "explain" => Some(AskedLook::Explain(asked_form(given), text_of(given, "identity"))),
         "receipt" => Some(AskedLook::Receipt(text_of(given, "request"))),
