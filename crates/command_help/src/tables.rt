@@ -62,9 +62,6 @@ const NAMES: Word = Value(
     "What people call packages and sheets, as CSV: uuid,name; else FOLDER/names.csv, if it is there",
 );
 
-/// Another form of a table.
-const JSON: Word = Flag("json", "Print one JSON array, an object a line");
-
 /// What `put` adds.
 const PUT_KINDS: &[Verb] = &[
     Verb {
