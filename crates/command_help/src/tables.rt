@@ -148,8 +148,8 @@ const SHELLS: &[Verb] = &[Verb {
     words: &[],
 }];
 
-/// The verbs for people, and what makes a folder.
-pub(crate) const VERBS: &[Entry] = &[
+/// What makes an archive, and fills it.
+pub(crate) const MAKING: &[Entry] = &[
     One(Verb {
         name: "init",
         about: "Makes a new archive in a folder that holds no packages",
@@ -178,6 +178,10 @@ pub(crate) const VERBS: &[Entry] = &[
         },
         PUT_KINDS,
     ),
+];
+
+/// What lends, and brings home.
+pub(crate) const LENDING: &[Entry] = &[
     One(Verb {
         name: "lend",
         about: "Lends the sheets of an area as a new package, with all that belongs to them",
@@ -227,6 +231,10 @@ pub(crate) const VERBS: &[Entry] = &[
             Place("loan", "LOAN", "The loan, as c3f1"),
         ],
     }),
+];
+
+/// What links, and takes away.
+pub(crate) const LINKING: &[Entry] = &[
     One(Verb {
         name: "join",
         about: "Links two items; their kinds tell how",
@@ -417,6 +425,10 @@ pub(crate) const FILES: &[Entry] = &[
             ),
         ],
     }),
+];
+
+/// What brings an edited file home.
+pub(crate) const FIELD: &[Entry] = &[
     One(Verb {
         name: "changes",
         about: "Prints the list of requests that makes a package hold what an edited file holds",
@@ -455,6 +467,10 @@ pub(crate) const FILES: &[Entry] = &[
             ),
         ],
     }),
+];
+
+/// What draws a register.
+pub(crate) const PICTURES: &[Entry] = &[
     One(Verb {
         name: "map",
         about: "Prints a drawing of who holds which sheets, as SVG",
