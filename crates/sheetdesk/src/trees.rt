@@ -17,15 +17,15 @@ use store_folder::listing::folder_bytes;
 
 /// The files of a tree, and how many of how many were read.
 #[derive(Drop)]
-struct Tree<'t> {
-    rt: &'t HostRuntime,
+struct Tree<'r, 't> {
+    rt: &'r HostRuntime,
     directory: &'t str,
-    teller: Onlooker<'t>,
+    teller: Onlooker<'r>,
     done: u64,
     all: u64,
 }
 
-impl<'t> Tree<'t> {
+impl<'r, 't> Tree<'r, 't> {
     /// Tells how far it is.
     fn tell(&mut self) {
         self.teller.tell(self.done, self.all);
@@ -40,7 +40,7 @@ impl<'t> Tree<'t> {
     }
 }
 
-impl<'t> Sheets for Tree<'t> {
+impl<'r, 't> Sheets for Tree<'r, 't> {
     fn bytes_of(&mut self, place: &Place) -> Option<Vec<u8>> {
         self.tell();
         match self.read(place) {
