@@ -123,10 +123,12 @@ class Page:
     def __init__(self, world, names, json_of):
         self.world, self.names, self.json_of = world, names, json_of
         self.packages = sorted(world.packages.values(), key=lambda package: package.loan)
+        self.splits = [0] + [r.seq for r in world.receipts if r.line.startswith("split ")]
         self.hidden = max(0, len(world.receipts) - SHOWN)
 
     def number(self, uuid):
-        return self.packages.index(self.world.packages[uuid])
+        """How many splits there were up to the one that made a loan: the loans that came home since count too."""
+        return self.splits.index(self.world.packages[uuid].loan)
 
     def colour(self, uuid):
         n = self.number(uuid)

@@ -6,7 +6,6 @@ use Rattle.view_map.specs.declared.layout.Layout.{Layout}
 use Rattle.view_report.specs.Levels.{level_total, plus, share, times}
 use Rattle.view_report.specs.Patterns.{pattern_row}
 use Rattle.view_report.specs.Pieces.{plain_name}
-use Rattle.view_report.specs.Registers.{number_of}
 use Rattle.view_report.specs.declared.words.TheConstants.{SHAPES}
 use Rattle.view_report.specs.declared.registers.Register.{Register}
 use Rattle.view_drawing.specs.Legends.{holder_row}
@@ -30,7 +29,7 @@ head_text r whole =
 
 -- the style, a pattern a holder, and the shapes of marks
 abbrev pub defs_text : Register → List ℕ
-defs_text r = STYLE.now ++ (flat_map (λ p. pattern_row (number_of r.packages.items p.loan)) r.packages.items ++ SHAPES.now)
+defs_text r = STYLE.now ++ (flat_map (λ p. pattern_row p.number) r.packages.items ++ SHAPES.now)
 
 -- so many zooms, the names of the first, and the marks
 abbrev pub map_text : Register → ℕ → ℕ → List ℕ

@@ -2,7 +2,6 @@
 use Rattle.std.specs.Prelude.{ℕ, List, ◌++◌, codes, decimal}
 use Rattle.view_report.specs.Levels.{times}
 use Rattle.view_report.specs.Pieces.{class_text, pattern_of, plain_name, word_of}
-use Rattle.view_report.specs.Registers.{number_of}
 use Rattle.view_report.specs.declared.registers.Live.{Live}
 use Rattle.view_report.specs.declared.registers.Register.{Register}
 
@@ -23,4 +22,4 @@ abbrev pub row_end : Register → Live → List ℕ
 row_end r p = plain_name r.names p.uuid ++ (amounts_text p.sums.tiles p.sums.rows ++ codes "</text></g>\n")
 
 unfoldable pub holder_row : Register → Live → List ℕ
-holder_row r p = row_begin (number_of r.packages.items p.loan) ++ row_end r p
+holder_row r p = row_begin p.number ++ row_end r p

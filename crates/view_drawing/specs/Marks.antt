@@ -7,7 +7,7 @@ use Rattle.view_drawing.specs.Names.{place_text}
 use Rattle.view_report.specs.Escaping.{escaped}
 use Rattle.view_report.specs.Levels.{share}
 use Rattle.view_report.specs.Pieces.{class_text, pattern_of, plain_name}
-use Rattle.view_report.specs.Registers.{live_of, number_of}
+use Rattle.view_report.specs.Registers.{live_of}
 use Rattle.view_report.specs.declared.registers.About.{About}
 use Rattle.view_report.specs.declared.registers.About.TheVariants.{Sheet, Medium, Mark}
 use Rattle.view_report.specs.declared.registers.Register.{Register}
@@ -39,4 +39,4 @@ mark_of r t n (Medium content_type) = []
 
 -- an item, where it is a mark
 abbrev pub mark_if : Register → Thing → List ℕ
-mark_if r t = option_map_or (λ p. mark_of r t (number_of r.packages.items p.loan) t.about) (live_of r.packages.items t.holder) []
+mark_if r t = option_map_or (λ p. mark_of r t p.number t.about) (live_of r.packages.items t.holder) []

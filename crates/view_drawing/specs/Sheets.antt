@@ -5,7 +5,7 @@ use Rattle.std.specs.Ordering.{int_eq}
 use Rattle.view_report.specs.Drawing.{also_named, pattern_link, sheet_box, sides_text}
 use Rattle.view_report.specs.Levels.{level_at}
 use Rattle.view_report.specs.Pieces.{place_text, plain_name}
-use Rattle.view_report.specs.Registers.{live_of, number_of}
+use Rattle.view_report.specs.Registers.{live_of}
 use Rattle.view_report.specs.declared.levels.Level.{Level}
 use Rattle.view_report.specs.declared.registers.About.{About}
 use Rattle.view_report.specs.declared.registers.About.TheVariants.{Sheet, Medium, Mark}
@@ -20,7 +20,7 @@ sheet_title names t zoom column row =
 
 -- a sheet of a package, and of one that lives
 abbrev pub sheet_of : Register → Level → Thing → ℤ → ℤ → ℤ → Live → List ℕ
-sheet_of r l t zoom column row p = sheet_box l p (number_of r.packages.items p.loan) column row ++ sheet_title r.names t zoom column row
+sheet_of r l t zoom column row p = sheet_box l p p.number column row ++ sheet_title r.names t zoom column row
 
 abbrev pub sheet_text : Register → Level → Thing → ℤ → ℤ → ℤ → List ℕ
 sheet_text r l t zoom column row = option_map_or (sheet_of r l t zoom column row) (live_of r.packages.items t.holder) []
@@ -43,7 +43,7 @@ unfoldable pub level_text : Register → Level → List ℕ
 level_text r l =
     codes "<svg class=\"l" ++ (decimal l.index ++ (codes "\" viewBox=\"0 0 " ++ (sides_text l.layout 100 (codes " ")
     ++ (codes "\" preserveAspectRatio=\"none\">\n<defs>\n"
-    ++ (flat_map (λ p. pattern_link l (number_of r.packages.items p.loan)) r.packages.items ++ (codes "</defs>\n"
+    ++ (flat_map (λ p. pattern_link l p.number) r.packages.items ++ (codes "</defs>\n"
     ++ (flat_map (sheet_if r l) r.things ++ codes "</svg>\n")))))))
 
 abbrev pub level_if : Register → ℕ → ℕ → List ℕ

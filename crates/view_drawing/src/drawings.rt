@@ -71,7 +71,7 @@ fn put_defs(text: &mut String, register: &Register) -> Result<(), AllocError>
     ensures { IfOk result (λ _. string_bytes text.new ≡ string_bytes text.old ++ defs_text register.now) }
 {
     put(text, STYLE)?;
-    put_patterns(text, &register.packages, &register.packages)?;
+    put_patterns(text, &register.packages)?;
     put(text, SHAPES)?;
     Ok(())
 }

@@ -5,7 +5,7 @@ ghost use Rattle.view_drawing.specs.Legends.{amounts_text, holder_row, row_begin
 use std::alloc::AllocError;
 use view_report::levels::times;
 use view_report::pieces::{pattern_of, put, put_class, put_count, put_plain_name, word_of};
-use view_report::registers::{Live, Register, number_of};
+use view_report::registers::{Live, Register};
 
 /// Puts the colour, pattern and shape of the holder of this number, in the row of that number.
 fn put_begin(text: &mut String, number: usize) -> Result<(), AllocError>
@@ -51,7 +51,7 @@ fn put_end(text: &mut String, register: &Register, live: &Live) -> Result<(), Al
 fn put_row(text: &mut String, register: &Register, live: &Live) -> Result<(), AllocError>
     ensures { IfOk result (λ _. string_bytes text.new ≡ string_bytes text.old ++ holder_row register.now live.now) }
 {
-    put_begin(text, number_of(&register.packages, live.loan))?;
+    put_begin(text, live.number)?;
     put_end(text, register, live)?;
     Ok(())
 }

@@ -8,7 +8,7 @@ use std::alloc::AllocError;
 use view_report::drawing::{x_share, y_share};
 use view_report::escaping::put_escaped;
 use view_report::pieces::{pattern_of, put, put_class, put_count, put_plain_name, put_signed};
-use view_report::registers::{About, Register, Thing, live_of, number_of};
+use view_report::registers::{About, Register, Thing, live_of};
 
 /// Puts where a point stands on the map.
 fn put_mark_place(text: &mut String, frame: &Frame, x: i64, y: i64) -> Result<(), AllocError>
@@ -106,12 +106,7 @@ fn put_mark_if(text: &mut String, register: &Register, thing: &Thing) -> Result<
     ensures { IfOk result (λ _. string_bytes text.new ≡ string_bytes text.old ++ mark_if register.now thing.now) }
 {
     match live_of(&register.packages, thing.holder) {
-        Some(live) => put_mark_of(
-            text,
-            register,
-            thing,
-            number_of(&register.packages, live.loan),
-        ),
+        Some(live) => put_mark_of(text, register, thing, live.number),
         None => Ok(()),
     }
 }

@@ -8,7 +8,7 @@ use view_report::drawing::{put_also_named, put_box, put_pattern_links, put_sides
 use view_report::levels::{Level, level_at};
 use view_report::lists::Names;
 use view_report::pieces::{put, put_count, put_place, put_plain_name};
-use view_report::registers::{About, Live, Register, Thing, live_of, number_of};
+use view_report::registers::{About, Live, Register, Thing, live_of};
 
 /// Puts what is read where one points at a sheet.
 fn put_title(
@@ -42,7 +42,7 @@ fn put_sheet_of(
 ) -> Result<(), AllocError>
     ensures { IfOk result (λ _. string_bytes text.new ≡ string_bytes text.old ++ sheet_of register.now level.now thing.now zoom column row live.now) }
 {
-    let number = number_of(&register.packages, live.loan);
+    let number = live.number;
     put_box(text, level, live, number, column, row)?;
     put_title(text, &register.names, thing, zoom, column, row)?;
     Ok(())
@@ -126,7 +126,7 @@ fn put_level(text: &mut String, register: &Register, level: &Level) -> Result<()
     put(text, "\" viewBox=\"0 0 ")?;
     put_sides(text, &level.layout, 100, " ")?;
     put(text, "\" preserveAspectRatio=\"none\">\n<defs>\n")?;
-    put_pattern_links(text, &register.packages, level, &register.packages)?;
+    put_pattern_links(text, level, &register.packages)?;
     put(text, "</defs>\n")?;
     put_sheets(text, register, level, register.things.as_slice())?;
     put(text, "</svg>\n")?;

@@ -10,7 +10,7 @@ use Rattle.view_report.specs.Holdings.{thing_if, tie_if}
 use Rattle.view_report.specs.Ledgers.{ledger_digest}
 use Rattle.view_report.specs.Patterns.{pattern_row}
 use Rattle.view_report.specs.Pieces.{plain_name}
-use Rattle.view_report.specs.Registers.{live_of, number_of, receipt_found}
+use Rattle.view_report.specs.Registers.{live_of, receipt_found}
 use Rattle.view_report.specs.declared.style.TheConstants.{STYLE}
 use Rattle.view_report.specs.declared.words.TheConstants.{HEAD, SHAPES}
 use Rattle.view_report.specs.declared.registers.Live.{Live}
@@ -29,7 +29,7 @@ head_text r p =
     HEAD.now ++ (codes "Custody of " ++ (plain_name r.names p.uuid ++ (STYLE.now ++ (BODY.now
     ++ (plain_name r.names p.uuid ++ (codes "</h1>\n<p class=\"lead\">Archive <code>" ++ (uuid_text r.archive
     ++ (codes "</code>, as of receipt " ++ (decimal (length r.receipts.items) ++ (codes ".</p>\n" ++ (NAVIGATION.now
-    ++ (flat_map (λ q. pattern_row (number_of r.packages.items q.loan)) r.packages.items ++ SHAPES.now))))))))))))
+    ++ (flat_map (λ q. pattern_row q.number) r.packages.items ++ SHAPES.now))))))))))))
 
 -- what went out by its receipt, the receipts that name it, and what it holds now
 abbrev pub lists_text : Register → Live → Receipt → List ℕ

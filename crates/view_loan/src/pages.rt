@@ -58,7 +58,7 @@ fn put_head(text: &mut String, register: &Register, live: &Live) -> Result<(), A
     put_count(text, receipt_count(register))?;
     put(text, ".</p>\n")?;
     put(text, NAVIGATION)?;
-    put_patterns(text, &register.packages, &register.packages)?;
+    put_patterns(text, &register.packages)?;
     put(text, SHAPES)?;
     Ok(())
 }

@@ -6,7 +6,7 @@ use Rattle.sheet_types.specs.declared.receipt.Receipt.{Receipt}
 use Rattle.sheet_types.specs.declared.receipt.Sums.{Sums}
 use Rattle.view_report.specs.Escaping.{moment_text}
 use Rattle.view_report.specs.Pieces.{called, holder_text, receipt_text, short_text, sums_text, swatch_text}
-use Rattle.view_report.specs.Registers.{command_of, number_of, receipt_found}
+use Rattle.view_report.specs.Registers.{command_of, receipt_found}
 use Rattle.view_report.specs.declared.registers.Live.{Live}
 use Rattle.view_report.specs.declared.registers.Name.{Name}
 use Rattle.view_report.specs.declared.registers.Register.{Register}
@@ -43,7 +43,7 @@ lent_text r p =
 
 abbrev pub package_row : Register → Live → List ℕ
 package_row r p =
-    codes "<tr id=\"p-" ++ (uuid_text p.uuid ++ (codes "\"><th scope=\"row\">" ++ (swatch_text (number_of r.packages.items p.loan)
+    codes "<tr id=\"p-" ++ (uuid_text p.uuid ++ (codes "\"><th scope=\"row\">" ++ (swatch_text p.number
     ++ (codes "<a href=\"#d-" ++ (uuid_text p.uuid ++ (codes "\">" ++ (full_name r.names p.uuid ++ (codes "</a></th>"
     ++ (sum_cells p.sums ++ lent_text r p)))))))))
 

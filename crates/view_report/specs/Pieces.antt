@@ -5,7 +5,7 @@ use Rattle.std.specs.Option.{option_map_or}
 use Rattle.hex.specs.Hex.{encode_lower}
 use Rattle.sheet_types.specs.Texts.{uuid_text}
 use Rattle.view_report.specs.Escaping.{escaped}
-use Rattle.view_report.specs.Registers.{live_of, name_of, number_of, thing_found}
+use Rattle.view_report.specs.Registers.{live_of, name_of, thing_found}
 use Rattle.view_report.specs.declared.registers.About.{About}
 use Rattle.view_report.specs.declared.registers.About.TheVariants.{Sheet, Medium, Mark}
 use Rattle.view_report.specs.declared.registers.Name.{Name}
@@ -53,7 +53,7 @@ swatch_text n =
 
 -- the class of a package: its colour while it lives
 abbrev pub holder_class : Register → List ℕ → List ℕ
-holder_class r id = option_map_or (λ p. class_text (number_of r.packages.items p.loan)) (live_of r.packages.items id) (codes "g")
+holder_class r id = option_map_or (λ p. class_text p.number) (live_of r.packages.items id) (codes "g")
 
 abbrev pub holder_text : Register → List ℕ → List ℕ
 holder_text r id =

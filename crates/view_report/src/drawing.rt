@@ -4,7 +4,6 @@ ghost use Rattle.view_map.specs.Layout.{layout_of};
 ghost use Rattle.view_map.specs.Zooms.{default_zoom};
 ghost use Rattle.view_report.specs.Levels.{extent, inset_of, plus, share, start};
 ghost use Rattle.sheet_types.specs.Matrix.{is_good_frame};
-ghost use Rattle.view_report.specs.Registers.{number_of};
 ghost use Rattle.view_report.specs.Drawing.{also_named, layer_of, legend_row, level_if, level_text, levels_text, link_text, map_of, mark_at, mark_if, mark_of, mark_place, mark_text, name_at, name_if, name_in, named_at, named_text, names_text, pattern_link, sheet_at, sheet_box, sheet_if, sheet_of, sheet_text, sheet_title, sides_text, style_text, whole_mark};
 
 use crate::escaping::put_escaped;
@@ -16,7 +15,7 @@ use crate::pieces::{
     pattern_of, put, put_class, put_count, put_name, put_place, put_plain_name, put_signed,
     put_sums, put_swatch, put_uuid,
 };
-use crate::registers::{About, Live, Name, Register, Thing, live_of, name_of, number_of};
+use crate::registers::{About, Live, Name, Register, Thing, live_of, name_of};
 use crate::words::{LEGEND_END, LEGEND_HEAD, MAP_HEAD};
 use sheet_types::frame::Frame;
 use std::alloc::AllocError;
@@ -160,7 +159,7 @@ fn put_sheet_of(
 ) -> Result<(), AllocError>
     ensures { IfOk result (λ _. string_bytes text.new ≡ string_bytes text.old ++ sheet_of register.now level.now thing.now zoom column row live.now) }
 {
-    let number = number_of(&register.packages, live.loan);
+    let number = live.number;
     put_link(text, thing.identity)?;
     put_box(text, level, live, number, column, row)?;
     put_title(text, &register.names, thing, zoom, column, row)?;
@@ -259,14 +258,13 @@ fn put_pattern_link(text: &mut String, level: &Level, number: usize) -> Result<(
 /// Want of memory.
 pub fn put_pattern_links(
     text: &mut String,
-    all: &[Live],
     level: &Level,
     packages: &[Live],
 ) -> Result<(), AllocError>
-    ensures { IfOk result (λ _. string_bytes text.new ≡ string_bytes text.old ++ flat_map (λ p. pattern_link level.now (number_of all.now p.loan)) packages.now) }
+    ensures { IfOk result (λ _. string_bytes text.new ≡ string_bytes text.old ++ flat_map (λ p. pattern_link level.now p.number) packages.now) }
 {
     for live in packages {
-        put_pattern_link(text, level, number_of(all, live.loan))?;
+        put_pattern_link(text, level, live.number)?;
     }
     Ok(())
 }
@@ -299,7 +297,7 @@ fn put_level(text: &mut String, register: &Register, level: &Level) -> Result<()
     put(text, "\" viewBox=\"0 0 ")?;
     put_sides(text, &level.layout, 100, " ")?;
     put(text, "\" preserveAspectRatio=\"none\">\n<defs>\n")?;
-    put_pattern_links(text, &register.packages, level, &register.packages)?;
+    put_pattern_links(text, level, &register.packages)?;
     put(text, "</defs>\n")?;
     put_sheets(text, register, level, register.things.as_slice())?;
     put(text, "</svg>\n")?;
@@ -572,12 +570,7 @@ fn put_mark_if(text: &mut String, register: &Register, thing: &Thing) -> Result<
     ensures { IfOk result (λ _. string_bytes text.new ≡ string_bytes text.old ++ mark_if register.now thing.now) }
 {
     match live_of(&register.packages, thing.holder) {
-        Some(live) => put_mark_of(
-            text,
-            register,
-            thing,
-            number_of(&register.packages, live.loan),
-        ),
+        Some(live) => put_mark_of(text, register, thing, live.number),
         None => Ok(()),
     }
 }
@@ -596,7 +589,7 @@ fn put_marks(text: &mut String, register: &Register, things: &[Thing]) -> Result
 fn put_legend(text: &mut String, register: &Register, live: &Live) -> Result<(), AllocError>
     ensures { IfOk result (λ _. string_bytes text.new ≡ string_bytes text.old ++ legend_row register.now live.now) }
 {
-    let number = number_of(&register.packages, live.loan);
+    let number = live.number;
     put(text, "<li>")?;
     put_swatch(text, number)?;
     put(text, "<svg class=\"sw ")?;

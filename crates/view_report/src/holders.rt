@@ -8,7 +8,7 @@ use crate::lists::Names;
 use crate::pieces::{
     put, put_called, put_count, put_holder, put_receipt, put_short, put_sums, put_swatch, put_uuid,
 };
-use crate::registers::{Live, Register, command_of, number_of, receipt_found};
+use crate::registers::{Live, Register, command_of, receipt_found};
 use sheet_types::receipt::{Receipt, Sums};
 use std::alloc::AllocError;
 use uuid::Uuid;
@@ -111,7 +111,7 @@ fn put_package(text: &mut String, register: &Register, live: &Live) -> Result<()
     put(text, "<tr id=\"p-")?;
     put_uuid(text, live.uuid)?;
     put(text, "\"><th scope=\"row\">")?;
-    put_swatch(text, number_of(&register.packages, live.loan))?;
+    put_swatch(text, live.number)?;
     put(text, "<a href=\"#d-")?;
     put_uuid(text, live.uuid)?;
     put(text, "\">")?;

@@ -7,7 +7,7 @@ ghost use Rattle.view_report.specs.Pieces.{about_text, amount_text, called, clas
 
 use crate::escaping::put_escaped;
 use crate::lists::Names;
-use crate::registers::{About, Register, Thing, live_of, name_of, number_of, thing_found};
+use crate::registers::{About, Register, Thing, live_of, name_of, thing_found};
 use itoa::Buffer;
 use sheet_types::fingerprints::spell;
 use std::alloc::AllocError;
@@ -200,7 +200,7 @@ pub fn put_holder_class(text: &mut String, register: &Register, id: Uuid) -> Res
     ensures { IfOk result (λ _. string_bytes text.new ≡ string_bytes text.old ++ holder_class register.now id) }
 {
     match live_of(&register.packages, id) {
-        Some(live) => put_class(text, number_of(&register.packages, live.loan)),
+        Some(live) => put_class(text, live.number),
         None => put(text, "g"),
     }
 }

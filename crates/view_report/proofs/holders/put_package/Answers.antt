@@ -7,7 +7,7 @@ returns c =
     onward (string_bytes c.args.text.now) _ _ c.in_ok-put.ensures (
     onward (string_bytes c.put.new.text) _ _ c.in_ok-put_uuid.ensures (
     onward (string_bytes c.put_uuid.new.text) _ _ c.in_ok-put-2.ensures (
-    onward (string_bytes c.put-2.new.text) _ _ (rw (c.number_of.ensures, c.deref.ensures.value) at c.in_ok-put_swatch.ensures) (
+    onward (string_bytes c.put-2.new.text) _ _ c.in_ok-put_swatch.ensures (
     onward (string_bytes c.put_swatch.new.text) _ _ c.in_ok-put-3.ensures (
     onward (string_bytes c.put-3.new.text) _ _ c.in_ok-put_uuid-2.ensures (
     onward (string_bytes c.put_uuid-2.new.text) _ _ c.in_ok-put-4.ensures (
