@@ -1,10 +1,12 @@
 //! Which words each command of the program has, in the order in which the help lists them.
 use crate::building::Entry::{Many, One};
-use crate::building::Word::{Flag, FlagBeside, Last, LastOr, Needed, Place, Value, ValueBeside};
+use crate::building::Word::{
+    Flag, FlagBeside, Last, LastOr, Needed, Place, PlaceUnless, Value, ValueBeside, ValueInstead,
+};
 use crate::building::{Entry, Verb, Word};
 use crate::help::{
     BRING_WORDS, COMPLETIONS_WORDS, FOLDER_WORDS, HOLDS_WORDS, REHEARSE_WORDS, SESSION_WORDS,
-    VERB_WORDS,
+    SEVERAL_WORDS, VERB_WORDS,
 };
 
 /// Where a register is.
@@ -14,7 +16,7 @@ const FOLDER: Word = Place("folder", "FOLDER", "Where the packages are, as maps"
 const PACKAGE: Word = Place(
     "package",
     "PACKAGE",
-    "Identity of the package, as a0000000-0000-4000-8000-000000000000",
+    "The package, by its UUID or the first digits of it, as a000",
 );
 
 /// The frame of a new archive.
@@ -22,13 +24,6 @@ const FRAME: Word = Needed(
     "frame",
     "FRAME",
     "Its frame, as 25832,0,0,4096,4096,256,256,0,3,1,1",
-);
-
-/// What things are called.
-const NAMES: Word = Value(
-    "names",
-    "FILE",
-    "What people call packages and sheets, as CSV: uuid,name; else FOLDER/names.csv, if it is there",
 );
 
 /// What `--log` is for.
@@ -47,8 +42,25 @@ const REQUEST: Word = Value("request", "UUID", "Identity of the request; else a 
 /// Whether a verb only shows its request.
 const DRY_RUN: Word = Flag("dry-run", "Print the request as JSON, and change nothing");
 
+/// Whether what is looked at is told to other programs.
+const JSON: Word = Flag("json", "The same as one JSON array, an object a line");
+
 /// What is made by a verb.
 const AS: Word = Value("as", "UUID", "Identity of what is made; else a new one");
+
+/// When the requests of a verb that makes several were made.
+const SEVERAL_AT: Word = Value(
+    "at",
+    "AT",
+    "Moment of the requests, as 2024-05-01T08:00:00.000Z; else that of the clock",
+);
+
+/// What people call packages and sheets.
+const NAMES: Word = Value(
+    "names",
+    "FILE",
+    "What people call packages and sheets, as CSV: uuid,name; else FOLDER/names.csv, if it is there",
+);
 
 /// What `put` adds.
 const PUT_KINDS: &[Verb] = &[
@@ -70,6 +82,20 @@ const PUT_KINDS: &[Verb] = &[
                 "file",
                 "FILE",
                 "Its bytes, as sheet.png, or - for standard input",
+            ),
+        ],
+    },
+    Verb {
+        name: "tiles",
+        about: "Adds the tiles of a tree of files ZOOM/COLUMN/ROW.png",
+        after: SEVERAL_WORDS,
+        words: &[
+            SEVERAL_AT,
+            Flag("tms", "The rows of the files run upwards, as in a TMS"),
+            Place(
+                "directory",
+                "DIRECTORY",
+                "The tree, as gdal2tiles and QGIS write it",
             ),
         ],
     },
@@ -122,8 +148,8 @@ const SHELLS: &[Verb] = &[Verb {
     words: &[],
 }];
 
-/// The commands of the program.
-pub(crate) const ENTRIES: &[Entry] = &[
+/// What makes an archive, and fills it.
+pub(crate) const MAKING: &[Entry] = &[
     One(Verb {
         name: "init",
         about: "Makes a new archive in a folder that holds no packages",
@@ -152,6 +178,10 @@ pub(crate) const ENTRIES: &[Entry] = &[
         },
         PUT_KINDS,
     ),
+];
+
+/// What lends, and brings home.
+pub(crate) const LENDING: &[Entry] = &[
     One(Verb {
         name: "lend",
         about: "Lends the sheets of an area as a new package, with all that belongs to them",
@@ -162,15 +192,29 @@ pub(crate) const ENTRIES: &[Entry] = &[
             DRY_RUN,
             AS,
             FOLDER,
-            Place(
+            PlaceUnless(
                 "first",
                 "FROM|AREA",
                 "The sheets, as 5/0-3/2: zoom, columns, rows; or before them the package that lends",
+                "box",
             ),
             Last(
                 "second",
                 "AREA",
                 "The sheets, where a package that lends is named; else the archive lends",
+            ),
+            ValueInstead(
+                "box",
+                "WEST,SOUTH,EAST,NORTH",
+                "In place of AREA: the least area that covers this box, in units of the reference system",
+                "zoom",
+                "second",
+            ),
+            ValueBeside(
+                "zoom",
+                "ZOOM",
+                "The zoom of the sheets that cover the box",
+                &["box"],
             ),
             Flag("follow", "Take along what belongs to other sheets too"),
         ],
@@ -187,6 +231,10 @@ pub(crate) const ENTRIES: &[Entry] = &[
             Place("loan", "LOAN", "The loan, as c3f1"),
         ],
     }),
+];
+
+/// What links, and takes away.
+pub(crate) const LINKING: &[Entry] = &[
     One(Verb {
         name: "join",
         about: "Links two items; their kinds tell how",
@@ -214,6 +262,28 @@ pub(crate) const ENTRIES: &[Entry] = &[
         ],
     }),
     One(Verb {
+        name: "drop",
+        about: "Deletes an item, and with --yes its links before it",
+        after: SEVERAL_WORDS,
+        words: &[
+            SEVERAL_AT,
+            Flag(
+                "yes",
+                "End the links of the item, a request each; else an item that has links stays, and they are told",
+            ),
+            Flag(
+                "dry-run",
+                "Print the requests as JSON, a line each, and change nothing",
+            ),
+            FOLDER,
+            Place("identity", "IDENTITY", "The item, as 6523"),
+        ],
+    }),
+];
+
+/// What carries out requests, and looks at a register.
+pub(crate) const LOOKS: &[Entry] = &[
+    One(Verb {
         name: "apply",
         about: "Carries out one request, as JSON on standard input",
         after: FOLDER_WORDS,
@@ -232,7 +302,7 @@ pub(crate) const ENTRIES: &[Entry] = &[
         name: "status",
         about: "Prints a table of the packages that live",
         after: FOLDER_WORDS,
-        words: &[FOLDER],
+        words: &[FOLDER, JSON],
     }),
     One(Verb {
         name: "log",
@@ -247,6 +317,7 @@ pub(crate) const ENTRIES: &[Entry] = &[
             ),
             Value("from", "SEQ", "From this number on"),
             Value("last", "N", "The last N of them"),
+            JSON,
         ],
     }),
     One(Verb {
@@ -276,8 +347,9 @@ pub(crate) const ENTRIES: &[Entry] = &[
             Place(
                 "identity",
                 "IDENTITY",
-                "Identity of the item, as 00000000-0000-4000-8000-000000000001",
+                "The item, by its identity or the first digits of it, as 6523",
             ),
+            JSON,
         ],
     }),
     One(Verb {
@@ -293,6 +365,10 @@ pub(crate) const ENTRIES: &[Entry] = &[
             ),
         ],
     }),
+];
+
+/// What other programs read, or have written.
+pub(crate) const FILES: &[Entry] = &[
     One(Verb {
         name: "manifest",
         about: "Prints what a package holds, a record for each item and link",
@@ -349,6 +425,10 @@ pub(crate) const ENTRIES: &[Entry] = &[
             ),
         ],
     }),
+];
+
+/// What brings an edited file home.
+pub(crate) const FIELD: &[Entry] = &[
     One(Verb {
         name: "changes",
         about: "Prints the list of requests that makes a package hold what an edited file holds",
@@ -360,11 +440,7 @@ pub(crate) const ENTRIES: &[Entry] = &[
                 "more",
                 "Delete nothing and end no link; files of other programs may come",
             ),
-            Value(
-                "at",
-                "AT",
-                "Moment of the requests, as 2024-05-01T08:00:00.000Z; else that of the clock",
-            ),
+            SEVERAL_AT,
             Flag(
                 "summary",
                 "Print how many requests there are, in place of the list",
@@ -382,11 +458,7 @@ pub(crate) const ENTRIES: &[Entry] = &[
                 "more",
                 "Delete nothing and end no link; files of other programs may come",
             ),
-            Value(
-                "at",
-                "AT",
-                "Moment of the requests, as 2024-05-01T08:00:00.000Z; else that of the clock",
-            ),
+            SEVERAL_AT,
             Flag("dry-run", "Print the list of requests, and change nothing"),
             FlagBeside(
                 "summary",
@@ -395,9 +467,13 @@ pub(crate) const ENTRIES: &[Entry] = &[
             ),
         ],
     }),
+];
+
+/// What draws a register.
+pub(crate) const PICTURES: &[Entry] = &[
     One(Verb {
         name: "map",
-        about: "Prints a drawing of who holds which sheets and marks, as SVG",
+        about: "Prints a drawing of who holds which sheets, as SVG",
         after: FOLDER_WORDS,
         words: &[
             FOLDER,
@@ -418,11 +494,15 @@ pub(crate) const ENTRIES: &[Entry] = &[
             Last(
                 "package",
                 "LOAN",
-                "The custody page of this loan, by its whole UUID; else the page of the register",
+                "The custody page of this loan, as c3f1; else the page of the register",
             ),
             NAMES,
         ],
     }),
+];
+
+/// What keeps a register, and the rest.
+pub(crate) const KEEPING: &[Entry] = &[
     One(Verb {
         name: "audit",
         about: "Says whether all packages and receipts agree",

@@ -1,14 +1,72 @@
 //! The command line.
 use crate::building::with_entries;
 use crate::help::{ABOUT, WORDS};
-use crate::tables::ENTRIES;
+use crate::tables::{FIELD, FILES, KEEPING, LENDING, LINKING, LOOKS, MAKING, PICTURES};
 use clap::Command;
 use std::alloc::{AllocError, Global};
+
+/// What makes an archive, and fills it. Each table is used in a function of its own, since a check goes through all that it has at once.
+fn with_making<'a>(alloc: Global, command: Command<'a>) -> Result<Command<'a>, AllocError> {
+    with_entries(alloc, command, MAKING)
+}
+
+/// What lends, and brings home.
+fn with_lending<'a>(alloc: Global, command: Command<'a>) -> Result<Command<'a>, AllocError> {
+    with_entries(alloc, command, LENDING)
+}
+
+/// What links, and takes away.
+fn with_linking<'a>(alloc: Global, command: Command<'a>) -> Result<Command<'a>, AllocError> {
+    with_entries(alloc, command, LINKING)
+}
+
+/// What carries out requests, and looks.
+fn with_looks<'a>(alloc: Global, command: Command<'a>) -> Result<Command<'a>, AllocError> {
+    with_entries(alloc, command, LOOKS)
+}
+
+/// What other programs read.
+fn with_files<'a>(alloc: Global, command: Command<'a>) -> Result<Command<'a>, AllocError> {
+    with_entries(alloc, command, FILES)
+}
+
+/// What brings an edited file home.
+fn with_field<'a>(alloc: Global, command: Command<'a>) -> Result<Command<'a>, AllocError> {
+    with_entries(alloc, command, FIELD)
+}
+
+/// What draws a register.
+fn with_pictures<'a>(alloc: Global, command: Command<'a>) -> Result<Command<'a>, AllocError> {
+    with_entries(alloc, command, PICTURES)
+}
+
+/// What keeps a register, and the rest.
+fn with_keeping<'a>(alloc: Global, command: Command<'a>) -> Result<Command<'a>, AllocError> {
+    with_entries(alloc, command, KEEPING)
+}
+
+/// The verbs for people.
+fn with_verbs<'a>(alloc: Global, command: Command<'a>) -> Result<Command<'a>, AllocError> {
+    let command = with_making(alloc, command)?;
+    let command = with_lending(alloc, command)?;
+    with_linking(alloc, command)
+}
+
+/// What files and pictures are made of a register, and what of other files comes home.
+fn with_papers<'a>(alloc: Global, command: Command<'a>) -> Result<Command<'a>, AllocError> {
+    let command = with_files(alloc, command)?;
+    let command = with_field(alloc, command)?;
+    with_pictures(alloc, command)
+}
 
 /// The command line of the program. Its words are in `tables`.
 pub fn sheetdesk<'a>(alloc: Global) -> Result<Command<'a>, AllocError> {
     let command = Command::new(alloc, "sheetdesk")
         .about(ABOUT)
-        .after_help(WORDS);
-    with_entries(alloc, command, ENTRIES)
+        .after_help(WORDS)
+        .subcommand_required(true);
+    let command = with_verbs(alloc, command)?;
+    let command = with_looks(alloc, command)?;
+    let command = with_papers(alloc, command)?;
+    with_keeping(alloc, command)
 }
