@@ -41,8 +41,8 @@ class Drawing(Page):
 
     def row(self, p):
         tiles, _, rows, _, _ = sums_of(held(p))
-        number, colour = self.number(p.uuid), self.colour(p.uuid)
-        return (f'<g transform="translate(0 {ROW * number})"><rect class="{colour}" width="28" height="14" fill="url(#w{number})"/>'
+        number, colour, before = self.number(p.uuid), self.colour(p.uuid), self.packages.index(p)
+        return (f'<g transform="translate(0 {ROW * before})"><rect class="{colour}" width="28" height="14" fill="url(#w{number})"/>'
                 f'<use class="{colour}" x="44" y="7" href="#k{self.pattern(p.uuid)}"/>'
                 f'<text x="60" y="12">{self.plain_name(p.uuid)}: {amount(tiles, "sheet", "sheets")}, {amount(rows, "mark", "marks")}</text></g>\n')
 

@@ -212,7 +212,7 @@ class Page:
                 f'fill="url(#v{level.index}-{self.number(package)})"><title>{title}</title></rect></a>\n')
 
     def level(self, level):
-        patterns = "".join(f'<pattern id="v{level.index}-{n}" href="#w{n}" patternTransform="scale({level.scale()})"/>\n' for n in range(len(self.packages)))
+        patterns = "".join(f'<pattern id="v{level.index}-{n}" href="#w{n}" patternTransform="scale({level.scale()})"/>\n' for n in (self.number(p.uuid) for p in self.packages))
         sheets = "".join(self.sheet(level, *each) for each in self.held("tile") if each[2]["zoom"] == level.zoom)
         return (f'<svg class="l l{level.index}" viewBox="0 0 {100 * level.columns * level.width} {100 * level.rows * level.height}" preserveAspectRatio="none">\n'
                 f"<defs>\n{patterns}</defs>\n{sheets}</svg>\n")

@@ -1,18 +1,28 @@
 //! The legend: a row for each live package.
 ghost use Rattle.std.specs.Prelude.{◌≡◌, ◌++◌, IfOk, flat_map, string_bytes};
-ghost use Rattle.view_drawing.specs.Legends.{amounts_text, holder_row, row_begin, row_end};
+ghost use Rattle.view_drawing.specs.Legends.{amounts_text, holder_row, rank_of, row_begin, row_end};
 
 use std::alloc::AllocError;
 use view_report::levels::times;
 use view_report::pieces::{pattern_of, put, put_class, put_count, put_plain_name, word_of};
 use view_report::registers::{Live, Register};
 
-/// Puts the colour, pattern and shape of the holder of this number, in the row of that number.
-fn put_begin(text: &mut String, number: usize) -> Result<(), AllocError>
-    ensures { IfOk result (λ _. string_bytes text.new ≡ string_bytes text.old ++ row_begin number) }
+/// How many live packages were lent before this receipt: the place of a row among the others.
+fn rank_of(packages: &[Live], loan: u64) -> usize
+    ensures { result ≡ rank_of packages.now loan }
+{
+    packages
+        .iter()
+        .filter(|package| package.loan < loan)
+        .count()
+}
+
+/// Puts the colour, pattern and shape of the holder of this number, below so many other rows.
+fn put_begin(text: &mut String, rank: usize, number: usize) -> Result<(), AllocError>
+    ensures { IfOk result (λ _. string_bytes text.new ≡ string_bytes text.old ++ row_begin rank number) }
 {
     put(text, "<g transform=\"translate(0 ")?;
-    put_count(text, times(26, number as u64))?;
+    put_count(text, times(26, rank as u64))?;
     put(text, ")\"><rect class=\"")?;
     put_class(text, number)?;
     put(text, "\" width=\"28\" height=\"14\" fill=\"url(#w")?;
@@ -51,7 +61,7 @@ fn put_end(text: &mut String, register: &Register, live: &Live) -> Result<(), Al
 fn put_row(text: &mut String, register: &Register, live: &Live) -> Result<(), AllocError>
     ensures { IfOk result (λ _. string_bytes text.new ≡ string_bytes text.old ++ holder_row register.now live.now) }
 {
-    put_begin(text, live.number)?;
+    put_begin(text, rank_of(&register.packages, live.loan), live.number)?;
     put_end(text, register, live)?;
     Ok(())
 }
