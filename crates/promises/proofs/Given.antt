@@ -14,7 +14,7 @@ use Rattle.sheet_kept_laws.specs.Laws.{Reply}
 use Rattle.world_changes.specs.Leaving.{AreClean}
 use Rattle.world_decisions.specs.Deciding.{child_asked}
 use Rattle.world_members.specs.declared.members.Member.{Member}
-use Rattle.world.specs.Asked.{AsksFor, AreStepsWith, IsRunWith, IsStepWith, UsesFor, child_returned}
+use Rattle.world.specs.Asked.{AsksFor, AreStepsWith, IsHomeBy, IsNewTo, IsRunWith, IsStepWith, UsesFor, child_returned}
 use Rattle.world.specs.Worlds.{Seen}
 use Rattle.world.proofs.Asks.{asks_weaker}
 use Rattle.promises.specs.Clean.{IsGivenBy, IsGivenByEach, IsGivenFromNew, IsRecorded, HaveCleanDisks}
@@ -90,7 +90,7 @@ module _ {S : Type 0} (g : Ghosts S) where
 
     -- of one step
     pub given_by_step : (q : Request) (old : Seen S) (reply : Reply) (new : Seen S) (s t : H) (it : IsStepWith g Asked Taken q old reply new s t) → GivenFor (IsGivenBy Asked Taken q) s t it.step.gone
-    given_by_step q old reply new s t it = given_by_uses old.members q _ _ it.step.gone s t (λ uuid home. home.0) it.uses
+    given_by_step q old reply new s t it = given_by_uses old.members q (IsNewTo g old new) (IsHomeBy g q old new it.step.gone) it.step.gone s t (λ uuid home. home.0) it.uses
 
     -- of several
     given_by_steps : (qs : List Request) (old : Seen S) (replies : List Reply) (new : Seen S) (gone : List (Held S)) (s t : H) → AreStepsWith g Asked Taken qs old replies new gone s t → GivenFor (IsGivenByEach Asked Taken qs) s t gone

@@ -16,8 +16,9 @@ use Rattle.promises.specs.declared.running.Shown.{Shown}
 use Rattle.promises.specs.declared.repeating.Repeated.{Repeated}
 use Rattle.promises.specs.declared.stopping.Stopped.{Stopped}
 
--- Of each the shelf was used between these two states.
-module _ {S : Type 0} (g : Ghosts S) {H : Type 0} (Asked : List ℕ → H → H → Type 0) (Taken : List ℕ → S → H → H → Type 0) where
+-- The shelf was used between the two states that are named last before what was answered.
+module _ {S : Type 0} (g : Ghosts S) {H : Type 0} (Asked : List ℕ → H → H → Type 0)
+    (Taken : List ℕ → S → H → H → Type 0) where
   -- 1. One world. After any list of requests the replies, and what is told of the packages, are those of the one-world
   -- machine. Its world is a register before the first request and after each one: each thing is in one package, and all
   -- is in account.
