@@ -42,9 +42,6 @@ const REQUEST: Word = Value("request", "UUID", "Identity of the request; else a 
 /// Whether a verb only shows its request.
 const DRY_RUN: Word = Flag("dry-run", "Print the request as JSON, and change nothing");
 
-/// Whether what is looked at is told to other programs.
-const JSON: Word = Flag("json", "The same as one JSON array, an object a line");
-
 /// What is made by a verb.
 const AS: Word = Value("as", "UUID", "Identity of what is made; else a new one");
 

@@ -54,7 +54,7 @@ pub(crate) fn named_look<'m>(name: &str, given: &ArgMatches<'m>) -> Option<Named
     let package = given.get_str("package").unwrap_or("");
     match name {
         "get" => Some(NamedLook::Get(identity)),
-        "explain" if is_short(identity) && !given.get_flag("json") => Some(NamedLook::Explain(identity)),
+        "explain" if is_short(identity) => Some(NamedLook::Explain(identity)),
         "manifest" if is_short(package) => Some(NamedLook::Manifest(package)),
         "export" if is_short(package) => Some(NamedLook::Export(package)),
         _ => None,
