@@ -12,8 +12,7 @@ _sheetdesk_options() {
         return|join|part) echo --at --request --dry-run ;;
         put) echo --type --tms --as --at --request --dry-run ;;
         drop) echo --yes --at --dry-run ;;
-        status|explain) echo --json ;;
-        log) echo --from --last --json ;;
+        log) echo --from --last ;;
         export) echo --qgis ;;
         holds) echo --tiles --points --geometry --code --label ;;
         changes) echo --more --at --summary ;;
