@@ -299,7 +299,7 @@ pub(crate) const LOOKS: &[Entry] = &[
         name: "status",
         about: "Prints a table of the packages that live",
         after: FOLDER_WORDS,
-        words: &[FOLDER, JSON],
+        words: &[FOLDER],
     }),
     One(Verb {
         name: "log",
@@ -314,7 +314,6 @@ pub(crate) const LOOKS: &[Entry] = &[
             ),
             Value("from", "SEQ", "From this number on"),
             Value("last", "N", "The last N of them"),
-            JSON,
         ],
     }),
     One(Verb {
@@ -346,7 +345,6 @@ pub(crate) const LOOKS: &[Entry] = &[
                 "IDENTITY",
                 "The item, by its identity or the first digits of it, as 6523",
             ),
-            JSON,
         ],
     }),
     One(Verb {
