@@ -122,7 +122,7 @@ fn arg_of<'a>(alloc: Global, word: Word) -> Result<Arg<'a>, AllocError> {
 }
 
 /// A command with its words.
-fn command_of<'a>(alloc: Global, verb: Verb) -> Result<Command<'a>, AllocError> {
+pub(crate) fn command_of<'a>(alloc: Global, verb: Verb) -> Result<Command<'a>, AllocError> {
     let mut command = Command::new(alloc, verb.name)
         .about(verb.about)
         .after_help(verb.after);
@@ -133,7 +133,7 @@ fn command_of<'a>(alloc: Global, verb: Verb) -> Result<Command<'a>, AllocError> 
 }
 
 /// A command with commands of its own.
-fn with_verbs<'a>(
+pub(crate) fn with_verbs<'a>(
     alloc: Global,
     command: Command<'a>,
     verbs: &'static [Verb],

@@ -59,8 +59,16 @@ const NAMES: Word = Value(
     "What people call packages and sheets, as CSV: uuid,name; else FOLDER/names.csv, if it is there",
 );
 
-/// What `put` adds.
-const PUT_KINDS: &[Verb] = &[
+/// Adds an item; what, its own commands say.
+pub(crate) const PUT: Verb = Verb {
+    name: "put",
+    about: "Adds a tile, a medium or a mark to a package",
+    after: VERB_WORDS,
+    words: &[FOLDER, Place("package", "PACKAGE", "The package, as c3f1")],
+};
+
+/// What `put` adds of tiles.
+pub(crate) const TILE_KINDS: &[Verb] = &[
     Verb {
         name: "tile",
         about: "Adds a tile at a place, from a file",
@@ -96,6 +104,10 @@ const PUT_KINDS: &[Verb] = &[
             ),
         ],
     },
+];
+
+/// What else it adds.
+pub(crate) const OTHER_KINDS: &[Verb] = &[
     Verb {
         name: "media",
         about: "Adds a photograph or another medium, from a file",
@@ -145,37 +157,26 @@ const SHELLS: &[Verb] = &[Verb {
     words: &[],
 }];
 
-/// What makes an archive, and fills it.
-pub(crate) const MAKING: &[Entry] = &[
-    One(Verb {
-        name: "init",
-        about: "Makes a new archive in a folder that holds no packages",
-        after: FOLDER_WORDS,
-        words: &[
-            FOLDER,
-            Value(
-                "archive",
-                "UUID",
-                "Identity of the archive, as a0000000-0000-4000-8000-000000000000; else a new one",
-            ),
-            Value(
-                "at",
-                "AT",
-                "Moment at which it is made, as 2024-05-01T08:00:00.000Z; else that of the clock",
-            ),
-            FRAME,
-        ],
-    }),
-    Many(
-        Verb {
-            name: "put",
-            about: "Adds a tile, a medium or a mark to a package",
-            after: VERB_WORDS,
-            words: &[FOLDER, Place("package", "PACKAGE", "The package, as c3f1")],
-        },
-        PUT_KINDS,
-    ),
-];
+/// What makes an archive.
+pub(crate) const MAKING: &[Entry] = &[One(Verb {
+    name: "init",
+    about: "Makes a new archive in a folder that holds no packages",
+    after: FOLDER_WORDS,
+    words: &[
+        FOLDER,
+        Value(
+            "archive",
+            "UUID",
+            "Identity of the archive, as a0000000-0000-4000-8000-000000000000; else a new one",
+        ),
+        Value(
+            "at",
+            "AT",
+            "Moment at which it is made, as 2024-05-01T08:00:00.000Z; else that of the clock",
+        ),
+        FRAME,
+    ],
+})];
 
 /// What lends, and brings home.
 pub(crate) const LENDING: &[Entry] = &[

@@ -1,13 +1,26 @@
 //! The command line.
-use crate::building::with_entries;
+use crate::building::{command_of, with_entries, with_verbs};
 use crate::help::{ABOUT, WORDS};
-use crate::tables::{FIELD, FILES, KEEPING, LENDING, LINKING, LOOKS, MAKING, PICTURES};
+use crate::tables::{
+    FIELD, FILES, KEEPING, LENDING, LINKING, LOOKS, MAKING, OTHER_KINDS, PICTURES, PUT, TILE_KINDS,
+};
 use clap::Command;
 use std::alloc::{AllocError, Global};
 
-/// What makes an archive, and fills it. Each table is used in a function of its own, since a check goes through all that it has at once.
+/// What makes an archive. Each table is used in a function of its own, since a check goes through all that it has at once.
 fn with_making<'a>(alloc: Global, command: Command<'a>) -> Result<Command<'a>, AllocError> {
     with_entries(alloc, command, MAKING)
+}
+
+/// `put` with its words, and the tiles that it adds.
+fn put_of_tiles<'a>(alloc: Global) -> Result<Command<'a>, AllocError> {
+    with_verbs(alloc, command_of(alloc, PUT)?, TILE_KINDS)
+}
+
+/// What adds an item.
+fn with_putting<'a>(alloc: Global, command: Command<'a>) -> Result<Command<'a>, AllocError> {
+    let put = with_verbs(alloc, put_of_tiles(alloc)?, OTHER_KINDS)?;
+    command.subcommand(put)
 }
 
 /// What lends, and brings home.
@@ -46,8 +59,9 @@ fn with_keeping<'a>(alloc: Global, command: Command<'a>) -> Result<Command<'a>, 
 }
 
 /// The verbs for people.
-fn with_verbs<'a>(alloc: Global, command: Command<'a>) -> Result<Command<'a>, AllocError> {
+fn with_people<'a>(alloc: Global, command: Command<'a>) -> Result<Command<'a>, AllocError> {
     let command = with_making(alloc, command)?;
+    let command = with_putting(alloc, command)?;
     let command = with_lending(alloc, command)?;
     with_linking(alloc, command)
 }
@@ -65,7 +79,7 @@ pub fn sheetdesk<'a>(alloc: Global) -> Result<Command<'a>, AllocError> {
         .about(ABOUT)
         .after_help(WORDS)
         .subcommand_required(true);
-    let command = with_verbs(alloc, command)?;
+    let command = with_people(alloc, command)?;
     let command = with_looks(alloc, command)?;
     let command = with_papers(alloc, command)?;
     with_keeping(alloc, command)
