@@ -4,12 +4,12 @@ use Rattle.std.specs.Prelude.{ℤ, pos, negsuc, ◌+◌, ◌<◌, Bool, true, fa
 use Rattle.std.specs.List.{list_any}
 use Rattle.std.specs.Ordering.{nat_cmp}
 use Rattle.std.specs.Cmp.Lexicographic.{slice_cmp}
-use Rattle.std.specs.BTreeSet as set
 use Rattle.std.specs.BTreeSet.{BTreeSet, contains}
 use Rattle.std.proofs.lemmas.Bool.{true≢false, false≢true, and_parts, and_from}
 use Rattle.std.proofs.lemmas.Int.{ints}
 use Rattle.std.proofs.lemmas.List.{drop_more}
 use Rattle.std.proofs.lemmas.Slice.Eq.{bytes_eq-Decides}
+use Rattle.sheet_types.specs.Matrix.{first_row}
 use Rattle.sheet_types.specs.declared.command.Content.{Content}
 use Rattle.sheet_types.specs.declared.command.Content.TheVariants.{Tile, Media, Row}
 use Rattle.sheet_types.specs.declared.command.Item.{Item}
@@ -17,10 +17,11 @@ use Rattle.sheet_types.specs.declared.frame.Frame.{Frame}
 use Rattle.sheet_types.proofs.Basics.{or-false}
 use Rattle.field_changes.specs.Keys.{sign}
 use Rattle.field_changes.specs.declared.held.HeldItem.{HeldItem}
-use Rattle.field_changes.proofs.Sets.{any_snoc, one_more, put_in}
+use Rattle.field_changes.proofs.Sets.{any_snoc, one_more}
 use Rattle.field_faults.specs.Heads.{is_same}
-use Rattle.field_faults.specs.Lines.{HasPlaces, is_at, is_good_at, item_lines, line_for, place_key, reason_in}
+use Rattle.field_faults.specs.Lines.{HasPlaces, is_at, is_good_at, is_other_at, is_renumbered, item_lines, line_for, place_key, reason_among, reason_in}
 use Rattle.field_faults.specs.Reasons.{reason_of}
+use Rattle.field_faults.specs.declared.reasons.Reason.TheVariants.{Renumbered, Taken, Twice}
 
 both_ways : (a b : Bool) → (a ≡ true → b ≡ true) → (b ≡ true → a ≡ true) → a ≡ b
 both_ways true b to from = sym (to refl)
@@ -63,29 +64,41 @@ same_place z c r zoom column row =
     (bytes_eq-Decides (place_key z c r) (place_key zoom column row)).1
     (ap (λ v. place_key v c r) (from_same z zoom two.0) ∙ ap (λ v. place_key zoom v r) (from_same c column two.1) ∙ ap (λ v. place_key zoom column v) (from_same r row last.1)))
 
-and-true-last : (a b : Bool) → b ≡ true → (a && b) ≡ a
-and-true-last true b e = e
-and-true-last false b e = refl
-
-and-false-last : (a b : Bool) → b ≡ false → (a && b) ≡ false
-and-false-last true b e = e
-and-false-last false b e = refl
-
 module _ (f : Frame) (h : HeldItem) where
   -- a tile that could be held is put in
-  pub noted : (z c r : ℤ) (bytes : List ℕ) → h.content ≡ Tile z c r bytes → is_none (reason_of f h.content) ≡ true → (s t : BTreeSet (List ℕ)) (k : List ℕ) → k ≡ place_key z c r → set.Updates (slice_cmp nat_cmp) s t k true
+  pub noted : (z c r : ℤ) (bytes : List ℕ) → h.content ≡ Tile z c r bytes → (s t : BTreeSet (List ℕ)) (k : List ℕ) (fits : Bool) → k ≡ place_key z c r → fits ≡ is_none (reason_of f h.content)
+      → ((q : List ℕ) → contains (slice_cmp nat_cmp) t q ≡ (contains (slice_cmp nat_cmp) s q || (bytes_eq k q && fits)))
       → (zoom column row : ℤ) → contains (slice_cmp nat_cmp) t (place_key zoom column row) ≡ (contains (slice_cmp nat_cmp) s (place_key zoom column row) || is_good_at f zoom column row h)
-  noted z c r bytes is good s t k key updates zoom column row =
-      put_in s t k updates (place_key zoom column row)
-      ∙ ap (λ b. contains (slice_cmp nat_cmp) s (place_key zoom column row) || b)
-      (ap (λ l. bytes_eq l (place_key zoom column row)) key ∙ same_place z c r zoom column row ∙ ap (is_at zoom column row) (sym is) ∙ sym (and-true-last (is_at zoom column row h.content) (is_none (reason_of f h.content)) good))
+  noted z c r bytes is s t k fits key fit step zoom column row =
+      let had = contains (slice_cmp nat_cmp) s (place_key zoom column row) in
+      step (place_key zoom column row)
+      ∙ ap (λ l. had || (bytes_eq l (place_key zoom column row) && fits)) key
+      ∙ ap (λ b. had || (b && fits)) (same_place z c r zoom column row ∙ ap (is_at zoom column row) (sym is))
+      ∙ ap (λ b. had || (is_at zoom column row h.content && b)) fit
 
   -- any other is not
-  pub not_good : is_none (reason_of f h.content) ≡ false → (b : Bool) (zoom column row : ℤ) → b ≡ (b || is_good_at f zoom column row h)
-  not_good bad b zoom column row = sym (or-false b) ∙ ap (λ v. b || v) (sym (and-false-last (is_at zoom column row h.content) (is_none (reason_of f h.content)) bad))
-
   pub no_tile : (c : Content) → h.content ≡ c → ((zoom column row : ℤ) → is_at zoom column row c ≡ false) → (b : Bool) (zoom column row : ℤ) → b ≡ (b || is_good_at f zoom column row h)
   no_tile c is other b zoom column row = sym (or-false b) ∙ ap (λ v. b || (v && is_none (reason_of f h.content))) (sym (ap (is_at zoom column row) is ∙ other zoom column row))
+
+pub where_fit : (b fits : Bool) → fits ≡ true → b ≡ (b && fits)
+where_fit b false e = absurd (false≢true e)
+where_fit false true e = refl
+where_fit true true e = refl
+
+-- ---- a reason beside those in the item
+
+module _ (f : Frame) (items : List Item) (more exported : Bool) (before : List HeldItem) (h : HeldItem) where
+  pub of_tile : (z c r : ℤ) (bytes : List ℕ) → h.content ≡ Tile z c r bytes → (twice taken : Bool) → twice ≡ list_any (is_good_at f z c r) before → taken ≡ (more && list_any (is_other_at z c r bytes) items)
+      → first_row ((twice, Twice) ∷ (taken, Taken) ∷ []) ≡ reason_among f items more exported before h h.content
+  of_tile z c r bytes is twice taken one two =
+      ap (λ b. first_row ((b, Twice) ∷ (taken, Taken) ∷ [])) one
+      ∙ ap (λ b. first_row ((list_any (is_good_at f z c r) before, Twice) ∷ (b, Taken) ∷ [])) two
+      ∙ ap (reason_among f items more exported before h) (sym is)
+
+  -- of what is no tile
+  pub of_number : (c : Content) → h.content ≡ c → (renumbered : Bool) → renumbered ≡ (exported && is_renumbered items h) → reason_among f items more exported before h c ≡ first_row ((exported && is_renumbered items h, Renumbered) ∷ [])
+      → first_row ((renumbered, Renumbered) ∷ []) ≡ reason_among f items more exported before h h.content
+  of_number c is renumbered same among = ap (λ b. first_row ((b, Renumbered) ∷ [])) same ∙ sym among ∙ ap (reason_among f items more exported before h) (sym is)
 
 -- one item more
 module _ (f : Frame) (items : List HeldItem) (i : ℕ) (h : HeldItem) (within : i < length items) (is : h ≡ get_or items i h) where

@@ -1,14 +1,15 @@
 //! The records of a file that a package cannot hold, a line each.
-ghost use Rattle.std.specs.Prelude.{◌≡◌, ◌||◌, ◌++◌, [], ℤ, List, flat_map, IfOk, IsTrue, string_bytes};
+ghost use Rattle.std.specs.Prelude.{◌≡◌, ◌&&◌, ◌||◌, ◌∷◌, ◌++◌, [], ℕ, ℤ, List, bytes_eq, flat_map, IfOk, IsTrue, string_bytes};
 ghost use Rattle.std.specs.List.{list_any};
 ghost use Rattle.std.specs.Ordering.{nat_cmp};
 ghost use Rattle.std.specs.Cmp.Lexicographic.{slice_cmp};
 ghost use Rattle.std.specs.BTreeSet.{contains};
-ghost use Rattle.sheet_types.specs.Matrix.{is_good_frame};
+ghost use Rattle.sheet_types.specs.Matrix.{first_row, is_good_frame};
 ghost use Rattle.field_changes.specs.Keys.{sign};
 ghost use Rattle.field_changes.specs.declared.held.HeldItem.{HeldItem as ModelHeld};
 ghost use Rattle.sheet_types.specs.declared.command.Item.{Item as ModelItem};
 ghost use Rattle.sheet_types.specs.Texts.{kind_word, kind_of};
+ghost use Rattle.field_faults.specs.declared.reasons.Reason.TheVariants.{Renumbered, Taken, Twice};
 ghost use Rattle.field_faults.specs.Lines.{bad_line, fault_lines, ids_of, is_at, is_good_at, is_other_at, is_renumbered, item_lines, line_for, place_key, reason_among, reason_in, record_line, was_exported, at_number, AreNumbered, HasPlaces, IsKnownIn};
 
 use crate::reasons::{Reason, reason_of};
@@ -68,6 +69,21 @@ fn sign(number: i64) -> u64
     if number < 0 { 1 } else { 0 }
 }
 
+/// Notes a key, where what has it fits.
+fn note_key(
+    places: &mut BTreeSet<[u64; 6]>,
+    key: [u64; 6],
+    fits: bool,
+) -> Result<(), OutOfMemory>
+    ensures { IfOk result (λ _. (q : List ℕ) → contains (slice_cmp nat_cmp) places.new q ≡ (contains (slice_cmp nat_cmp) places.old q || (bytes_eq key q && fits))) }
+{
+    if !fits {
+        return Ok(());
+    }
+    places.insert(key)?;
+    Ok(())
+}
+
 /// Notes the place of an item, where it is a tile that could be held.
 fn note_place(
     places: &mut BTreeSet<[u64; 6]>,
@@ -78,18 +94,20 @@ fn note_place(
     ensures { IfOk result (λ _. (zoom column row : ℤ) → contains (slice_cmp nat_cmp) places.new (place_key zoom column row)
         ≡ (contains (slice_cmp nat_cmp) places.old (place_key zoom column row) || is_good_at frame.now zoom column row item.now)) }
 {
-    if let Content::Tile {
-        zoom,
-        column,
-        row,
-        ..
-    } = &item.content
-    {
-        if reason_of(frame, &item.content).is_none() {
-            places.insert(place_key(*zoom, *column, *row))?;
+    match &item.content {
+        Content::Tile {
+            zoom,
+            column,
+            row,
+            ..
+        } => {
+            let fits = reason_of(frame, &item.content).is_none();
+            note_key(places, place_key(*zoom, *column, *row), fits)?;
+            Ok(())
         }
+        Content::Media { .. } => Ok(()),
+        Content::Row { .. } => Ok(()),
     }
-    Ok(())
 }
 
 /// Whether an item is another tile at this place.
@@ -109,6 +127,33 @@ fn is_taken(place: (i64, i64, i64), bytes: &[u8], items: &[Item]) -> bool
     ensures { result ≡ list_any (is_other_at place.0 place.1 place.2 bytes.now) items.now }
 {
     items.iter().any(|item| is_other_at(place, bytes, item))
+}
+
+/// The same, where nothing is to be taken away.
+fn is_taken_with(judge: &Judge<'_>, place: (i64, i64, i64), bytes: &[u8]) -> bool
+    ensures { result ≡ (judge.now.more && list_any (is_other_at place.0 place.1 place.2 bytes.now) judge.now.items.now) }
+{
+    judge.more && is_taken(place, bytes, judge.items)
+}
+
+/// The first reason of a tile.
+fn tile_reason(twice: bool, taken: bool) -> Option<Reason>
+    ensures { result ≡ first_row ((twice, Twice) ∷ (taken, Taken) ∷ []) }
+{
+    if twice {
+        Some(Reason::Twice)
+    } else if taken {
+        Some(Reason::Taken)
+    } else {
+        None
+    }
+}
+
+/// The reason of a medium or a row.
+fn number_reason(renumbered: bool) -> Option<Reason>
+    ensures { result ≡ first_row ((renumbered, Renumbered) ∷ []) }
+{
+    if renumbered { Some(Reason::Renumbered) } else { None }
 }
 
 /// The identities of the items of a kind, in the order in which an export numbers them.
@@ -180,6 +225,19 @@ fn is_renumbered(ids: &[Uuid], known: &BTreeSet<Uuid>, item: &HeldItem) -> bool
     known.contains(&id)
 }
 
+/// The same of an item of an export.
+fn is_renumbered_in(
+    exported: bool,
+    ids: &[Uuid],
+    known: &BTreeSet<Uuid>,
+    item: &HeldItem,
+) -> bool
+    ensures { (items : List ModelItem) → ids.now ≡ ids_of (kind_of item.now.content) items → IsKnownIn items known.now
+        → result ≡ (exported && is_renumbered items item.now) }
+{
+    exported && is_renumbered(ids, known, item)
+}
+
 /// The first reason beside those that lie in the item alone.
 fn reason_among(
     judge: &Judge<'_>,
@@ -199,28 +257,17 @@ fn reason_among(
             row,
             bytes,
         } => {
-            let place = (*zoom, *column, *row);
-            if places.contains(&place_key(*zoom, *column, *row)) {
-                Some(Reason::Twice)
-            } else if judge.more && is_taken(place, bytes.as_slice(), judge.items) {
-                Some(Reason::Taken)
-            } else {
-                None
-            }
+            let twice = places.contains(&place_key(*zoom, *column, *row));
+            let taken = is_taken_with(judge, (*zoom, *column, *row), bytes.as_slice());
+            tile_reason(twice, taken)
         }
         Content::Media { .. } => {
-            if exported && is_renumbered(numbered.media.as_slice(), &numbered.known, item) {
-                Some(Reason::Renumbered)
-            } else {
-                None
-            }
+            let ids = numbered.media.as_slice();
+            number_reason(is_renumbered_in(exported, ids, &numbered.known, item))
         }
         Content::Row { .. } => {
-            if exported && is_renumbered(numbered.rows.as_slice(), &numbered.known, item) {
-                Some(Reason::Renumbered)
-            } else {
-                None
-            }
+            let ids = numbered.rows.as_slice();
+            number_reason(is_renumbered_in(exported, ids, &numbered.known, item))
         }
     }
 }
@@ -299,8 +346,7 @@ fn add_item_lines(
     ensures { IfOk result (λ _. string_bytes text.new ≡ string_bytes text.old ++ item_lines judge.now.frame.now judge.now.items.now judge.now.more exported [] items.now) }
 {
     let mut places = BTreeSet::new(alloc);
-    for at in 0..items.len() {
-        let item = &items[at];
+    for item in items {
         let reason = reason_in(judge, numbered, exported, &places, item);
         note_place(&mut places, judge.frame, item)?;
         let line = line_for(alloc, item, reason)?;
