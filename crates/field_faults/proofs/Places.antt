@@ -41,7 +41,7 @@ from_same z a h =
     omega (arith, ints, parts.0, parts.1)
 
 to_same : (z a : ℤ) → z ≡ a → is_same z a ≡ true
-to_same z a e = subst (λ v. is_same z v ≡ true) e (let low : int_le z z ≡ true = omega (arith, ints) in and_from (int_le z z) (int_le z z) low low)
+to_same z a e = subst (λ v. is_same z v ≡ true) e (let so : true ≡ int_le z z = omega (arith, ints) in and_from (int_le z z) (int_le z z) (sym so) (sym so))
 
 -- two places have one key where they are one
 pub same_place : (z c r zoom column row : ℤ) → bytes_eq (place_key z c r) (place_key zoom column row) ≡ (is_same z zoom && is_same c column && is_same r row)

@@ -12,8 +12,8 @@ use Rattle.field_faults.specs.Reasons.{reason_of}
 use Rattle.field_faults.proofs.Places.{no_tile, noted}
 use Rattle.field_faults.proofs.lines.note_place.Goals as goal
 
-pub returns-in-Tile : goal.returns-in-Tile
-returns-in-Tile c =
+pub returns-in_ok-note_key-in-Tile : goal.returns-in_ok-note_key-in-Tile
+returns-in_ok-note_key-in-Tile c =
     let zoom : SFits w64 c.in-Tile.zoom = search rules in
     let column : SFits w64 c.in-Tile.column = search rules in
     let row : SFits w64 c.in-Tile.row = search rules in
