@@ -171,7 +171,7 @@ itself : (a z : ℤ) → z ≡ a → is_same z a ≡ true
 itself a z e = subst (λ v. is_same v a ≡ true) (sym e) (one a)
   where
     one : (b : ℤ) → is_same b b ≡ true
-    one b = let low : int_le b b ≡ true = omega (arith, ints) in and_from (int_le b b) (int_le b b) low low
+    one b = let so : true ≡ int_le b b = omega (arith, ints) in and_from (int_le b b) (int_le b b) (sym so) (sym so)
 
 -- numbers that are not below 0 are told by how far they are from it
 same_abs : (a b : ℤ) → int_le (pos 0) a ≡ true → int_le (pos 0) b ≡ true → unsigned_abs a ≡ unsigned_abs b → a ≡ b
@@ -201,7 +201,8 @@ module _ (f : Frame) (good : GoodFrame f) where
       let columns = and_parts (has_level f zoom && int_le (pos 0) column) (int_lt column (width_at f (level_of f zoom))) row_is.0 in
       let column_is = and_parts (has_level f zoom) (int_le (pos 0) column) columns.0 in
       let level = and_parts (int_le f.first_zoom zoom) (int_lt zoom (f.first_zoom +ℤ f.levels)) column_is.0 in
-      record { zoom_low = omega (arith, ints, good.first_zoom, level.0); column_low = column_is.1; row_low = row_is.1 }
+      let so : true ≡ int_le (pos 0) zoom = omega (arith, ints, good.first_zoom, level.0) in
+      record { zoom_low = sym so; column_low = column_is.1; row_low = row_is.1 }
 
   tile_placed : (zoom column row : ℤ) (bytes : List ℕ) → reason_of f (Tile zoom column row bytes) ≡ None → IsPlaced zoom column row
   tile_placed zoom column row bytes e =
