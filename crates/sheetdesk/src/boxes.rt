@@ -10,7 +10,6 @@ use command_words::statuses::{Outcome, What};
 use sheet_types::frame::Ground;
 use sheet_types::reading::read_number;
 use std::io;
-use uuid::Uuid;
 
 /// The box and the zoom of the words; `None` where one of their numbers is none.
 fn box_of(given: &ArgMatches<'_>, words: &str) -> Option<(Ground, i64)> {
@@ -19,31 +18,38 @@ fn box_of(given: &ArgMatches<'_>, words: &str) -> Option<(Ground, i64)> {
     Some((ground, zoom))
 }
 
-/// The identities of the request and of the loan, and their moment: those that are given, or new ones.
-fn given_or_new(rt: &HostRuntime, given: &ArgMatches<'_>) -> Result<(Uuid, Uuid, String), Ending> {
+/// The loan that the words ask for, at a moment.
+fn boxed_loan<'m>(
+    rt: &HostRuntime,
+    given: &ArgMatches<'m>,
+    words: &str,
+    at: &'m str,
+) -> Result<BoxedLoan<'m>, Ending> {
+    let Some((ground, zoom)) = box_of(given, words) else {
+        return Err(Ending::Usual(Outcome::Refused(What::BadNumber)));
+    };
     let id = uuid_given(rt, given, "request")?;
     let loan = uuid_given(rt, given, "as")?;
-    let at = moment_given(rt, given)?;
-    Ok((id, loan, at))
-}
-
-/// Lends the sheets that cover a box.
-pub(crate) fn lend_box(rt: &HostRuntime, given: &ArgMatches<'_>, words: &str) -> Ending {
-    let Some((ground, zoom)) = box_of(given, words) else {
-        return Ending::Usual(Outcome::Refused(What::BadNumber));
-    };
-    let (id, loan, at) = match given_or_new(rt, given) {
-        Ok(them) => them,
-        Err(ending) => return ending,
-    };
-    let boxed = BoxedLoan {
+    Ok(BoxedLoan {
         id,
-        at: at.as_str(),
+        at,
         from: given.get_str("first"),
         zoom,
         ground,
         mode: mode_of(given),
         loan,
+    })
+}
+
+/// Lends the sheets that cover a box.
+pub(crate) fn lend_box(rt: &HostRuntime, given: &ArgMatches<'_>, words: &str) -> Ending {
+    let at = match moment_given(rt, given) {
+        Ok(at) => at,
+        Err(ending) => return ending,
+    };
+    let boxed = match boxed_loan(rt, given, words, at.as_str()) {
+        Ok(boxed) => boxed,
+        Err(ending) => return ending,
     };
     let folder = text_of(given, "folder");
     let (ending, hint) = lend_box_for(rt, folder, &boxed, purpose_of(given), &mut io::writer(rt));

@@ -216,7 +216,7 @@ fn changed(rt: &HostRuntime, name: &str, given: &ArgMatches<'_>, reader: &mut In
 /// Adds the tiles of a tree, or an item.
 fn put(rt: &HostRuntime, given: &ArgMatches<'_>, reader: &mut Input<'_>) -> Ending {
     match given.subcommand() {
-        Some((kind, words)) if kind == "tiles" => put_tree(rt, given, words),
+        Some(("tiles", words)) => put_tree(rt, given, words),
         _ => ordered(rt, "put", given, reader),
     }
 }

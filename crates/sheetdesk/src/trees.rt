@@ -17,15 +17,15 @@ use store_folder::listing::folder_bytes;
 
 /// The files of a tree, and how many of how many were read.
 #[derive(Drop)]
-struct Tree<'r, 't> {
-    rt: &'r HostRuntime,
+struct Tree<'t> {
+    rt: &'t HostRuntime,
     directory: &'t str,
-    teller: Onlooker<'r>,
+    teller: Onlooker<'t>,
     done: u64,
     all: u64,
 }
 
-impl<'r, 't> Tree<'r, 't> {
+impl<'t> Tree<'t> {
     /// Tells how far it is.
     fn tell(&mut self) {
         self.teller.tell(self.done, self.all);
@@ -40,7 +40,7 @@ impl<'r, 't> Tree<'r, 't> {
     }
 }
 
-impl<'r, 't> Sheets for Tree<'r, 't> {
+impl<'t> Sheets for Tree<'t> {
     fn bytes_of(&mut self, place: &Place) -> Option<Vec<u8>> {
         self.tell();
         match self.read(place) {
