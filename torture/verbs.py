@@ -64,7 +64,7 @@ def trees(archive):
     taken = r'added 1, passed over 2\n\{"name":"PlaceTaken".*\}\n'
     run(f"put maps {archive[:4]} tiles tree", 1, taken, "refusal 11 PlaceTaken.*\n")
     keep("beside/3/8/0.png", "beside")
-    run(f"put maps {archive[:4]} tiles beside", 1, r'added 0, passed over 0\n\{"name":"BadPlace".*\}\n', "refusal 9 BadPlace.*\n")
+    run(f"put maps {archive[:4]} tiles beside", 1, r'added 0, passed over 0\n\{"name":"OutOfFrame".*\}\n', "refusal 10 OutOfFrame.*\n")
     run(f"put maps {archive[:4]} tiles nowhere", 1, "refused: body\n", "error: nowhere: .*\n")
     os.makedirs("empty")
     run(f"put maps {archive[:4]} tiles empty", 0, "added 0, passed over 0\n")
