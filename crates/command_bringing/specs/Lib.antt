@@ -1,4 +1,3 @@
 pub mod Telling
 pub mod Brings
 pub mod Opens
-pub mod Homecoming
