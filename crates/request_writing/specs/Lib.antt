@@ -1,2 +1,1 @@
 pub mod RequestTexts
-pub mod ReadBack

@@ -1,5 +1,4 @@
 //! Request lists as texts.
 #![tactic(auto)]
 
-pub mod laws;
 pub mod texts;
