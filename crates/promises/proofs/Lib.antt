@@ -1,5 +1,4 @@
 pub mod Disks
-pub mod Given
 pub mod Begun
 pub mod Shown
 pub mod Twice
