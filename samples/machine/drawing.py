@@ -22,20 +22,13 @@ def amount(number, one, many):
 
 class Drawing(Page):
     def sheet(self, level, package, identity, item):
-        x, y, width, height = level.box(item["column"], item["row"], self.layer(package))
-        name = f", {escaped(self.names[identity])}" if identity in self.names else ""
-        return (f'<rect class="{self.colour(package)}" x="{x}" y="{y}" width="{width}" height="{height}" fill="url(#v{level.index}-{self.number(package)})">'
-                f"<title>{item['zoom']}/{item['column']}/{item['row']}, {self.plain_name(package)}{name}</title></rect>\n")
+        return self.box(level, package, identity, item) + "\n"
 
-    def sheet_name(self, level, identity, item):
-        if item["zoom"] != level.zoom or identity not in self.names:
-            return ""
-        left, top = item["column"] * 10000 // level.columns, (item["row"] + 1) * 10000 // level.rows
-        return f'<text class="nm" x="{percent(left)}" y="{percent(top)}" dx="9" dy="-9">{escaped(self.names[identity])}</text>\n'
+    def name_at(self, left, top, name):
+        return f'<text class="nm" x="{percent(left)}" y="{percent(top)}" dx="9" dy="-9">{name}</text>\n'
 
     def mark(self, package, identity, item):
-        f = self.world.frame
-        left, top = (item["x"] - f.min_x) * 10000 // (f.max_x - f.min_x), (f.max_y - item["y"]) * 10000 // (f.max_y - f.min_y)
+        left, top = self.point(item)
         return (f'<use class="{self.colour(package)}" x="{percent(left)}" y="{percent(top)}" href="#k{self.pattern(package)}">'
                 f"<title>mark {item['code']}, {self.plain_name(package)}, {escaped(item['text'])}</title></use>\n")
 

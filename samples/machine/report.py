@@ -204,12 +204,16 @@ class Page:
         packages = sorted(self.packages, key=lambda p: (p.depth, p.uuid))
         return [(p.uuid, each, p.items[each]) for p in packages for each in self.items(p) if p.items[each]["kind"] == kind]
 
-    def sheet(self, level, package, identity, item):
+    def box(self, level, package, identity, item):
+        """The rectangle of a sheet, with its title."""
         x, y, width, height = level.box(item["column"], item["row"], self.layer(package))
         name = f", {escaped(self.names[identity])}" if identity in self.names else ""
         title = f"{item['zoom']}/{item['column']}/{item['row']}, {self.plain_name(package)}{name}"
-        return (f'<a href="#i-{identity}" tabindex="-1"><rect class="{self.colour(package)}" x="{x}" y="{y}" width="{width}" height="{height}" '
-                f'fill="url(#v{level.index}-{self.number(package)})"><title>{title}</title></rect></a>\n')
+        return (f'<rect class="{self.colour(package)}" x="{x}" y="{y}" width="{width}" height="{height}" '
+                f'fill="url(#v{level.index}-{self.number(package)})"><title>{title}</title></rect>')
+
+    def sheet(self, level, package, identity, item):
+        return f'<a href="#i-{identity}" tabindex="-1">{self.box(level, package, identity, item)}</a>\n'
 
     def level(self, level):
         patterns = "".join(f'<pattern id="v{level.index}-{n}" href="#w{n}" patternTransform="scale({level.scale()})"/>\n' for n in (self.number(p.uuid) for p in self.packages))
@@ -221,11 +225,20 @@ class Page:
         if item["zoom"] != level.zoom or identity not in self.names:
             return ""
         left, top = item["column"] * 10000 // level.columns, (item["row"] + 1) * 10000 // level.rows
-        return f'<span class="nm" style="left:calc(.01%*{left});top:calc(.01%*{top})">{escaped(self.names[identity])}</span>\n'
+        return self.name_at(left, top, escaped(self.names[identity]))
+
+    def name_at(self, left, top, name):
+        """A name, from the west and the north in ten-thousandths of the sides."""
+        return f'<span class="nm" style="left:calc(.01%*{left});top:calc(.01%*{top})">{name}</span>\n'
+
+    def point(self, item):
+        """Where a mark lies, from the west and the north in ten-thousandths of the sides."""
+        f = self.world.frame
+        left = (item["x"] - f.min_x) * 10000 // (f.max_x - f.min_x)
+        return left, (f.max_y - item["y"]) * 10000 // (f.max_y - f.min_y)
 
     def mark(self, package, identity, item):
-        f = self.world.frame
-        left, top = (item["x"] - f.min_x) * 10000 // (f.max_x - f.min_x), (f.max_y - item["y"]) * 10000 // (f.max_y - f.min_y)
+        left, top = self.point(item)
         title = f"mark {item['code']}, {self.plain_name(package)}, {escaped(item['text'])}"
         return (f'<a class="mk {self.colour(package)}" href="#i-{identity}" tabindex="-1" style="left:calc(.01%*{left});top:calc(.01%*{top})" title="{title}">'
                 f'<svg width="16" height="16" viewBox="-8 -8 16 16" aria-hidden="true"><use href="#k{self.pattern(package)}"/></svg></a>\n')
