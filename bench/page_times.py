@@ -1,16 +1,18 @@
 #!/usr/bin/env python3
 """Times the page of a register beside an audit of the same folder, in one run.
 
-Usage: page_times.py [--folder FOLDER] [--links] [ROUNDS [COUNT..]]
+Usage: page_times.py [--folder FOLDER] [--links | --loans] [--names] [ROUNDS [COUNT..]]
 
 (3 rounds of 10000 and 100000 items, a third each tiles, media and rows; FOLDER is where temporary files are, memory where there is some.)
-With --links each row is linked to a tile as well, so that there are as many links as rows.
+With --links each row is linked to a tile as well, so that there are as many links as rows. With --loans each item is a tile that was lent
+and came home, so that there are three receipts an item. With --names each tile has a name.
 
 In each round the two take turns. Times are by the clock, in seconds: the median of the rounds with the least and the greatest. The page
 may take a second longer than the audit; status 1 where it takes more than that.
 """
 
 import argparse
+import functools
 import os
 import statistics
 import subprocess
@@ -18,9 +20,10 @@ import sys
 import tempfile
 import time
 
-from program import program
-from timed_lists import ARCHIVE, AT, FRAME, HEADER, List, additions
+from program import program as built
+from timed_lists import ARCHIVE, AT, FRAME, HEADER, List, additions, small_splits
 
+program = functools.cache(built)
 MEMORY = "/dev/shm" if os.path.isdir("/dev/shm") else None
 ALLOWED = 1.0
 
@@ -36,20 +39,36 @@ def linked(count):
     return made.lines
 
 
+def is_tile(line):
+    fields = line.split(",")
+    return fields[2] == "add" and fields[6] == "tile"
+
+
+def name_tiles(folder, lines):
+    with open(os.path.join(folder, "names.csv"), "w", encoding="utf-8") as to:
+        to.write("uuid,name\n" + "".join(f"{line.split(',')[4]},sheet {number}\n" for number, line in enumerate(filter(is_tile, lines))))
+
+
+def lines_of(count, said):
+    if said.loans:
+        return small_splits(3 * count).lines
+    return linked(count) if said.links else additions(count).lines
+
+
 def made_in(place, lines):
     folder, path = os.path.join(place, "maps"), os.path.join(place, "list.csv")
     os.mkdir(folder)
     with open(path, "w", encoding="utf-8") as to:
         to.write(HEADER + "".join(lines))
-    subprocess.run([PROGRAM, "init", folder, "--archive", ARCHIVE, "--at", AT, "--frame", FRAME], check=True, stdout=subprocess.DEVNULL)
-    report = subprocess.run([PROGRAM, "import", folder, path], check=True, stdout=subprocess.PIPE, text=True).stdout
+    subprocess.run([program(), "init", folder, "--archive", ARCHIVE, "--at", AT, "--frame", FRAME], check=True, stdout=subprocess.DEVNULL)
+    report = subprocess.run([program(), "import", folder, path], check=True, stdout=subprocess.PIPE, text=True).stdout
     assert all(line.endswith(",0") for line in report.splitlines()[1:]), "a request was refused"
     return folder
 
 
 def timed(words):
     begun = time.monotonic()
-    printed = subprocess.run([PROGRAM, *words], check=True, stdout=subprocess.PIPE).stdout
+    printed = subprocess.run([program(), *words], check=True, stdout=subprocess.PIPE).stdout
     return time.monotonic() - begun, len(printed)
 
 
@@ -57,12 +76,15 @@ def spelled(times):
     return f"{statistics.median(times):.2f} ({min(times):.2f} to {max(times):.2f})"
 
 
-def measure(rounds, count, links, place):
+def measure(count, said):
     """Whether the page of so many items keeps within what it may take."""
-    with tempfile.TemporaryDirectory(dir=place) as room:
-        folder = made_in(room, linked(count) if links else additions(count).lines)
+    lines = lines_of(count, said)
+    with tempfile.TemporaryDirectory(dir=said.folder) as room:
+        folder = made_in(room, lines)
+        if said.names:
+            name_tiles(folder, lines)
         took, size = {"audit": [], "report": []}, 0
-        for _ in range(rounds):
+        for _ in range(said.rounds):
             for word, times in took.items():
                 seconds, size = timed([word, folder])
                 times.append(seconds)
@@ -74,15 +96,16 @@ def measure(rounds, count, links, place):
 def main():
     words = argparse.ArgumentParser(description=__doc__, formatter_class=argparse.RawDescriptionHelpFormatter)
     words.add_argument("--folder", default=MEMORY)
-    words.add_argument("--links", action="store_true")
+    kinds = words.add_mutually_exclusive_group()
+    kinds.add_argument("--links", action="store_true")
+    kinds.add_argument("--loans", action="store_true")
+    words.add_argument("--names", action="store_true")
     words.add_argument("rounds", nargs="?", type=int, default=3)
     words.add_argument("counts", nargs="*", type=int, default=[10000, 100000])
     said = words.parse_args()
-    kept = [measure(said.rounds, count, said.links, said.folder) for count in said.counts or [10000, 100000]]
+    kept = [measure(count, said) for count in said.counts or [10000, 100000]]
     sys.exit(not all(kept))
 
-
-PROGRAM = program()
 
 if __name__ == "__main__":
     main()

@@ -1,12 +1,15 @@
 #!/usr/bin/env python3
-"""Writes the page of the sample, as the second machine makes it: report.html, of all of archive.csv, with the names of names.csv.
+"""Writes the page of the sample, as the second machine makes it: report.html, of all of archive.csv, with the names of names.csv; and its map after record 57,
+while a loan has lent on: lending.svg.
 
-Usage: make_report.py                writes report.html
-       make_report.py --check        writes nothing; status 1 where report.html is not what would be written, or the program's style is another
+Usage: make_report.py                writes report.html and lending.svg
+       make_report.py --check        writes nothing; status 1 where one of them is not what would be written, or the program's style is another
        make_report.py --middle FILE  writes the page after record 57, while a loan has lent on
        make_report.py --loan FILE    writes the custody page of the harbour crew's loan at that time
        make_report.py --fault FILE   writes the page of a folder in which an item is altered
        make_report.py --odd FILE     writes the page of a world whose texts are hostile
+       make_report.py --odd-map FILE  draws that world
+       make_report.py --many FILE    writes the page of a world with more receipts than a page shows
        make_report.py --odd-loan FILE  writes the custody page of a loan in that world
 
 Nothing here runs the program.
@@ -18,9 +21,10 @@ import sys
 
 import nordmark
 import reference
+from machine.drawing import drawing_of
 from machine.fault import fault_page_of
 from machine.loan import loan_page_of
-from machine.report import page_of
+from machine.report import SHOWN, page_of
 from machine.world import Receipt, apply
 
 HERE = os.path.dirname(os.path.abspath(__file__))
@@ -43,6 +47,18 @@ def world_of(lines):
     return reference.rehearse(nordmark.ARCHIVE, nordmark.FRAME, b"\n".join(records[:lines]) + b"\n").world
 
 
+def many_requests():
+    """A list of ten requests more than a page shows: marks, one behind the other."""
+    adds = ({"request": nordmark.new(f"many request {n}"), "identity": nordmark.new(f"many {n}"), "x": 500000001 + n * 20000, "text": f"mark {n}"} for n in range(SHOWN + 10))
+    head = "request,at,command,package,identity,other,kind,zoom,column,row,last_column,last_row,x,y,code,ticket,text,data\n"
+    rows = (f"{a['request']},2026-03-02T09:00:00.000Z,add,{nordmark.ARCHIVE},{a['identity']},,row,,,,,,{a['x']},5915000000,1,,{a['text']},\n" for a in adds)
+    return (head + "".join(rows)).encode()
+
+
+def many_world():
+    return reference.rehearse(nordmark.ARCHIVE, nordmark.FRAME, many_requests()).world
+
+
 def odd_world():
     """Marks and a medium whose texts try to break out of the page."""
     world = world_of(58)
@@ -61,18 +77,27 @@ def write(name, text):
         to.write(text)
 
 
-def style_is_kept():
-    """Whether the program's constant is the style of report.css."""
-    with open(path("report.css"), encoding="utf-8") as found:
-        style = found.read().replace("\\", "\\\\").replace('"', '\\"')
-    with open(path("../crates/view_report/src/style.rt"), encoding="utf-8") as found:
-        return f"<style>\n{style}</style>" in found.read()
+def is_written(name, text):
+    with open(path(name), encoding="utf-8", newline="") as found:
+        return found.read() == text
+
+
+def style_is_kept(style, crate):
+    """Whether the program's constant is this style."""
+    with open(path(style), encoding="utf-8") as found:
+        text = found.read().replace("\\", "\\\\").replace('"', '\\"')
+    with open(path(f"../crates/{crate}/src/style.rt"), encoding="utf-8") as found:
+        return f"<style>\n{text}</style>" in found.read()
 
 
 def main():
     words = sys.argv[1:]
     if words[:1] == ["--odd"] and len(words) == 2:
         return write(words[1], page_of(odd_world(), odd_names(), reference.reply_text))
+    if words[:1] == ["--odd-map"] and len(words) == 2:
+        return write(words[1], drawing_of(odd_world(), odd_names()))
+    if words[:1] == ["--many"] and len(words) == 2:
+        return write(words[1], page_of(many_world(), names(), reference.reply_text))
     if words[:1] == ["--middle"] and len(words) == 2:
         return write(words[1], page_of(world_of(58), names(), reference.reply_text))
     if words[:1] == ["--loan"] and len(words) == 2:
@@ -83,11 +108,13 @@ def main():
         return write(words[1], fault_page_of("Altered", f"item {nordmark.mark('buoy')} has not the content that its receipt names"))
     if words not in ([], ["--check"]):
         sys.exit(__doc__)
-    page = page_of(world_of(None), names(), reference.reply_text)
+    made = {"report.html": page_of(world_of(None), names(), reference.reply_text), "lending.svg": drawing_of(world_of(58), names())}
     if not words:
-        return write(path("report.html"), page)
-    with open(path("report.html"), encoding="utf-8", newline="") as found:
-        sys.exit(found.read() != page or not style_is_kept())
+        for name, text in made.items():
+            write(path(name), text)
+        return
+    styles = style_is_kept("report.css", "view_report") and style_is_kept("drawing.css", "view_drawing")
+    sys.exit(not styles or any(not is_written(name, text) for name, text in made.items()))
 
 
 if __name__ == "__main__":

@@ -4,37 +4,43 @@
 Usage: torture/report_page.py [PAGE..] [--pictures] [--only-machine]
 
 Without a page: those of samples/make_report.py, which are the sample's, its middle, the custody of a loan at that time, the page of a
-fault, and two hostile ones. Then the program itself carries the sample out in a folder up to the same time, and prints the same pages:
-the register's and the loan's with the names of samples/names.csv, and that of the fault once a mark was altered behind its back. They
-must be the second machine's to the byte. With --only-machine the program is left out. The program is the one that SHEETDESK names, or
-else the proved one.
+fault, and two hostile ones; and two drawings, the sample's and a hostile one. Then the program itself carries the sample out in a folder
+up to the same time, and prints the same: the register's page, the loan's and the map with the names of samples/names.csv, as FILE and as
+the folder's own, and the page of the fault once a mark was altered behind its back; and the page of a register with more receipts than
+have rows, which is compared alone. They must be the second machine's to the byte. With --only-machine the program is left out. The program is the one that
+SHEETDESK names, or else the proved one.
 
 Of each page: tidy finds no error; every link leads to a place of the page; no request leaves it; what a browser makes of it has no
 script, image or frame; no page is wider than its window, at 1280, 768 and 390, light and dark; printed it is A4. The hostile pages have
-labels with markup, quotes, controls, text from right to left and a word without spaces. With --pictures the pictures in samples/ are
+labels with markup, quotes, controls, text from right to left and a word without spaces. Of a drawing: it is XML without script or
+address, and no request leaves it. With --pictures the pictures in samples/ are
 made anew, of the middle. Chromium and tidy are Debian's (`apt-get install chromium tidy`).
 """
 
 import json
 import os
 import re
+import shutil
 import sqlite3
 import subprocess
 import sys
 import tempfile
+import xml.dom.minidom
 
 TOP = os.path.dirname(os.path.dirname(os.path.abspath(__file__)))
 SAMPLES = os.path.join(TOP, "samples")
 sys.path[:0] = [SAMPLES, os.path.join(TOP, "bench")]
 sys.dont_write_bytecode = True
 
+import make_report
 import nordmark
 from program import program
 
 PICTURES = [("report-desk.png", "middle", 1280, 1760, ()), ("report-phone.png", "middle", 500, 1500, ("--force-dark-mode", "--blink-settings=preferredColorScheme=0")),
             ("report-loan.png", "loan", 1280, 1760, ())]
 WIDTHS = [1280, 768, 390]
-MACHINE = ["middle", "loan", "fault", "odd", "odd-loan"]
+MACHINE = ["middle", "loan", "fault", "odd", "odd-loan", "many"]
+DRAWN = ["odd-map"]
 RECORDS = 58
 
 
@@ -119,9 +125,22 @@ def look_at(folder, page):
     return faults
 
 
+def look_at_drawing(folder, path):
+    with open(path, encoding="utf-8") as found:
+        text = found.read()
+    parsed = xml.dom.minidom.parseString(text)
+    names = {element.tagName for element in parsed.getElementsByTagName("*")}
+    faults = [f"has {name}" for name in sorted(names - {"svg", "title", "style", "defs", "pattern", "path", "rect", "use", "text", "g"})]
+    faults += [f"loose link {link}" for link in loose_links(text)] + [f"asks for {url}" for url in requests_out(folder, path)]
+    print(f"{os.path.basename(path)}: {len(text.encode())} bytes, {len(faults)} faults")
+    for fault in faults:
+        print("   " + fault)
+    return faults
+
+
 def machine_pages(folder):
     """The second machine's pages, by their names."""
-    pages = {name: os.path.join(folder, f"{name}.html") for name in MACHINE}
+    pages = {name: os.path.join(folder, f"{name}.html") for name in MACHINE} | {name: os.path.join(folder, f"{name}.svg") for name in DRAWN}
     for name, page in pages.items():
         subprocess.run([sys.executable, os.path.join(SAMPLES, "make_report.py"), f"--{name}", page], check=True)
     return pages
@@ -135,24 +154,39 @@ def alter(package, mark):
     store.close()
 
 
-def own_pages(folder):
-    """The program's pages over a folder that has the sample up to the same time."""
-    maps, names, words = os.path.join(folder, "maps"), os.path.join(SAMPLES, "names.csv"), [program()]
+def founded(folder, name, requests):
+    """A folder of the program's that has carried a list out."""
+    maps, path = os.path.join(folder, name), os.path.join(folder, f"{name}.csv")
     os.mkdir(maps)
-    subprocess.run([*words, "init", maps, "--archive", nordmark.ARCHIVE, "--at", nordmark.CREATED, "--frame", nordmark.FRAME], check=True, stdout=subprocess.DEVNULL)
-    with open(os.path.join(SAMPLES, "archive.csv"), "rb") as found, open(os.path.join(folder, "list.csv"), "wb") as to:
-        to.writelines(found.readlines()[:RECORDS])
-    subprocess.run([*words, "import", maps, os.path.join(folder, "list.csv")], check=True, stdout=subprocess.DEVNULL)
-    asked = {"middle": ["--names", names], "loan": [nordmark.HARBOUR, "--names", names], "fault": []}
-    pages = {}
-    for name, more in asked.items():
-        if name == "fault":
-            alter(os.path.join(maps, f"{nordmark.BOAT}.gpkg"), nordmark.mark("buoy"))
-        pages[name] = os.path.join(folder, f"own-{name}.html")
-        with open(pages[name], "wb") as to:
-            done = subprocess.run([*words, "report", maps, *more], stdout=to, stderr=subprocess.DEVNULL, check=False)
-        assert done.returncode == (3 if name == "fault" else 0), (name, done.returncode)
-    return pages
+    with open(path, "wb") as to:
+        to.write(requests)
+    subprocess.run([program(), "init", maps, "--archive", nordmark.ARCHIVE, "--at", nordmark.CREATED, "--frame", nordmark.FRAME], check=True, stdout=subprocess.DEVNULL)
+    subprocess.run([program(), "import", maps, path], check=True, stdout=subprocess.DEVNULL)
+    return maps
+
+
+def printed_to(path, *words, status=0):
+    with open(path, "wb") as to:
+        done = subprocess.run([program(), *words], stdout=to, stderr=subprocess.DEVNULL, check=False)
+    assert done.returncode == status, (words, done.returncode)
+    return path
+
+
+def own_pages(folder):
+    """The program's pages and drawings, each with the file that it must be the same as, by the second machine's name for it."""
+    with open(os.path.join(SAMPLES, "archive.csv"), "rb") as found:
+        maps = founded(folder, "maps", b"".join(found.readlines()[:RECORDS]))
+    many, names = founded(folder, "many", make_report.many_requests()), os.path.join(SAMPLES, "names.csv")
+
+    def own(name):
+        return os.path.join(folder, f"own-{name}")
+
+    pages = [("middle", printed_to(own("middle.html"), "report", maps, "--names", names)), ("loan", printed_to(own("loan.html"), "report", maps, nordmark.HARBOUR, "--names", names)),
+             ("lending", printed_to(own("map.svg"), "map", maps, "--names", names)), ("many", printed_to(own("many.html"), "report", many, "--names", names))]
+    shutil.copy(names, maps)
+    pages += [("middle", printed_to(own("middle-2.html"), "report", maps)), ("lending", printed_to(own("map-2.svg"), "map", maps))]
+    alter(os.path.join(maps, f"{nordmark.BOAT}.gpkg"), nordmark.mark("buoy"))
+    return [*pages, ("fault", printed_to(own("fault.html"), "report", maps, status=3))]
 
 
 def same_bytes(one, other):
@@ -166,13 +200,14 @@ def main():
     with tempfile.TemporaryDirectory() as folder:
         made, faults = machine_pages(folder), []
         if not pages:
-            pages = [os.path.join(SAMPLES, "report.html"), *made.values()]
+            made["lending"] = os.path.join(SAMPLES, "lending.svg")
+            pages = [os.path.join(SAMPLES, "report.html"), *(page for name, page in made.items() if name != "many")]
             if "--only-machine" not in words:
                 own = own_pages(folder)
-                faults += [f"the program's {name} is another" for name, page in own.items() if not same_bytes(page, made[name])]
-                pages += own.values()
+                faults += [f"the program's {name} is another" for name, page in own if not same_bytes(page, made[name])]
+                pages += [page for name, page in own if name != "many" and not os.path.splitext(page)[0].endswith("-2")]
         print("".join(f"{fault}\n" for fault in faults), end="")
-        faults += [fault for page in pages for fault in look_at(folder, page)]
+        faults += [fault for page in pages for fault in (look_at_drawing if page.endswith(".svg") else look_at)(folder, page)]
         if "--pictures" in words:
             for name, page, width, height, more in PICTURES:
                 chromium(folder, made[page], "--force-device-scale-factor=0.5", f"--window-size={width},{height}", f"--screenshot={os.path.join(SAMPLES, name)}", *more)

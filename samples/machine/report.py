@@ -123,10 +123,12 @@ class Page:
     def __init__(self, world, names, json_of):
         self.world, self.names, self.json_of = world, names, json_of
         self.packages = sorted(world.packages.values(), key=lambda package: package.loan)
+        self.splits = [0] + [r.seq for r in world.receipts if r.line.startswith("split ")]
         self.hidden = max(0, len(world.receipts) - SHOWN)
 
     def number(self, uuid):
-        return self.packages.index(self.world.packages[uuid])
+        """How many splits there were up to the one that made a loan: the loans that came home since count too."""
+        return self.splits.index(self.world.packages[uuid].loan)
 
     def colour(self, uuid):
         n = self.number(uuid)
@@ -210,7 +212,7 @@ class Page:
                 f'fill="url(#v{level.index}-{self.number(package)})"><title>{title}</title></rect></a>\n')
 
     def level(self, level):
-        patterns = "".join(f'<pattern id="v{level.index}-{n}" href="#w{n}" patternTransform="scale({level.scale()})"/>\n' for n in range(len(self.packages)))
+        patterns = "".join(f'<pattern id="v{level.index}-{n}" href="#w{n}" patternTransform="scale({level.scale()})"/>\n' for n in (self.number(p.uuid) for p in self.packages))
         sheets = "".join(self.sheet(level, *each) for each in self.held("tile") if each[2]["zoom"] == level.zoom)
         return (f'<svg class="l l{level.index}" viewBox="0 0 {100 * level.columns * level.width} {100 * level.rows * level.height}" preserveAspectRatio="none">\n'
                 f"<defs>\n{patterns}</defs>\n{sheets}</svg>\n")
@@ -317,7 +319,7 @@ class Page:
         hashed = "".join(raw(self.json_of(r)) + "\n" for r in self.shown())
         return ('<section id="ledger" aria-labelledby="hl">\n<h2 id="hl">Ledger</h2>\n'
                 "<p>Each accepted request left one receipt. A number is an anchor: <code>#r1</code> behind the address of this page leads to the first.</p>\n"
-                f'{table("led cards", f"The newest receipts, at most {SHOWN}, in order.", head, rows)}'
+                f'{table("led cards", f"The newest receipts, at most {SHOWN}, in order. <code>sheetdesk log FOLDER</code> lists all.", head, rows)}'
                 f'<details class="raw">\n<summary>The receipts as they are hashed</summary>\n<pre>\n{hashed}</pre>\n</details>\n</section>\n')
 
     def account_row(self, word, receipts):

@@ -14,7 +14,7 @@ use Rattle.sheet_types.proofs.Every.{All-snoc}
 use Rattle.register_lending.specs.Faults.{fault_refusal}
 use Rattle.world.specs.Worlds.{Seen, IsRun}
 use Rattle.world.proofs.Running.{IsApplied, run_none, run_more}
-use Rattle.manifest_csv.specs.Imports.{GoesOn, IsReported, IsImported, Imports, lines_before, report_before}
+use Rattle.manifest_csv.specs.Imports.{GoesOn, IsCarried, IsReported, IsImported, Imports, lines_before, report_before}
 use Rattle.manifest_csv.specs.Reports.{report_header, report_line, report_lines, report_of}
 use Rattle.request_csv.specs.RequestLists.{IsList}
 use Rattle.manifest_csv.specs.Sent.{WentOut, WentOutPast}
@@ -134,3 +134,11 @@ module _ {S : Type 0} (g : Ghosts S) where
   imported text requests old new failed fails writer writer' before after (Err (Stopped n fault)) list it = (requests, list, it)
   imported text requests old new failed fails writer writer' before after (Err Unwritten) list it = (requests, list, it)
   imported text requests old new failed fails writer writer' before after (Err (Unread fault)) list it = absurd it.written
+
+  -- the same of requests that are a list already
+  pub carried : (requests : List Request) (old new : Seen S) (failed fails : ℕ) (before after : Option (List ℕ)) (r : Result (Unit {0}) ImportFault) → IsImported g requests old new failed fails before after r
+      → IsCarried g requests old new failed fails before after r
+  carried requests old new failed fails before after (Ok x) it = it
+  carried requests old new failed fails before after (Err (Stopped n fault)) it = it
+  carried requests old new failed fails before after (Err Unwritten) it = it
+  carried requests old new failed fails before after (Err (Unread fault)) it = absurd it.written

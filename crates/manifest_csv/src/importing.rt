@@ -2,7 +2,7 @@
 ghost use Rattle.std.specs.Prelude.{◌≡◌, ◌≤◌, length};
 ghost use Rattle.std.specs.String.{string_capacity};
 ghost use Rattle.world.specs.Asked.{IsUsedForEach};
-ghost use Rattle.manifest_csv.specs.Imports.{UsesOf, IsEndOf, IsListOf, IsReported, Imports};
+ghost use Rattle.manifest_csv.specs.Imports.{UsesOf, IsCarried, IsEndOf, IsListOf, IsReported, Imports};
 ghost use Rattle.manifest_csv.specs.Progress.{AreTold, IsTold};
 
 use crate::progress::Teller;
@@ -106,6 +106,9 @@ pub fn carry_out<S: Alter + Drop, H: Shelf<S>, W: Write, T: Teller>(
     writer: &mut W,
     teller: &mut T,
 ) -> Result<(), ImportFault>
+    ensures carried { IsCarried S.Store requests.now world.old world.new
+        (H.failures_of shelf.old) (H.failures_of shelf.new)
+        (W.contents writer.old) (W.contents writer.new) result }
     ensures imported { IsListOf requests.now (λ text. Imports S.Store text world.old world.new
         (H.failures_of shelf.old) (H.failures_of shelf.new)
         writer.old writer.new (W.contents writer.old) (W.contents writer.new) result) }

@@ -1,4 +1,5 @@
-//! The pages of `report`: its words are read, and its file of names.
+//! The pages of `report`, and the drawing of `map`: their words are read, and the file of names.
+use crate::naming::package_given;
 use crate::running::{ended, is_printed, out_of_memory, output_failed, text_of};
 use clap::ArgMatches;
 use command_folder::endings::Ending;
@@ -11,14 +12,26 @@ use view_names::lists::{ListFault, read_names};
 use view_page::pages::{Paper, report_for};
 use view_report::registers::Name;
 
-/// What is asked of the register.
-fn paper_of(given: &ArgMatches<'_>) -> Result<Paper, Ending> {
-    let Some(loan) = given.get_str("package") else {
-        return Ok(Paper::Whole);
-    };
+/// The page of a loan.
+fn loan_paper(loan: &str) -> Result<Paper, Ending> {
     match read_uuid(loan) {
         Some(loan) => Ok(Paper::Loan(loan)),
         None => Err(Ending::Usual(Outcome::Refused(What::BadUuid))),
+    }
+}
+
+/// What is asked of the register. Of a folder that does not open, the page says why, whatever was asked.
+fn paper_of(rt: &HostRuntime, name: &str, given: &ArgMatches<'_>) -> Result<Paper, Ending> {
+    if name == "map" {
+        return Ok(Paper::Map);
+    }
+    if given.get_str("package").is_none() {
+        return Ok(Paper::Whole);
+    }
+    match package_given(rt, given) {
+        Ok(loan) => loan_paper(loan.as_str()),
+        Err(Ending::Unopened(_)) => Ok(Paper::Whole),
+        Err(ending) => Err(ending),
     }
 }
 
@@ -49,7 +62,7 @@ fn names_in(rt: &HostRuntime, path: &str, is_asked: bool) -> Result<Vec<Name>, u
     }
 }
 
-/// The names for a page: of the file that is asked for, or of the folder's.
+/// The names for a page or a drawing: of the file that is asked for, or of the folder's.
 fn names_for(rt: &HostRuntime, given: &ArgMatches<'_>) -> Result<Vec<Name>, u8> {
     if let Some(path) = given.get_str("names") {
         return names_in(rt, path, true);
@@ -61,9 +74,23 @@ fn names_for(rt: &HostRuntime, given: &ArgMatches<'_>) -> Result<Vec<Name>, u8> 
     }
 }
 
-/// Writes a page, and answers the exit status.
-pub(crate) fn reported(rt: &HostRuntime, given: &ArgMatches<'_>) -> u8 {
-    let paper = match paper_of(given) {
+/// Whether all zooms are asked for with marks and names, and not one zoom.
+fn is_drawing(name: &str, given: &ArgMatches<'_>) -> bool {
+    name == "map" && given.get_str("zoom").is_none()
+}
+
+/// Writes a page or a drawing, where the command asks for one, and answers the exit status.
+pub(crate) fn reported(rt: &HostRuntime, name: &str, given: &ArgMatches<'_>) -> Option<u8> {
+    if name == "report" || is_drawing(name, given) {
+        Some(written(rt, name, given))
+    } else {
+        None
+    }
+}
+
+/// Writes it, and answers the exit status.
+fn written(rt: &HostRuntime, name: &str, given: &ArgMatches<'_>) -> u8 {
+    let paper = match paper_of(rt, name, given) {
         Ok(paper) => paper,
         Err(ending) => return ended(rt, &ending),
     };

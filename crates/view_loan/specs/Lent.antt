@@ -11,7 +11,7 @@ use Rattle.view_loan.specs.Pieces.{keeper_text, tie_found, told_pair}
 -- who has an item, and who a link
 abbrev pub item_keeper : Register → List ℕ → List ℕ
 item_keeper r id =
-    option_map_or (λ t. keeper_text r t.holder) (thing_found r.things.items id) (codes "<span class=\"q\">deleted</span>")
+    option_map_or (λ t. keeper_text r t.holder) (thing_found r.things id) (codes "<span class=\"q\">deleted</span>")
 
 abbrev pub link_keeper : Register → List ℕ → List ℕ → List ℕ
 link_keeper r base other =
@@ -19,7 +19,7 @@ link_keeper r base other =
 
 -- an item in a few words, where a package holds it
 abbrev pub also_told : Register → List ℕ → List ℕ
-also_told r id = option_map_or (λ t. codes " " ++ about_text r.names.items t) (thing_found r.things.items id) []
+also_told r id = option_map_or (λ t. codes " " ++ about_text r.names t) (thing_found r.things id) []
 
 abbrev pub fingerprint_text : Option (List ℕ) → List ℕ
 fingerprint_text fingerprint = option_map_or digest_text fingerprint []

@@ -10,7 +10,7 @@ use Rattle.view_report.specs.Holdings.{thing_if, tie_if}
 use Rattle.view_report.specs.Ledgers.{ledger_digest}
 use Rattle.view_report.specs.Patterns.{pattern_row}
 use Rattle.view_report.specs.Pieces.{plain_name}
-use Rattle.view_report.specs.Registers.{live_of, number_of, receipt_found}
+use Rattle.view_report.specs.Registers.{live_of, receipt_found}
 use Rattle.view_report.specs.declared.style.TheConstants.{STYLE}
 use Rattle.view_report.specs.declared.words.TheConstants.{HEAD, SHAPES}
 use Rattle.view_report.specs.declared.registers.Live.{Live}
@@ -26,16 +26,16 @@ loan_of r id = option_and_then (λ p. option_map (λ lender. (p, lender)) p.pare
 
 abbrev pub head_text : Register → Live → List ℕ
 head_text r p =
-    HEAD.now ++ (codes "Custody of " ++ (plain_name r.names.items p.uuid ++ (STYLE.now ++ (BODY.now
-    ++ (plain_name r.names.items p.uuid ++ (codes "</h1>\n<p class=\"lead\">Archive <code>" ++ (uuid_text r.archive
+    HEAD.now ++ (codes "Custody of " ++ (plain_name r.names p.uuid ++ (STYLE.now ++ (BODY.now
+    ++ (plain_name r.names p.uuid ++ (codes "</h1>\n<p class=\"lead\">Archive <code>" ++ (uuid_text r.archive
     ++ (codes "</code>, as of receipt " ++ (decimal (length r.receipts.items) ++ (codes ".</p>\n" ++ (NAVIGATION.now
-    ++ (flat_map (λ q. pattern_row (number_of r.packages.items q.loan)) r.packages.items ++ SHAPES.now))))))))))))
+    ++ (flat_map (λ q. pattern_row q.number) r.packages.items ++ SHAPES.now))))))))))))
 
 -- what went out by its receipt, the receipts that name it, and what it holds now
 abbrev pub lists_text : Register → Live → Receipt → List ℕ
 lists_text r p x =
     LENT_HEAD.now ++ (flat_map (lent_row r) x.items ++ (LEDGER_HEAD.now ++ (flat_map (receipt_if r p.uuid) r.receipts.items
-    ++ (DUE_HEAD.now ++ (flat_map (thing_if r p.uuid) r.things.items ++ flat_map (tie_if r p.uuid) r.ties.items)))))
+    ++ (DUE_HEAD.now ++ (flat_map (thing_if r p.uuid) r.things ++ flat_map (tie_if r p.uuid) r.ties.items)))))
 
 -- its account, and places for signatures
 abbrev pub account_section : Register → Live → List ℕ
@@ -55,8 +55,8 @@ told_if r p lender = option_map_or (told_text r p lender) (receipt_found r.recei
 pub record IsOwn (r : Register) (id : List ℕ) (own : Register) : Type 0 where
   pub frame : own.frame ≡ r.frame
   pub packages : own.packages.items ≡ r.packages.items
-  pub names : own.names.items ≡ r.names.items
-  pub things : own.things.items ≡ filter (λ t. bytes_eq t.holder id) r.things.items
+  pub names : own.names ≡ r.names
+  pub things : own.things ≡ filter (λ t. bytes_eq t.holder id) r.things
 
 -- a map of what the loan holds, and how to check the page
 abbrev pub end_text : Register → Live → List ℕ

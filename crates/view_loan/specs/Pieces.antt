@@ -11,7 +11,7 @@ use Rattle.view_report.specs.declared.registers.Tie.{Tie}
 -- a package in its colour while it lives, which leads nowhere
 abbrev pub keeper_text : Register → List ℕ → List ℕ
 keeper_text r id =
-    codes "<span class=\"h " ++ (holder_class r id ++ (codes "\">" ++ (name_text r.names.items id ++ codes "</span>")))
+    codes "<span class=\"h " ++ (holder_class r id ++ (codes "\">" ++ (name_text r.names id ++ codes "</span>")))
 
 -- an end of a receipt, or a word where it has none
 abbrev pub keeper_or : Register → Option (List ℕ) → List ℕ → List ℕ
@@ -23,7 +23,7 @@ whole_name names id = called names id ++ (codes "<code>" ++ (uuid_text id ++ cod
 
 -- an item in a few words where a package holds it, else its identity
 abbrev pub told_item : Register → List ℕ → List ℕ
-told_item r id = option_map_or (about_text r.names.items) (thing_found r.things.items id) (short_text id)
+told_item r id = option_map_or (about_text r.names) (thing_found r.things id) (short_text id)
 
 abbrev pub told_pair : Register → List ℕ → List ℕ → List ℕ
 told_pair r base other = told_item r base ++ (codes " &harr; " ++ told_item r other)

@@ -33,7 +33,7 @@ own_loans r id = if list_any (is_below id) r.packages.items then own_rows r id e
 -- who lent it, and when
 abbrev pub lending_text : Register → Live → List ℕ → List ℕ
 lending_text r p lender =
-    whole_name r.names.items p.uuid ++ (codes "</li>\n<li class=\"big\"><b>Lender</b> " ++ (whole_name r.names.items lender
+    whole_name r.names p.uuid ++ (codes "</li>\n<li class=\"big\"><b>Lender</b> " ++ (whole_name r.names lender
     ++ (codes "</li>\n<li><b>Lent</b> " ++ (when_text r p.loan
     ++ (codes "</li>\n<li><b>Last change</b> " ++ (when_text r p.ticket ++ codes "</li>\n"))))))
 

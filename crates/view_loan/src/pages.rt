@@ -19,6 +19,7 @@ use view_report::accounts::put_account;
 use view_report::digests::ledger_digest;
 use view_report::drawing::put_map;
 use view_report::holdings::{put_items, put_ties};
+use view_report::lists::Things;
 use view_report::patterns::put_patterns;
 use view_report::pieces::{put, put_count, put_plain_name, put_uuid};
 use view_report::registers::{Live, Register, is_same, live_of, receipt_found};
@@ -57,7 +58,7 @@ fn put_head(text: &mut String, register: &Register, live: &Live) -> Result<(), A
     put_count(text, receipt_count(register))?;
     put(text, ".</p>\n")?;
     put(text, NAVIGATION)?;
-    put_patterns(text, &register.packages, &register.packages)?;
+    put_patterns(text, &register.packages)?;
     put(text, SHAPES)?;
     Ok(())
 }
@@ -76,7 +77,7 @@ fn put_lists(
     put(text, LEDGER_HEAD)?;
     put_rows(text, register, live.uuid, &register.receipts)?;
     put(text, DUE_HEAD)?;
-    put_items(text, register, live.uuid, &register.things)?;
+    put_items(text, register, live.uuid, register.things.as_slice())?;
     put_ties(text, register, live.uuid, &register.ties)?;
     Ok(())
 }
@@ -134,12 +135,30 @@ fn put_told_if(
 }
 
 /// The register with the things of one package alone.
-fn only(register: Register, holder: Uuid) -> Register
-    ensures { IsOwn register holder result }
+fn only(register: Register, holder: Uuid) -> Result<Register, AllocError>
+    ensures { IfOk result (λ own. IsOwn register holder own) }
 {
-    let mut own = register;
-    own.things.retain(|thing| is_same(thing.holder, holder));
-    own
+    let Register {
+        archive,
+        frame,
+        packages,
+        things,
+        ties,
+        receipts,
+        names,
+    } = register;
+    let mut held = things.into_vec();
+    held.retain(|thing| is_same(thing.holder, holder));
+    let kept = Things::new(held)?;
+    Ok(Register {
+        archive,
+        frame,
+        packages,
+        things: kept,
+        ties,
+        receipts,
+        names,
+    })
 }
 
 /// Puts the map of what a register has, with this loan for its legend, and the end of the page.
@@ -170,7 +189,7 @@ pub fn loan_page(
     };
     let mut text = String::new(alloc);
     put_told_if(alloc, &mut text, &register, &live, lender)?;
-    let own = only(register, live.uuid);
+    let own = only(register, live.uuid)?;
     put_end(&mut text, &own, live)?;
     Ok(Some(text))
 }

@@ -4,10 +4,11 @@ ghost use Rattle.view_loan.specs.Pieces.{keeper_or, keeper_text, tie_found, told
 
 use std::alloc::AllocError;
 use uuid::Uuid;
+use view_report::lists::Names;
 use view_report::pieces::{
     put, put_about, put_called, put_holder_class, put_name, put_short, put_uuid,
 };
-use view_report::registers::{Name, Register, Tie, is_same, thing_found};
+use view_report::registers::{Register, Tie, is_same, thing_found};
 
 /// Puts a package in its colour, if it lives; it leads nowhere.
 pub(crate) fn put_keeper(text: &mut String, register: &Register, id: Uuid) -> Result<(), AllocError>
@@ -37,7 +38,7 @@ pub(crate) fn put_keeper_or(
 }
 
 /// Puts what people call a package, and its whole UUID.
-pub(crate) fn put_whole_name(text: &mut String, names: &[Name], id: Uuid) -> Result<(), AllocError>
+pub(crate) fn put_whole_name(text: &mut String, names: &Names, id: Uuid) -> Result<(), AllocError>
     ensures { IfOk result (λ _. string_bytes text.new ≡ string_bytes text.old ++ whole_name names.now id) }
 {
     put_called(text, names, id)?;

@@ -14,21 +14,24 @@ use Rattle.command_folder.specs.declared.endings.Ending.TheVariants.{NoSuchPacka
 use Rattle.command_folder.specs.declared.endings.OpenFault.{OpenFault}
 use Rattle.command_folder.specs.declared.endings.OpenFault.TheVariants.{Folder, Fault as Fault-of-stores}
 use Rattle.command_words.specs.declared.statuses.Failure.TheVariants.{OutOfMemory}
+use Rattle.view_drawing.specs.Drawings.{drawing_text}
 use Rattle.view_fault.specs.Pages.{fault_page}
 use Rattle.view_loan.specs.Pages.{TellsLoan}
 use Rattle.view_page.specs.declared.pages.Paper.{Paper}
-use Rattle.view_page.specs.declared.pages.Paper.TheVariants.{Whole, Loan}
+use Rattle.view_page.specs.declared.pages.Paper.TheVariants.{Whole, Loan, Map}
 use Rattle.view_report.specs.Pages.{page_text}
 use Rattle.view_report.specs.declared.registers.Name.{Name}
 use Rattle.view_report.specs.declared.registers.Register.{Register}
 use Rattle.view_page.specs.Registers.{IsRegisterOf, LooksThrough}
 use Rattle.world.specs.Worlds.{Seen}
 
--- what was asked of a register, and a text of it: its page always, and that of a loan where there is such a loan
+-- what was asked of a register, and a text of it: its page or its map always, and the page of a loan where there is such a loan
 abbrev pub IsPaper : Register → Paper → Option (List ℕ) → Type 0
 IsPaper r Whole (Some text) = text ≡ page_text r
 IsPaper r Whole None = ⊥
 IsPaper r (Loan id) found = TellsLoan r id found
+IsPaper r Map (Some text) = text ≡ drawing_text r
+IsPaper r Map None = ⊥
 
 -- the same of a world
 abbrev pub IsPaperOf : World → List Name → Paper → Option (List ℕ) → Type 0
@@ -45,18 +48,24 @@ ShowsText (Ok None) writer writer' before after ending = (ending ≡ NoSuchPacka
 ShowsText (Err fault) writer writer' before after ending = (ending ≡ Usual (Stopped (of_fault fault))) × (writer' ≡ writer)
 
 -- the page of a folder that is not opened, where its stores stand for no world
-abbrev pub page_of_fault : OpenFault → Option (List ℕ)
-page_of_fault (Folder met) = None
-page_of_fault (Fault-of-stores met) = fault_page met
+abbrev pub text_of_fault : OpenFault → Option (List ℕ)
+text_of_fault (Folder met) = None
+text_of_fault (Fault-of-stores met) = fault_page met
+
+-- where a page was asked for; there is no map of such a folder
+abbrev pub page_of_fault : Paper → OpenFault → Option (List ℕ)
+page_of_fault Whole fault = text_of_fault fault
+page_of_fault (Loan id) fault = text_of_fault fault
+page_of_fault Map fault = None
 
 -- It is printed, and the program ends as such a folder ends it; or memory gave out before.
 abbrev pub PrintsFault : {W : Type 0} → OpenFault → Option (List ℕ) → W → W → Option (List ℕ) → Option (List ℕ) → Ending → Type 0
 PrintsFault fault (Some text) writer writer' before after ending = Prints text (Unopened fault) before after ending
 PrintsFault fault None writer writer' before after ending = (ending ≡ Unopened fault) × (writer' ≡ writer)
 
-abbrev pub ShowsFault : {W : Type 0} → OpenFault → W → W → Option (List ℕ) → Option (List ℕ) → Ending → Type 0
-ShowsFault fault writer writer' before after ending =
-    PrintsFault fault (page_of_fault fault) writer writer' before after ending
+abbrev pub ShowsFault : {W : Type 0} → Paper → OpenFault → W → W → Option (List ℕ) → Option (List ℕ) → Ending → Type 0
+ShowsFault paper fault writer writer' before after ending =
+    PrintsFault fault (page_of_fault paper fault) writer writer' before after ending
     ⊎ ((ending ≡ Usual (Stopped OutOfMemory)) × (writer' ≡ writer))
 
 module _ {S : Type 0} (g : Ghosts S) {W : Type 0} where
@@ -70,6 +79,6 @@ module _ {S : Type 0} (g : Ghosts S) {W : Type 0} where
   -- The folder was not opened, and the page of the fault was printed; or what was asked of its world.
   abbrev pub OpensPage : List Name → Paper → W → W → Option (List ℕ) → Option (List ℕ) → Ending → Type 0
   OpensPage names paper writer writer' before after ending =
-      ((fault : OpenFault) × ShowsFault fault writer writer' before after ending)
+      ((fault : OpenFault) × ShowsFault paper fault writer writer' before after ending)
       ⊎ ((old : Seen S) × (stores : List (Held S)) × IsFolderWorld g old
       × ShowsPage names paper old stores writer writer' before after ending)

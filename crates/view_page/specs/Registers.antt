@@ -9,7 +9,7 @@ use Rattle.sheet_types.specs.World.{World, Package, holdings, link_kind, receipt
 use Rattle.sheet_types.specs.declared.command.Relation.{Relation}
 use Rattle.package_tables.specs.declared.fault.Fault.{Fault}
 use Rattle.view_history.specs.Stores.{AreClean}
-use Rattle.view_report.specs.Registers.{thing_of}
+use Rattle.view_report.specs.Registers.{number_of, thing_of}
 use Rattle.view_report.specs.declared.registers.Live.{Live}
 use Rattle.view_report.specs.declared.registers.Name.{Name}
 use Rattle.view_report.specs.declared.registers.Register.{Register}
@@ -42,13 +42,14 @@ depth_key s = s.depth ∷ []
 abbrev pub by_depth : List ModelSight → List ModelSight
 by_depth sights = arranged depth_key sights
 
--- a live package, and the number of the receipt that made it
+-- a live package, with the number of the receipt that made it, and how many splits there were up to that one
 abbrev pub live_of : World → Package → Live
 live_of w p = record {
   uuid = p.uuid;
   parent = p.parent;
   depth = p.depth;
   loan = p.loan;
+  number = number_of (receipts_of w) p.loan;
   ticket = ticket w p.uuid;
   sums = sums_held p;
 }
@@ -73,10 +74,10 @@ pub record IsRegisterOf (w : World) (names : List Name) (r : Register) : Type 0 
   pub frame : r.frame ≡ w.frame
   pub packages : r.packages.items ≡ arranged loan_key (map (live_of w) w.packages)
   pub archive : option_map (λ p. p.uuid) (slice_get r.packages.items 0) ≡ Some r.archive
-  pub things : r.things.items ≡ flat_map (λ s. things_under w s.uuid) (by_depth (package_sights w))
+  pub things : r.things ≡ flat_map (λ s. things_under w s.uuid) (by_depth (package_sights w))
   pub ties : r.ties.items ≡ flat_map (λ s. ties_under w s.uuid) (by_depth (package_sights w))
   pub receipts : r.receipts.items ≡ receipts_of w
-  pub named : r.names.items ≡ names
+  pub named : r.names ≡ names
 
 module _ {S : Type 0} (g : Ghosts S) where
   -- A world ended with a look at all that it holds. It was only read, and so were its stores.

@@ -2,7 +2,7 @@
 ghost use Rattle.std.specs.Prelude.{◌≡◌, IfOk, IsOkAnd, IsTrue, option_map, string_bytes};
 ghost use Rattle.sheet_types.specs.Matrix.{is_good_frame};
 ghost use Rattle.command_folder.specs.Printing.{Prints};
-ghost use Rattle.view_page.specs.Pages.{IsPaper, IsPaperOf, OpensPage, ShowsFault, ShowsPage, ShowsText, as_bytes, page_of_fault};
+ghost use Rattle.view_page.specs.Pages.{IsPaper, IsPaperOf, OpensPage, ShowsFault, ShowsPage, ShowsText, as_bytes, page_of_fault, text_of_fault};
 ghost use Rattle.view_page.specs.Registers.{LooksThrough};
 
 use crate::registers::register_of;
@@ -19,6 +19,7 @@ use std::io::Write;
 use store_folder::opening::close_stores;
 use store_folder::start::FolderStore;
 use uuid::Uuid;
+use view_drawing::drawings::drawing_text;
 use view_fault::pages::fault_page;
 use view_loan::pages::loan_page;
 use view_report::pages::page_text;
@@ -32,6 +33,8 @@ pub enum Paper {
     Whole,
     /// The custody page of the loan of this UUID.
     Loan(Uuid),
+    /// Its map alone, as SVG.
+    Map,
 }
 
 /// What is asked of a register; none where it is of no loan that lives.
@@ -45,6 +48,10 @@ fn asked_of(alloc: Global, register: Register, paper: Paper) -> Result<Option<St
             Ok(Some(text))
         }
         Paper::Loan(loan) => loan_page(alloc, register, loan),
+        Paper::Map => {
+            let text = drawing_text(alloc, &register)?;
+            Ok(Some(text))
+        }
     }
 }
 
@@ -119,8 +126,8 @@ pub fn report_in<S: Alter + Drop, W: Write>(
 }
 
 /// The page of a folder that is not opened, where its stores stand for no world.
-fn page_of_fault(alloc: Global, fault: &OpenFault) -> Result<Option<String>, AllocError>
-    ensures { IfOk result (λ found. option_map string_bytes found ≡ page_of_fault fault.now) }
+fn text_of_fault(alloc: Global, fault: &OpenFault) -> Result<Option<String>, AllocError>
+    ensures { IfOk result (λ found. option_map string_bytes found ≡ text_of_fault fault.now) }
 {
     match fault {
         OpenFault::Folder(_) => Ok(None),
@@ -128,11 +135,30 @@ fn page_of_fault(alloc: Global, fault: &OpenFault) -> Result<Option<String>, All
     }
 }
 
-/// Writes the page of a folder that is not opened.
-pub fn show_fault<W: Write>(alloc: Global, fault: &OpenFault, writer: &mut W) -> Ending
-    ensures { ShowsFault fault.now writer.old writer.new (W.contents writer.old) (W.contents writer.new) result }
+/// The same, where a page was asked for; there is no map of a folder that is not opened.
+fn page_of_fault(
+    alloc: Global,
+    paper: Paper,
+    fault: &OpenFault,
+) -> Result<Option<String>, AllocError>
+    ensures { IfOk result (λ found. option_map string_bytes found ≡ page_of_fault paper fault.now) }
 {
-    match page_of_fault(alloc, fault) {
+    match paper {
+        Paper::Whole | Paper::Loan(_) => text_of_fault(alloc, fault),
+        Paper::Map => Ok(None),
+    }
+}
+
+/// Writes the page of a folder that is not opened, where a page was asked for.
+pub fn show_fault<W: Write>(
+    alloc: Global,
+    paper: Paper,
+    fault: &OpenFault,
+    writer: &mut W,
+) -> Ending
+    ensures { ShowsFault paper fault.now writer.old writer.new (W.contents writer.old) (W.contents writer.new) result }
+{
+    match page_of_fault(alloc, paper, fault) {
         Ok(Some(text)) => print(writer, text.as_str(), Ending::Unopened(*fault)),
         Ok(None) => Ending::Unopened(*fault),
         Err(_) => NO_MEMORY,
@@ -161,6 +187,6 @@ pub fn report_for<W: Write>(
             close_stores(stores);
             ending
         }
-        Err(fault) => show_fault(rt.alloc(), &fault, writer),
+        Err(fault) => show_fault(rt.alloc(), paper, &fault, writer),
     }
 }

@@ -1,7 +1,7 @@
 //! The register that a page tells of, of a world.
 ghost use Rattle.std.specs.Prelude.{◌≡◌, length, map, IfOk, IsTrue, OnOk, MatchResult};
 ghost use Rattle.sheet_types.specs.Ordered.{arranged};
-ghost use Rattle.sheet_types.specs.World.{World as ModelWorld};
+ghost use Rattle.sheet_types.specs.World.{World as ModelWorld, receipts_of};
 ghost use Rattle.view_history.specs.Stores.{AreAtRest, AsksStores};
 ghost use Rattle.command_requests.specs.Listing.{IsUntouched};
 ghost use Rattle.sheet_types.specs.Matrix.{is_good_frame};
@@ -14,13 +14,14 @@ use crate::contents::{Contents, contents_among, in_depth};
 use matrix_rules::check::FrameRules;
 use package_tables::fault::Fault;
 use sheet_types::frame::Frame;
-use sheet_types::receipt::Sums;
+use sheet_types::receipt::{Receipt, Sums};
 use sqlite::{Alter, Connection};
 use std::alloc::{AllocError, Global};
 use uuid::Uuid;
 use view_history::ledgers::ledger_of;
 use view_history::loans::loans_of;
-use view_report::registers::{Live, Name, Register};
+use view_report::lists::{Names, Things};
+use view_report::registers::{Live, Name, Register, number_of};
 use view_world::packages::{Kept, kept_of};
 use view_world::usable::are_ready;
 use world::reading::PackageSight;
@@ -32,9 +33,11 @@ fn lives_of(
     sights: &[PackageSight],
     sums: &[Sums],
     loans: &[u64],
+    receipts: &[Receipt],
 ) -> Result<Vec<Live>, Fault>
     ensures { IfOk result (λ lives. (w : ModelWorld) → AreKept w sights.now sums.now
-        → loans.now ≡ map (λ p. p.loan) w.packages → lives.items ≡ map (live_of w) w.packages) }
+        → loans.now ≡ map (λ p. p.loan) w.packages → receipts.now ≡ receipts_of w
+        → lives.items ≡ map (live_of w) w.packages) }
 {
     let count = sights.len();
     if sums.len() != count || loans.len() != count {
@@ -43,11 +46,13 @@ fn lives_of(
     let mut lives = Vec::new(alloc);
     for at in 0..count {
         let sight = sights[at];
+        let loan = loans[at];
         lives.push(Live {
             uuid: sight.uuid,
             parent: sight.parent,
             depth: sight.depth,
-            loan: loans[at],
+            loan,
+            number: number_of(receipts, loan),
             ticket: sight.ticket,
             sums: sums[at],
         })?;
@@ -101,13 +106,15 @@ fn register_by<S: Alter + Drop>(
     let (kept, contents) = seen;
     let loans = loans_of(stores, alloc)?;
     let receipts = ledger_of(stores, alloc)?;
-    let lives = lives_of(alloc, &kept.sights, &kept.sums, &loans)?;
+    let lives = lives_of(alloc, &kept.sights, &kept.sums, &loans, &receipts)?;
     let packages = in_order(lives)?;
     let Some(first) = packages.first() else {
         return Err(Fault::StoreFault);
     };
     let archive = first.uuid;
     let Contents { things, ties } = contents;
+    let things = Things::new(things)?;
+    let names = Names::new(names)?;
     Ok(Register {
         archive,
         frame,

@@ -6,7 +6,6 @@ use Rattle.sheet_ledger.specs.declared.flows.Totals.{Totals}
 use Rattle.sheet_types.specs.declared.receipt.Sums.{Sums}
 use Rattle.view_report.specs.Holders.{sum_cells}
 use Rattle.view_report.specs.Pieces.{name_text, swatch_text}
-use Rattle.view_report.specs.Registers.{number_of}
 use Rattle.view_report.specs.declared.registers.Live.{Live}
 use Rattle.view_report.specs.declared.registers.Register.{Register}
 
@@ -24,8 +23,8 @@ held_row s = codes "<tr class=\"sum\"><th scope=\"row\">held</th>" ++ (sum_cells
 -- by what came to the package and what left it
 abbrev pub account_text : Register → Live → Flow → List ℕ
 account_text r p flow =
-    codes "<tbody>\n<tr class=\"name\"><th scope=\"rowgroup\" colspan=\"6\">" ++ (swatch_text (number_of r.packages.items p.loan)
-    ++ (codes "<b>" ++ (name_text r.names.items p.uuid ++ (codes "</b></th></tr>\n"
+    codes "<tbody>\n<tr class=\"name\"><th scope=\"rowgroup\" colspan=\"6\">" ++ (swatch_text p.number
+    ++ (codes "<b>" ++ (name_text r.names p.uuid ++ (codes "</b></th></tr>\n"
     ++ (totals_row (codes "came in") flow.came ++ (totals_row (codes "went out") flow.left ++ held_row p.sums))))))
 
 -- the same by the receipts

@@ -11,7 +11,7 @@ use Rattle.view_map.specs.declared.layout.Layout.{Layout}
 use Rattle.view_report.specs.Escaping.{escaped}
 use Rattle.view_report.specs.Levels.{extent, inset_of, level_at, level_total, plus, scale_of, share, start, times}
 use Rattle.view_report.specs.Pieces.{class_text, name_text, pattern_of, place_text, plain_name, sums_text, swatch_text}
-use Rattle.view_report.specs.Registers.{live_of, name_of, number_of}
+use Rattle.view_report.specs.Registers.{live_of, name_of}
 use Rattle.view_report.specs.declared.words.TheConstants.{LEGEND_END, LEGEND_HEAD, MAP_HEAD}
 use Rattle.view_report.specs.declared.levels.Level.{Level}
 use Rattle.view_report.specs.declared.registers.About.{About}
@@ -49,8 +49,8 @@ sheet_title names t zoom column row =
 -- a sheet of a package, and of one that lives
 abbrev pub sheet_of : Register → Level → Thing → ℤ → ℤ → ℤ → Live → List ℕ
 sheet_of r l t zoom column row p =
-    link_text t.identity ++ (sheet_box l p (number_of r.packages.items p.loan) column row
-    ++ sheet_title r.names.items t zoom column row)
+    link_text t.identity ++ (sheet_box l p p.number column row
+    ++ sheet_title r.names t zoom column row)
 
 abbrev pub sheet_text : Register → Level → Thing → ℤ → ℤ → ℤ → List ℕ
 sheet_text r l t zoom column row = option_map_or (sheet_of r l t zoom column row) (live_of r.packages.items t.holder) []
@@ -83,8 +83,8 @@ unfoldable pub level_text : Register → Level → List ℕ
 level_text r l =
     codes "<svg class=\"l l" ++ (decimal l.index ++ (codes "\" viewBox=\"0 0 " ++ (sides_text l.layout 100 (codes " ")
     ++ (codes "\" preserveAspectRatio=\"none\">\n<defs>\n"
-    ++ (flat_map (λ p. pattern_link l (number_of r.packages.items p.loan)) r.packages.items ++ (codes "</defs>\n"
-    ++ (flat_map (sheet_if r l) r.things.items ++ codes "</svg>\n")))))))
+    ++ (flat_map (λ p. pattern_link l p.number) r.packages.items ++ (codes "</defs>\n"
+    ++ (flat_map (sheet_if r l) r.things ++ codes "</svg>\n")))))))
 
 abbrev pub level_if : Register → ℕ → ℕ → List ℕ
 level_if r total index = option_map_or (level_text r) (level_at r.frame total index) []
@@ -123,7 +123,7 @@ name_if names l t = name_about names l t.identity t.about
 
 -- those of the first zoom
 abbrev pub named_at : Register → ℕ → List ℕ
-named_at r total = option_map_or (λ l. flat_map (name_if r.names.items l) r.things.items) (level_at r.frame total 0) []
+named_at r total = option_map_or (λ l. flat_map (name_if r.names l) r.things) (level_at r.frame total 0) []
 
 -- ---- marks
 
@@ -139,7 +139,7 @@ mark_at r t n x y =
 
 abbrev pub mark_text : Register → Thing → ℕ → ℤ → List ℕ → List ℕ
 mark_text r t n code label =
-    codes " title=\"mark " ++ (signed_decimal code ++ (codes ", " ++ (plain_name r.names.items t.holder ++ (codes ", " ++ (escaped label
+    codes " title=\"mark " ++ (signed_decimal code ++ (codes ", " ++ (plain_name r.names t.holder ++ (codes ", " ++ (escaped label
     ++ (codes "\"><svg width=\"16\" height=\"16\" viewBox=\"-8 -8 16 16\" aria-hidden=\"true\"><use href=\"#k"
     ++ (decimal (pattern_of n) ++ codes "\"/></svg></a>\n")))))))
 
@@ -153,16 +153,16 @@ mark_of r t n (Medium content_type) = []
 
 -- an item, where it is a mark
 abbrev pub mark_if : Register → Thing → List ℕ
-mark_if r t = option_map_or (λ p. mark_of r t (number_of r.packages.items p.loan) t.about) (live_of r.packages.items t.holder) []
+mark_if r t = option_map_or (λ p. mark_of r t p.number t.about) (live_of r.packages.items t.holder) []
 
 -- ---- the legend, and all of it
 
 abbrev pub legend_row : Register → Live → List ℕ
 legend_row r p =
-    codes "<li>" ++ (swatch_text (number_of r.packages.items p.loan)
-    ++ (codes "<svg class=\"sw " ++ (class_text (number_of r.packages.items p.loan)
+    codes "<li>" ++ (swatch_text p.number
+    ++ (codes "<svg class=\"sw " ++ (class_text p.number
     ++ (codes "\" width=\"16\" height=\"16\" viewBox=\"-8 -8 16 16\" aria-hidden=\"true\"><use class=\"d\" href=\"#k"
-    ++ (decimal (pattern_of (number_of r.packages.items p.loan)) ++ (codes "\"/></svg><span>" ++ (name_text r.names.items p.uuid
+    ++ (decimal (pattern_of p.number) ++ (codes "\"/></svg><span>" ++ (name_text r.names p.uuid
     ++ (codes "<span>" ++ (sums_text p.sums.tiles 0 p.sums.rows 0 ++ codes "</span></span></li>\n")))))))))
 
 -- all things that a register has, with a legend of these packages
@@ -170,7 +170,7 @@ abbrev pub map_of : Register → List Live → List ℕ
 map_of r packages =
     MAP_HEAD.now ++ (sides_text (layout_of r.frame (default_zoom r.frame)) 1 (codes "/") ++ (codes "\">\n"
     ++ (levels_text r (level_total r.frame) (level_total r.frame) ++ (named_at r (level_total r.frame)
-    ++ (flat_map (mark_if r) r.things.items ++ (LEGEND_HEAD.now ++ (flat_map (legend_row r) packages ++ LEGEND_END.now)))))))
+    ++ (flat_map (mark_if r) r.things ++ (LEGEND_HEAD.now ++ (flat_map (legend_row r) packages ++ LEGEND_END.now)))))))
 
 abbrev pub map_section : Register → List ℕ
 map_section r = map_of r r.packages.items

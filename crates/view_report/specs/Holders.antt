@@ -6,7 +6,7 @@ use Rattle.sheet_types.specs.declared.receipt.Receipt.{Receipt}
 use Rattle.sheet_types.specs.declared.receipt.Sums.{Sums}
 use Rattle.view_report.specs.Escaping.{moment_text}
 use Rattle.view_report.specs.Pieces.{called, holder_text, receipt_text, short_text, sums_text, swatch_text}
-use Rattle.view_report.specs.Registers.{command_of, number_of, receipt_found}
+use Rattle.view_report.specs.Registers.{command_of, receipt_found}
 use Rattle.view_report.specs.declared.registers.Live.{Live}
 use Rattle.view_report.specs.declared.registers.Name.{Name}
 use Rattle.view_report.specs.declared.registers.Register.{Register}
@@ -43,8 +43,8 @@ lent_text r p =
 
 abbrev pub package_row : Register → Live → List ℕ
 package_row r p =
-    codes "<tr id=\"p-" ++ (uuid_text p.uuid ++ (codes "\"><th scope=\"row\">" ++ (swatch_text (number_of r.packages.items p.loan)
-    ++ (codes "<a href=\"#d-" ++ (uuid_text p.uuid ++ (codes "\">" ++ (full_name r.names.items p.uuid ++ (codes "</a></th>"
+    codes "<tr id=\"p-" ++ (uuid_text p.uuid ++ (codes "\"><th scope=\"row\">" ++ (swatch_text p.number
+    ++ (codes "<a href=\"#d-" ++ (uuid_text p.uuid ++ (codes "\">" ++ (full_name r.names p.uuid ++ (codes "</a></th>"
     ++ (sum_cells p.sums ++ lent_text r p)))))))))
 
 -- ---- loans that came home
@@ -54,9 +54,9 @@ is_merge x = bytes_eq (command_of x) (codes "merge")
 
 abbrev pub home_row : Register → Receipt → List ℕ → List ℕ
 home_row r x child =
-    codes "<tr id=\"p-" ++ (uuid_text child ++ (codes "\"><th scope=\"row\">" ++ (full_name r.names.items child
+    codes "<tr id=\"p-" ++ (uuid_text child ++ (codes "\"><th scope=\"row\">" ++ (full_name r.names child
     ++ (codes "</th><td data-l=\"home to\">" ++ (end_text r x.target (codes "&ndash;")
-    ++ (codes "</td><td class=\"t\" data-l=\"home\">" ++ (when_text r x.seq
+    ++ (codes "</td><td class=\"t\" data-l=\"home\">" ++ (dated_text r x x.seq
     ++ (codes "</td><td data-l=\"with\">" ++ (sums_text x.tiles x.media x.rows x.links ++ codes "</td></tr>\n")))))))))
 
 abbrev pub home_of : Register → Receipt → List ℕ → List ℕ

@@ -4,7 +4,6 @@ use Rattle.sheet_types.specs.Texts.{uuid_text}
 use Rattle.sheet_types.specs.declared.receipt.MovedKind.{MovedKind}
 use Rattle.sheet_types.specs.declared.receipt.MovedKind.TheVariants.{TileItem, MediaItem, RowItem, TilesMediaLink, RowsMediaLink, RowsTilesLink}
 use Rattle.view_report.specs.Pieces.{about_text, digest_text, name_text, short_text, sums_text, swatch_text, thing_text}
-use Rattle.view_report.specs.Registers.{number_of}
 use Rattle.view_report.specs.declared.words.TheConstants.{HOLDING_END, HOLDING_HEAD}
 use Rattle.view_report.specs.declared.registers.About.{About}
 use Rattle.view_report.specs.declared.registers.About.TheVariants.{Sheet, Medium, Mark}
@@ -29,7 +28,7 @@ thing_kind (Mark x y code label) = RowItem
 abbrev pub thing_row : Register → Thing → List ℕ
 thing_row r t =
     codes "<tr id=\"i-" ++ (uuid_text t.identity ++ (codes "\"><th scope=\"row\">" ++ (kind_word (thing_kind t.about) ++ (codes " "
-    ++ (about_text r.names.items t ++ (codes "</th><td>" ++ (short_text t.identity
+    ++ (about_text r.names t ++ (codes "</th><td>" ++ (short_text t.identity
     ++ (codes "</td><td class=\"n\" data-l=\"bytes\">" ++ (decimal t.size
     ++ (codes "</td><td>" ++ (digest_text t.fingerprint ++ codes "</td></tr>\n")))))))))))
 
@@ -50,6 +49,6 @@ tie_if r holder t = if bytes_eq t.holder holder then tie_row r t else []
 -- all that a package holds
 abbrev pub holding_text : Register → Live → List ℕ
 holding_text r p =
-    codes "<details id=\"d-" ++ (uuid_text p.uuid ++ (codes "\">\n<summary>" ++ (swatch_text (number_of r.packages.items p.loan)
-    ++ (codes "<b>" ++ (name_text r.names.items p.uuid ++ (codes "</b> " ++ (sums_text p.sums.tiles p.sums.media p.sums.rows p.sums.links
-    ++ (HOLDING_HEAD.now ++ (flat_map (thing_if r p.uuid) r.things.items ++ (flat_map (tie_if r p.uuid) r.ties.items ++ HOLDING_END.now))))))))))
+    codes "<details id=\"d-" ++ (uuid_text p.uuid ++ (codes "\">\n<summary>" ++ (swatch_text p.number
+    ++ (codes "<b>" ++ (name_text r.names p.uuid ++ (codes "</b> " ++ (sums_text p.sums.tiles p.sums.media p.sums.rows p.sums.links
+    ++ (HOLDING_HEAD.now ++ (flat_map (thing_if r p.uuid) r.things ++ (flat_map (tie_if r p.uuid) r.ties.items ++ HOLDING_END.now))))))))))

@@ -1,5 +1,6 @@
 pub mod Escaping
 pub mod Registers
+pub mod Places
 pub mod Pieces
 pub mod Levels
 pub mod Drawing

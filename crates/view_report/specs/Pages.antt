@@ -10,19 +10,18 @@ use Rattle.view_report.specs.Holdings.{holding_text}
 use Rattle.view_report.specs.Ledgers.{ledger_digest, raw_if, receipt_if}
 use Rattle.view_report.specs.Patterns.{pattern_row}
 use Rattle.view_report.specs.Pieces.{plain_name}
-use Rattle.view_report.specs.Registers.{number_of}
 use Rattle.view_report.specs.declared.style.TheConstants.{STYLE}
 use Rattle.view_report.specs.declared.words.TheConstants.{ACCOUNT_HEAD, BODY, CHECK, HEAD, HOLDERS_HEAD, HOLDINGS_HEAD, HOMES_HEAD, LEDGER_HEAD, NAVIGATION, RAW_HEAD, SHAPES, TABLE_END, VERDICT}
 use Rattle.view_report.specs.declared.registers.Register.{Register}
 
 abbrev pub title_text : Register → List ℕ
-title_text r = plain_name r.names.items r.archive
+title_text r = plain_name r.names r.archive
 
 abbrev pub head_text : Register → List ℕ
 head_text r =
     HEAD.now ++ (title_text r ++ (STYLE.now ++ (BODY.now ++ (title_text r ++ (codes "</h1>\n<p class=\"lead\">Archive <code>"
     ++ (uuid_text r.archive ++ (codes "</code>, as of receipt " ++ (decimal (length r.receipts.items) ++ (codes ".</p>\n"
-    ++ (NAVIGATION.now ++ (flat_map (λ p. pattern_row (number_of r.packages.items p.loan)) r.packages.items ++ SHAPES.now)))))))))))
+    ++ (NAVIGATION.now ++ (flat_map (λ p. pattern_row p.number) r.packages.items ++ SHAPES.now)))))))))))
 
 -- with the digest of the ledger
 abbrev pub verdict_section : Register → List ℕ → List ℕ

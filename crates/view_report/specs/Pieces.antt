@@ -5,7 +5,7 @@ use Rattle.std.specs.Option.{option_map_or}
 use Rattle.hex.specs.Hex.{encode_lower}
 use Rattle.sheet_types.specs.Texts.{uuid_text}
 use Rattle.view_report.specs.Escaping.{escaped}
-use Rattle.view_report.specs.Registers.{live_of, name_of, number_of, thing_found}
+use Rattle.view_report.specs.Registers.{live_of, name_of, thing_found}
 use Rattle.view_report.specs.declared.registers.About.{About}
 use Rattle.view_report.specs.declared.registers.About.TheVariants.{Sheet, Medium, Mark}
 use Rattle.view_report.specs.declared.registers.Name.{Name}
@@ -53,12 +53,12 @@ swatch_text n =
 
 -- the class of a package: its colour while it lives
 abbrev pub holder_class : Register → List ℕ → List ℕ
-holder_class r id = option_map_or (λ p. class_text (number_of r.packages.items p.loan)) (live_of r.packages.items id) (codes "g")
+holder_class r id = option_map_or (λ p. class_text p.number) (live_of r.packages.items id) (codes "g")
 
 abbrev pub holder_text : Register → List ℕ → List ℕ
 holder_text r id =
     codes "<a class=\"h " ++ (holder_class r id ++ (codes "\" href=\"#p-" ++ (uuid_text id
-    ++ (codes "\">" ++ (name_text r.names.items id ++ codes "</a>")))))
+    ++ (codes "\">" ++ (name_text r.names id ++ codes "</a>")))))
 
 -- ---- receipts
 
@@ -117,4 +117,4 @@ found_text names id t = codes "<a href=\"#i-" ++ (uuid_text id ++ (codes "\">" +
 
 -- an item that a receipt or a link names: told where a package holds it
 abbrev pub thing_text : Register → List ℕ → List ℕ
-thing_text r id = option_map_or (found_text r.names.items id) (thing_found r.things.items id) (short_text id)
+thing_text r id = option_map_or (found_text r.names id) (thing_found r.things id) (short_text id)

@@ -1,5 +1,5 @@
 -- What a page tells of, and how it is looked up. Profile.
-use Rattle.std.specs.Prelude.{ℕ, ◌==◌, nat_lt, List, Option, count_by, find}
+use Rattle.std.specs.Prelude.{ℕ, ◌==◌, ◌&&◌, nat_le, Bool, bytes_eq, List, Option, codes, count_by, find}
 use Rattle.std.specs.List.{before_first}
 use Rattle.sheet_types.specs.Ordered.{entry}
 use Rattle.sheet_types.specs.Texts.{fingerprint, size}
@@ -33,13 +33,16 @@ live_of packages id = entry (λ p. p.uuid) id packages
 abbrev pub thing_found : List Thing → List ℕ → Option Thing
 thing_found things id = entry (λ t. t.identity) id things
 
--- how many packages were lent before a receipt
-abbrev pub number_of : List Live → ℕ → ℕ
-number_of packages loan = count_by (λ p. nat_lt p.loan loan) packages
-
 -- the receipt of a number, and the command of one: the first word of its line
 abbrev pub receipt_found : List Receipt → ℕ → Option Receipt
 receipt_found receipts seq = find (λ r. r.seq == seq) receipts
 
 abbrev pub command_of : Receipt → List ℕ
 command_of r = before_first (λ c. c == 32) r.line
+
+-- How many splits there were up to a receipt. So a loan keeps its number as long as it lives, and the archive has 0.
+abbrev pub is_split_until : ℕ → Receipt → Bool
+is_split_until seq r = nat_le r.seq seq && bytes_eq (command_of r) (codes "split")
+
+abbrev pub number_of : List Receipt → ℕ → ℕ
+number_of receipts loan = count_by (is_split_until loan) receipts

@@ -5,7 +5,7 @@ ghost use Rattle.view_report.specs.Accounts.{account_of, account_text, held_row,
 
 use crate::holders::put_sum_cells;
 use crate::pieces::{put, put_name, put_swatch, put_total};
-use crate::registers::{Live, Register, number_of};
+use crate::registers::{Live, Register};
 use sheet_ledger::flows::{Flow, Totals, flow_of};
 use sheet_types::receipt::Sums;
 use std::alloc::AllocError;
@@ -65,7 +65,7 @@ pub fn put_account(
         text,
         "<tbody>\n<tr class=\"name\"><th scope=\"rowgroup\" colspan=\"6\">",
     )?;
-    put_swatch(text, number_of(&register.packages, live.loan))?;
+    put_swatch(text, live.number)?;
     put(text, "<b>")?;
     put_name(text, &register.names, live.uuid)?;
     put(text, "</b></th></tr>\n")?;

@@ -4,18 +4,18 @@ ghost use Rattle.view_map.specs.Layout.{layout_of};
 ghost use Rattle.view_map.specs.Zooms.{default_zoom};
 ghost use Rattle.view_report.specs.Levels.{extent, inset_of, plus, share, start};
 ghost use Rattle.sheet_types.specs.Matrix.{is_good_frame};
-ghost use Rattle.view_report.specs.Registers.{number_of};
 ghost use Rattle.view_report.specs.Drawing.{also_named, layer_of, legend_row, level_if, level_text, levels_text, link_text, map_of, mark_at, mark_if, mark_of, mark_place, mark_text, name_at, name_if, name_in, named_at, named_text, names_text, pattern_link, sheet_at, sheet_box, sheet_if, sheet_of, sheet_text, sheet_title, sides_text, style_text, whole_mark};
 
 use crate::escaping::put_escaped;
 use crate::levels::{
     Level, extent, inset_of, level_at, level_total, plus, scale_of, share, start, times,
 };
+use crate::lists::Names;
 use crate::pieces::{
     pattern_of, put, put_class, put_count, put_name, put_place, put_plain_name, put_signed,
     put_sums, put_swatch, put_uuid,
 };
-use crate::registers::{About, Live, Name, Register, Thing, live_of, name_of, number_of};
+use crate::registers::{About, Live, Name, Register, Thing, live_of, name_of};
 use crate::words::{LEGEND_END, LEGEND_HEAD, MAP_HEAD};
 use sheet_types::frame::Frame;
 use std::alloc::AllocError;
@@ -77,7 +77,11 @@ fn height_of(level: &Level, layer: u64) -> u64
 }
 
 /// Puts the rectangle of a sheet of the holder of this number.
-fn put_box(
+///
+/// # Errors
+///
+/// Want of memory.
+pub fn put_box(
     text: &mut String,
     level: &Level,
     live: &Live,
@@ -107,7 +111,11 @@ fn put_box(
 }
 
 /// Puts the name of a sheet behind other words, where it has one.
-fn put_also_named(text: &mut String, names: &[Name], id: Uuid) -> Result<(), AllocError>
+///
+/// # Errors
+///
+/// Want of memory.
+pub fn put_also_named(text: &mut String, names: &Names, id: Uuid) -> Result<(), AllocError>
     ensures { IfOk result (λ _. string_bytes text.new ≡ string_bytes text.old ++ also_named names.now id) }
 {
     match name_of(names, id) {
@@ -122,7 +130,7 @@ fn put_also_named(text: &mut String, names: &[Name], id: Uuid) -> Result<(), All
 /// Puts what is read where one points at a sheet.
 fn put_title(
     text: &mut String,
-    names: &[Name],
+    names: &Names,
     thing: &Thing,
     zoom: i64,
     column: i64,
@@ -151,7 +159,7 @@ fn put_sheet_of(
 ) -> Result<(), AllocError>
     ensures { IfOk result (λ _. string_bytes text.new ≡ string_bytes text.old ++ sheet_of register.now level.now thing.now zoom column row live.now) }
 {
-    let number = number_of(&register.packages, live.loan);
+    let number = live.number;
     put_link(text, thing.identity)?;
     put_box(text, level, live, number, column, row)?;
     put_title(text, &register.names, thing, zoom, column, row)?;
@@ -244,22 +252,34 @@ fn put_pattern_link(text: &mut String, level: &Level, number: usize) -> Result<(
 }
 
 /// Puts those of all holders.
-fn put_pattern_links(
+///
+/// # Errors
+///
+/// Want of memory.
+pub fn put_pattern_links(
     text: &mut String,
-    all: &[Live],
     level: &Level,
     packages: &[Live],
 ) -> Result<(), AllocError>
-    ensures { IfOk result (λ _. string_bytes text.new ≡ string_bytes text.old ++ flat_map (λ p. pattern_link level.now (number_of all.now p.loan)) packages.now) }
+    ensures { IfOk result (λ _. string_bytes text.new ≡ string_bytes text.old ++ flat_map (λ p. pattern_link level.now p.number) packages.now) }
 {
     for live in packages {
-        put_pattern_link(text, level, number_of(all, live.loan))?;
+        put_pattern_link(text, level, live.number)?;
     }
     Ok(())
 }
 
 /// Puts the two sides of a map, with this between them.
-fn put_sides(text: &mut String, layout: &Layout, by: u64, between: &str) -> Result<(), AllocError>
+///
+/// # Errors
+///
+/// Want of memory.
+pub fn put_sides(
+    text: &mut String,
+    layout: &Layout,
+    by: u64,
+    between: &str,
+) -> Result<(), AllocError>
     ensures { IfOk result (λ _. string_bytes text.new ≡ string_bytes text.old ++ sides_text layout.now by between.now) }
 {
     put_count(text, times(by, times(layout.columns, layout.width)))?;
@@ -277,9 +297,9 @@ fn put_level(text: &mut String, register: &Register, level: &Level) -> Result<()
     put(text, "\" viewBox=\"0 0 ")?;
     put_sides(text, &level.layout, 100, " ")?;
     put(text, "\" preserveAspectRatio=\"none\">\n<defs>\n")?;
-    put_pattern_links(text, &register.packages, level, &register.packages)?;
+    put_pattern_links(text, level, &register.packages)?;
     put(text, "</defs>\n")?;
-    put_sheets(text, register, level, &register.things)?;
+    put_sheets(text, register, level, register.things.as_slice())?;
     put(text, "</svg>\n")?;
     Ok(())
 }
@@ -324,14 +344,14 @@ fn put_style(text: &mut String, left: u64, top: u64) -> Result<(), AllocError>
 }
 
 /// Where the name of a sheet stands from the left.
-fn column_share(layout: &Layout, column: i64) -> u64
+pub fn column_share(layout: &Layout, column: i64) -> u64
     ensures { result ≡ share (unsigned_abs column) layout.now.columns }
 {
     share(column.unsigned_abs(), layout.columns)
 }
 
 /// Where it stands from the top: at the lower side of the sheet.
-fn row_share(layout: &Layout, row: i64) -> u64
+pub fn row_share(layout: &Layout, row: i64) -> u64
     ensures { result ≡ share (plus (unsigned_abs row) 1) layout.now.rows }
 {
     share(plus(row.unsigned_abs(), 1), layout.rows)
@@ -352,7 +372,7 @@ fn put_named(text: &mut String, name: &Name, left: u64, top: u64) -> Result<(), 
 /// Puts it, if the sheet has one.
 fn put_name_of(
     text: &mut String,
-    names: &[Name],
+    names: &Names,
     id: Uuid,
     left: u64,
     top: u64,
@@ -368,7 +388,7 @@ fn put_name_of(
 /// Puts it where the sheet stands.
 fn put_name_in(
     text: &mut String,
-    names: &[Name],
+    names: &Names,
     layout: &Layout,
     id: Uuid,
     column: i64,
@@ -385,7 +405,7 @@ fn put_name_in(
 /// Puts it, if the sheet is one of this zoom.
 fn put_name_at(
     text: &mut String,
-    names: &[Name],
+    names: &Names,
     level: &Level,
     id: Uuid,
     zoom: i64,
@@ -404,7 +424,7 @@ fn put_name_at(
 /// Puts the name of an item, if it is a sheet of this zoom and has one.
 fn put_name_if(
     text: &mut String,
-    names: &[Name],
+    names: &Names,
     level: &Level,
     thing: &Thing,
 ) -> Result<(), AllocError>
@@ -421,7 +441,7 @@ fn put_name_if(
 /// Puts the names of the sheets of a zoom.
 fn put_names(
     text: &mut String,
-    names: &[Name],
+    names: &Names,
     level: &Level,
     things: &[Thing],
 ) -> Result<(), AllocError>
@@ -434,14 +454,14 @@ fn put_names(
 }
 
 /// Where a point stands from the left of the map.
-fn x_share(frame: &Frame, x: i64) -> u64
+pub fn x_share(frame: &Frame, x: i64) -> u64
     ensures { result ≡ share (unsigned_abs (x -ℤ frame.now.min_x)) (unsigned_abs (frame.now.max_x -ℤ frame.now.min_x)) }
 {
     share(x.abs_diff(frame.min_x), frame.max_x.abs_diff(frame.min_x))
 }
 
 /// Where it stands from the top.
-fn y_share(frame: &Frame, y: i64) -> u64
+pub fn y_share(frame: &Frame, y: i64) -> u64
     ensures { result ≡ share (unsigned_abs (frame.now.max_y -ℤ y)) (unsigned_abs (frame.now.max_y -ℤ frame.now.min_y)) }
 {
     share(frame.max_y.abs_diff(y), frame.max_y.abs_diff(frame.min_y))
@@ -550,12 +570,7 @@ fn put_mark_if(text: &mut String, register: &Register, thing: &Thing) -> Result<
     ensures { IfOk result (λ _. string_bytes text.new ≡ string_bytes text.old ++ mark_if register.now thing.now) }
 {
     match live_of(&register.packages, thing.holder) {
-        Some(live) => put_mark_of(
-            text,
-            register,
-            thing,
-            number_of(&register.packages, live.loan),
-        ),
+        Some(live) => put_mark_of(text, register, thing, live.number),
         None => Ok(()),
     }
 }
@@ -574,7 +589,7 @@ fn put_marks(text: &mut String, register: &Register, things: &[Thing]) -> Result
 fn put_legend(text: &mut String, register: &Register, live: &Live) -> Result<(), AllocError>
     ensures { IfOk result (λ _. string_bytes text.new ≡ string_bytes text.old ++ legend_row register.now live.now) }
 {
-    let number = number_of(&register.packages, live.loan);
+    let number = live.number;
     put(text, "<li>")?;
     put_swatch(text, number)?;
     put(text, "<svg class=\"sw ")?;
@@ -608,13 +623,13 @@ fn put_first_names(text: &mut String, register: &Register, total: u64) -> Result
     ensures { IfOk result (λ _. string_bytes text.new ≡ string_bytes text.old ++ named_at register.now total) }
 {
     match level_at(&register.frame, total, 0) {
-        Some(level) => put_names(text, &register.names, &level, &register.things),
+        Some(level) => put_names(text, &register.names, &level, register.things.as_slice()),
         None => Ok(()),
     }
 }
 
 /// The layout of the finest zoom that is drawn.
-fn finest_of(frame: &Frame) -> Layout
+pub fn finest_of(frame: &Frame) -> Layout
     requires { IsTrue (is_good_frame frame.now) }
     ensures { result ≡ layout_of frame.now (default_zoom frame.now) }
 {
@@ -637,7 +652,7 @@ pub fn put_map(text: &mut String, register: &Register, packages: &[Live]) -> Res
     put(text, "\">\n")?;
     put_levels(text, register, total)?;
     put_first_names(text, register, total)?;
-    put_marks(text, register, &register.things)?;
+    put_marks(text, register, register.things.as_slice())?;
     put(text, LEGEND_HEAD)?;
     put_legends(text, register, packages)?;
     put(text, LEGEND_END)?;

@@ -4,16 +4,17 @@ ghost use Rattle.std.specs.List.{list_any};
 ghost use Rattle.view_report.specs.Holders.{cell_text, dated_text, end_text, full_name, home_if, home_of, home_row, is_merge, lent_text, package_row, sum_cells, when_text};
 
 use crate::escaping::put_moment;
+use crate::lists::Names;
 use crate::pieces::{
     put, put_called, put_count, put_holder, put_receipt, put_short, put_sums, put_swatch, put_uuid,
 };
-use crate::registers::{Live, Name, Register, command_of, number_of, receipt_found};
+use crate::registers::{Live, Register, command_of, receipt_found};
 use sheet_types::receipt::{Receipt, Sums};
 use std::alloc::AllocError;
 use uuid::Uuid;
 
 /// Puts what people call a package, and its UUID.
-pub(crate) fn put_full_name(text: &mut String, names: &[Name], id: Uuid) -> Result<(), AllocError>
+pub(crate) fn put_full_name(text: &mut String, names: &Names, id: Uuid) -> Result<(), AllocError>
     ensures { IfOk result (λ _. string_bytes text.new ≡ string_bytes text.old ++ full_name names.now id) }
 {
     put_called(text, names, id)?;
@@ -110,7 +111,7 @@ fn put_package(text: &mut String, register: &Register, live: &Live) -> Result<()
     put(text, "<tr id=\"p-")?;
     put_uuid(text, live.uuid)?;
     put(text, "\"><th scope=\"row\">")?;
-    put_swatch(text, number_of(&register.packages, live.loan))?;
+    put_swatch(text, live.number)?;
     put(text, "<a href=\"#d-")?;
     put_uuid(text, live.uuid)?;
     put(text, "\">")?;
@@ -165,7 +166,7 @@ fn put_home(
     put(text, "</th><td data-l=\"home to\">")?;
     put_end(text, register, receipt.target, "&ndash;")?;
     put(text, "</td><td class=\"t\" data-l=\"home\">")?;
-    put_when(text, register, receipt.seq)?;
+    put_dated(text, register, receipt, receipt.seq)?;
     put(text, "</td><td data-l=\"with\">")?;
     put_sums(
         text,

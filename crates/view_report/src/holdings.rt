@@ -6,7 +6,7 @@ use crate::pieces::{
     put, put_about, put_count, put_digest, put_name, put_short, put_sums, put_swatch, put_thing,
     put_uuid,
 };
-use crate::registers::{About, Live, Register, Thing, Tie, is_same, number_of};
+use crate::registers::{About, Live, Register, Thing, Tie, is_same};
 use crate::words::{HOLDING_END, HOLDING_HEAD};
 use sheet_types::receipt::MovedKind;
 use std::alloc::AllocError;
@@ -161,7 +161,7 @@ fn put_holding(text: &mut String, register: &Register, live: &Live) -> Result<()
     put(text, "<details id=\"d-")?;
     put_uuid(text, live.uuid)?;
     put(text, "\">\n<summary>")?;
-    put_swatch(text, number_of(&register.packages, live.loan))?;
+    put_swatch(text, live.number)?;
     put(text, "<b>")?;
     put_name(text, &register.names, live.uuid)?;
     put(text, "</b> ")?;
@@ -173,7 +173,7 @@ fn put_holding(text: &mut String, register: &Register, live: &Live) -> Result<()
         live.sums.links,
     )?;
     put(text, HOLDING_HEAD)?;
-    put_items(text, register, live.uuid, &register.things)?;
+    put_items(text, register, live.uuid, register.things.as_slice())?;
     put_ties(text, register, live.uuid, &register.ties)?;
     put(text, HOLDING_END)?;
     Ok(())

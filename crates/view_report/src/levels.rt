@@ -21,21 +21,21 @@ pub struct Level {
 }
 
 /// A product of two numbers, within 64 bits.
-pub(crate) fn times(a: u64, b: u64) -> u64
+pub fn times(a: u64, b: u64) -> u64
     ensures { result ≡ times a b }
 {
     a.saturating_mul(b)
 }
 
 /// A sum of two numbers, within 64 bits.
-pub(crate) fn plus(a: u64, b: u64) -> u64
+pub fn plus(a: u64, b: u64) -> u64
     ensures { result ≡ plus a b }
 {
     a.saturating_add(b)
 }
 
 /// A part of a whole in ten-thousandths.
-pub(crate) fn share(part: u64, whole: u64) -> u64
+pub fn share(part: u64, whole: u64) -> u64
     ensures { result ≡ share part whole }
 {
     if whole == 0 {
@@ -90,7 +90,7 @@ pub(crate) fn scale_of(layout: &Layout) -> u64
 }
 
 /// How many zooms are drawn: from the first to the finest with at most 10,000 places.
-pub(crate) fn level_total(frame: &Frame) -> u64
+pub fn level_total(frame: &Frame) -> u64
     requires { IsTrue (is_good_frame frame.now) }
     ensures { result ≡ level_total frame.now }
 {
@@ -112,7 +112,7 @@ fn level_of(frame: &Frame, total: u64, index: u64, zoom: i64) -> Level
 }
 
 /// The zoom with so many coarser ones, of so many that are drawn.
-pub(crate) fn level_at(frame: &Frame, total: u64, index: u64) -> Option<Level>
+pub fn level_at(frame: &Frame, total: u64, index: u64) -> Option<Level>
     requires { IsTrue (is_good_frame frame.now) }
     ensures { result ≡ level_at frame.now total index }
 {

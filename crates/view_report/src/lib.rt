@@ -9,6 +9,7 @@ pub mod holders;
 pub mod holdings;
 pub mod ledgers;
 pub mod levels;
+pub mod lists;
 pub mod pages;
 pub mod patterns;
 pub mod pieces;

@@ -51,7 +51,7 @@ fn put_head(text: &mut String, register: &Register) -> Result<(), AllocError>
     put_count(text, receipt_count(register))?;
     put(text, ".</p>\n")?;
     put(text, NAVIGATION)?;
-    put_patterns(text, &register.packages, &register.packages)?;
+    put_patterns(text, &register.packages)?;
     put(text, SHAPES)?;
     Ok(())
 }

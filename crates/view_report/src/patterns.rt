@@ -1,10 +1,9 @@
 //! The patterns of holders, which a map and its legend show (SVG 1.1).
 ghost use Rattle.std.specs.Prelude.{◌≡◌, ◌++◌, IfOk, flat_map, string_bytes};
 ghost use Rattle.view_report.specs.Patterns.{lines_of, pattern_row};
-ghost use Rattle.view_report.specs.Registers.{number_of};
 
 use crate::pieces::{pattern_of, put, put_class, put_count};
-use crate::registers::{Live, number_of};
+use crate::registers::Live;
 use std::alloc::AllocError;
 
 /// The lines of a pattern, on a square of 8 units; the archive's has none.
@@ -40,16 +39,16 @@ fn put_pattern(text: &mut String, number: usize) -> Result<(), AllocError>
     Ok(())
 }
 
-/// Puts the patterns of these packages, of all packages.
+/// Puts the patterns of these packages.
 ///
 /// # Errors
 ///
 /// Want of memory.
-pub fn put_patterns(text: &mut String, all: &[Live], packages: &[Live]) -> Result<(), AllocError>
-    ensures { IfOk result (λ _. string_bytes text.new ≡ string_bytes text.old ++ flat_map (λ p. pattern_row (number_of all.now p.loan)) packages.now) }
+pub fn put_patterns(text: &mut String, packages: &[Live]) -> Result<(), AllocError>
+    ensures { IfOk result (λ _. string_bytes text.new ≡ string_bytes text.old ++ flat_map (λ p. pattern_row p.number) packages.now) }
 {
     for live in packages {
-        put_pattern(text, number_of(all, live.loan))?;
+        put_pattern(text, live.number)?;
     }
     Ok(())
 }

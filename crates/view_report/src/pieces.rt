@@ -6,7 +6,8 @@ ghost use Rattle.sheet_types.specs.Texts.{uuid_text};
 ghost use Rattle.view_report.specs.Pieces.{about_text, amount_text, called, class_text, colour_of, digest_text, first_shown, found_text, holder_class, holder_text, label_text, mark_text, name_text, pattern_of, place_text, plain_name, receipt_text, sheet_text, short_text, some_text, sums_text, swatch_text, thing_text, word_of};
 
 use crate::escaping::put_escaped;
-use crate::registers::{About, Name, Register, Thing, live_of, name_of, number_of, thing_found};
+use crate::lists::Names;
+use crate::registers::{About, Register, Thing, live_of, name_of, thing_found};
 use itoa::Buffer;
 use sheet_types::fingerprints::spell;
 use std::alloc::AllocError;
@@ -40,7 +41,11 @@ pub fn put_count(text: &mut String, number: u64) -> Result<(), AllocError>
 }
 
 /// Puts a number that may be negative.
-pub(crate) fn put_signed(text: &mut String, number: i64) -> Result<(), AllocError>
+///
+/// # Errors
+///
+/// Want of memory.
+pub fn put_signed(text: &mut String, number: i64) -> Result<(), AllocError>
     ensures { IfOk result (λ _. string_bytes text.new ≡ string_bytes text.old ++ signed_decimal number) }
 {
     let mut digits = Buffer::new();
@@ -113,7 +118,7 @@ pub(crate) fn put_label(text: &mut String, label: &str) -> Result<(), AllocError
 /// # Errors
 ///
 /// Want of memory.
-pub fn put_name(text: &mut String, names: &[Name], id: Uuid) -> Result<(), AllocError>
+pub fn put_name(text: &mut String, names: &Names, id: Uuid) -> Result<(), AllocError>
     ensures { IfOk result (λ _. string_bytes text.new ≡ string_bytes text.old ++ name_text names.now id) }
 {
     match name_of(names, id) {
@@ -127,7 +132,7 @@ pub fn put_name(text: &mut String, names: &[Name], id: Uuid) -> Result<(), Alloc
 /// # Errors
 ///
 /// Want of memory.
-pub fn put_plain_name(text: &mut String, names: &[Name], id: Uuid) -> Result<(), AllocError>
+pub fn put_plain_name(text: &mut String, names: &Names, id: Uuid) -> Result<(), AllocError>
     ensures { IfOk result (λ _. string_bytes text.new ≡ string_bytes text.old ++ plain_name names.now id) }
 {
     match name_of(names, id) {
@@ -148,7 +153,7 @@ pub(crate) fn colour_of(number: usize) -> u64
 }
 
 /// Its pattern and its shape: the archive's, and seven in turn.
-pub(crate) fn pattern_of(number: usize) -> u64
+pub fn pattern_of(number: usize) -> u64
     ensures { result ≡ pattern_of number }
 {
     if number == 0 {
@@ -159,7 +164,11 @@ pub(crate) fn pattern_of(number: usize) -> u64
 }
 
 /// Puts the class of a holder's colour.
-pub(crate) fn put_class(text: &mut String, number: usize) -> Result<(), AllocError>
+///
+/// # Errors
+///
+/// Want of memory.
+pub fn put_class(text: &mut String, number: usize) -> Result<(), AllocError>
     ensures { IfOk result (λ _. string_bytes text.new ≡ string_bytes text.old ++ class_text number) }
 {
     put(text, "c")?;
@@ -191,7 +200,7 @@ pub fn put_holder_class(text: &mut String, register: &Register, id: Uuid) -> Res
     ensures { IfOk result (λ _. string_bytes text.new ≡ string_bytes text.old ++ holder_class register.now id) }
 {
     match live_of(&register.packages, id) {
-        Some(live) => put_class(text, number_of(&register.packages, live.loan)),
+        Some(live) => put_class(text, live.number),
         None => put(text, "g"),
     }
 }
@@ -236,7 +245,7 @@ pub(crate) fn put_receipt(
 }
 
 /// The word for one of something, or for another number.
-fn word_of<'t>(number: u64, one: &'t str, many: &'t str) -> &'t str
+pub fn word_of<'t>(number: u64, one: &'t str, many: &'t str) -> &'t str
     ensures { result.now ≡ word_of number one.now many.now }
 {
     if number == 1 { one } else { many }
@@ -290,7 +299,7 @@ pub fn put_sums(
 /// # Errors
 ///
 /// Want of memory.
-pub fn put_called(text: &mut String, names: &[Name], id: Uuid) -> Result<(), AllocError>
+pub fn put_called(text: &mut String, names: &Names, id: Uuid) -> Result<(), AllocError>
     ensures { IfOk result (λ _. string_bytes text.new ≡ string_bytes text.old ++ called names.now id) }
 {
     match name_of(names, id) {
@@ -303,12 +312,11 @@ pub fn put_called(text: &mut String, names: &[Name], id: Uuid) -> Result<(), All
 }
 
 /// Puts the place of a sheet.
-pub(crate) fn put_place(
-    text: &mut String,
-    zoom: i64,
-    column: i64,
-    row: i64,
-) -> Result<(), AllocError>
+///
+/// # Errors
+///
+/// Want of memory.
+pub fn put_place(text: &mut String, zoom: i64, column: i64, row: i64) -> Result<(), AllocError>
     ensures { IfOk result (λ _. string_bytes text.new ≡ string_bytes text.old ++ place_text zoom column row) }
 {
     put_signed(text, zoom)?;
@@ -332,7 +340,7 @@ fn put_mark(text: &mut String, code: i64, label: &str) -> Result<(), AllocError>
 /// Puts a sheet in a few words.
 fn put_sheet(
     text: &mut String,
-    names: &[Name],
+    names: &Names,
     id: Uuid,
     zoom: i64,
     column: i64,
@@ -350,7 +358,7 @@ fn put_sheet(
 /// # Errors
 ///
 /// Want of memory.
-pub fn put_about(text: &mut String, names: &[Name], thing: &Thing) -> Result<(), AllocError>
+pub fn put_about(text: &mut String, names: &Names, thing: &Thing) -> Result<(), AllocError>
     ensures { IfOk result (λ _. string_bytes text.new ≡ string_bytes text.old ++ about_text names.now thing.now) }
 {
     match &thing.about {
@@ -363,7 +371,7 @@ pub fn put_about(text: &mut String, names: &[Name], thing: &Thing) -> Result<(),
 }
 
 /// Puts an item as a link that leads to its row.
-fn put_found(text: &mut String, names: &[Name], id: Uuid, thing: &Thing) -> Result<(), AllocError>
+fn put_found(text: &mut String, names: &Names, id: Uuid, thing: &Thing) -> Result<(), AllocError>
     ensures { IfOk result (λ _. string_bytes text.new ≡ string_bytes text.old ++ found_text names.now id thing.now) }
 {
     put(text, "<a href=\"#i-")?;

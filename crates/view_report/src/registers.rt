@@ -1,8 +1,9 @@
 //! What a page tells of: the live packages, the things and links that they hold, the receipts, and names.
 ghost use Rattle.std.specs.Prelude.{◌≡◌, IfOk, bytes_eq, option_map};
 ghost use Rattle.sheet_types.specs.Custody.{ends_at};
-ghost use Rattle.view_report.specs.Registers.{about_of, command_of, live_of, name_of, number_of, receipt_found, thing_found, thing_of};
+ghost use Rattle.view_report.specs.Registers.{about_of, command_of, is_split_until, live_of, name_of, number_of, receipt_found, thing_found, thing_of};
 
+use crate::lists::{Names, Things};
 use sheet_types::collections::Text;
 use sheet_types::command::{Content, Item};
 use sheet_types::error::OutOfMemory;
@@ -22,6 +23,8 @@ pub struct Live {
     pub depth: u64,
     /// The number of the receipt of the split that made it, 0 of the archive.
     pub loan: u64,
+    /// How many splits there were up to that receipt: it has its colour and its pattern by this number, as long as it lives.
+    pub number: usize,
     /// The number of the last receipt that names it, 0 where none does.
     pub ticket: u64,
     /// What it holds.
@@ -82,10 +85,10 @@ pub struct Register {
     pub archive: Uuid,
     pub frame: Frame,
     pub packages: Vec<Live>,
-    pub things: Vec<Thing>,
+    pub things: Things,
     pub ties: Vec<Tie>,
     pub receipts: Vec<Receipt>,
-    pub names: Vec<Name>,
+    pub names: Names,
 }
 
 /// What an item is.
@@ -151,10 +154,10 @@ pub fn ends_at(end: Option<Uuid>, id: Uuid) -> bool
 }
 
 /// What people call a package or a sheet, if they do.
-pub(crate) fn name_of<'t>(names: &'t [Name], uuid: Uuid) -> Option<&'t Name>
+pub fn name_of<'t>(names: &'t Names, uuid: Uuid) -> Option<&'t Name>
     ensures { option_map (λ n. n.now) result ≡ name_of names.now uuid }
 {
-    names.iter().find(|name| is_same(name.uuid, uuid))
+    names.found(uuid)
 }
 
 /// The package of this UUID, if it lives.
@@ -165,12 +168,10 @@ pub fn live_of(packages: &[Live], uuid: Uuid) -> Option<&Live>
 }
 
 /// The item of this identity, if a package holds it.
-pub fn thing_found(things: &[Thing], identity: Uuid) -> Option<&Thing>
+pub fn thing_found(things: &Things, identity: Uuid) -> Option<&Thing>
     ensures { option_map (λ t. t.now) result ≡ thing_found things.now identity }
 {
-    things
-        .iter()
-        .find(|thing| is_same(thing.identity, identity))
+    things.found(identity)
 }
 
 /// The receipt of this number, if there is one.
@@ -191,12 +192,19 @@ pub fn command_of(receipt: &Receipt) -> &str
     }
 }
 
-/// How many packages were lent before this receipt: the number of a package, by which it has its colour.
-pub(crate) fn number_of(packages: &[Live], loan: u64) -> usize
-    ensures { result ≡ number_of packages.now loan }
+/// Whether a receipt is that of a split, and no later than this one.
+fn is_split_until(receipt: &Receipt, seq: u64) -> bool
+    ensures { result ≡ is_split_until seq receipt.now }
 {
-    packages
+    (receipt.seq <= seq) & (command_of(receipt) == "split")
+}
+
+/// How many splits there were up to this receipt. Of a loan, and the receipt that made it, that is its number, whichever loans came home since; of the archive it is 0.
+pub fn number_of(receipts: &[Receipt], loan: u64) -> usize
+    ensures { result ≡ number_of receipts.now loan }
+{
+    receipts
         .iter()
-        .filter(|package| package.loan < loan)
+        .filter(|receipt| is_split_until(receipt, loan))
         .count()
 }

@@ -104,7 +104,7 @@ pub(crate) const LEDGER_HEAD: &str = "</section>
 <h2 id=\"hl\">Ledger</h2>
 <p>Each accepted request left one receipt. A number is an anchor: <code>#r1</code> behind the address of this page leads to the first.</p>
 <table class=\"led cards\">
-<caption>The newest receipts, at most 2000, in order.</caption>
+<caption>The newest receipts, at most 2000, in order. <code>sheetdesk log FOLDER</code> lists all.</caption>
 <thead><tr><th scope=\"col\" class=\"n\">receipt</th><th scope=\"col\">moment (UTC)</th><th scope=\"col\">done</th><th scope=\"col\">what</th><th scope=\"col\">from &rarr; to</th><th scope=\"col\" class=\"n\">bytes</th><th scope=\"col\">request</th></tr></thead>
 <tbody>
 ";

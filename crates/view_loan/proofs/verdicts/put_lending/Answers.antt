@@ -4,9 +4,9 @@ use Rattle.view_loan.proofs.verdicts.put_lending.Goals as goal
 
 pub returns : goal.returns
 returns c =
-    onward (string_bytes c.args.text.now) _ _ (rw c.deref.ensures.value at c.in_ok-put_whole_name.ensures) (
+    onward (string_bytes c.args.text.now) _ _ c.in_ok-put_whole_name.ensures (
     onward (string_bytes c.put_whole_name.new.text) _ _ c.in_ok-put.ensures (
-    onward (string_bytes c.put.new.text) _ _ (rw c.deref-2.ensures.value at c.in_ok-put_whole_name-2.ensures) (
+    onward (string_bytes c.put.new.text) _ _ c.in_ok-put_whole_name-2.ensures (
     onward (string_bytes c.put_whole_name-2.new.text) _ _ c.in_ok-put-2.ensures (
     onward (string_bytes c.put-2.new.text) _ _ c.in_ok-put_when.ensures (
     onward (string_bytes c.put_when.new.text) _ _ c.in_ok-put-3.ensures (

@@ -5,12 +5,12 @@ use Rattle.view_report.proofs.drawing.put_legend.Goals as goal
 pub returns : goal.returns
 returns c =
     onward (string_bytes c.args.text.now) _ _ c.in_ok-put.ensures (
-    onward (string_bytes c.put.new.text) _ _ (rw (c.number_of-number.ensures, c.deref.ensures.value) at c.in_ok-put_swatch.ensures) (
+    onward (string_bytes c.put.new.text) _ _ c.in_ok-put_swatch.ensures (
     onward (string_bytes c.put_swatch.new.text) _ _ c.in_ok-put-2.ensures (
-    onward (string_bytes c.put-2.new.text) _ _ (rw (c.number_of-number.ensures, c.deref.ensures.value) at c.in_ok-put_class.ensures) (
+    onward (string_bytes c.put-2.new.text) _ _ c.in_ok-put_class.ensures (
     onward (string_bytes c.put_class.new.text) _ _ c.in_ok-put-3.ensures (
-    onward (string_bytes c.put-3.new.text) _ _ (rw (c.pattern_of.ensures, c.number_of-number.ensures, c.deref.ensures.value) at c.in_ok-put_count.ensures) (
+    onward (string_bytes c.put-3.new.text) _ _ (rw c.pattern_of.ensures at c.in_ok-put_count.ensures) (
     onward (string_bytes c.put_count.new.text) _ _ c.in_ok-put-4.ensures (
-    onward (string_bytes c.put-4.new.text) _ _ (rw c.deref-2.ensures.value at c.in_ok-put_name.ensures) (
+    onward (string_bytes c.put-4.new.text) _ _ c.in_ok-put_name.ensures (
     onward (string_bytes c.put_name.new.text) _ _ c.in_ok-put-5.ensures (
     onward (string_bytes c.put-5.new.text) _ _ c.in_ok-put_sums.ensures c.in_ok-put-6.ensures)))))))))

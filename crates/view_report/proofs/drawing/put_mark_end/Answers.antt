@@ -8,7 +8,7 @@ returns c =
     onward (string_bytes c.args.text.now) _ _ c.in_ok-put.ensures (
     onward (string_bytes c.put.new.text) _ _ (simp (to_z-of_z, c.ranges.code) at c.in_ok-put_signed.ensures) (
     onward (string_bytes c.put_signed.new.text) _ _ c.in_ok-put-2.ensures (
-    onward (string_bytes c.put-2.new.text) _ _ (rw c.deref.ensures.value at c.in_ok-put_plain_name.ensures) (
+    onward (string_bytes c.put-2.new.text) _ _ c.in_ok-put_plain_name.ensures (
     onward (string_bytes c.put_plain_name.new.text) _ _ c.in_ok-put-3.ensures (
     onward (string_bytes c.put-3.new.text) _ _ c.in_ok-put_escaped.ensures (
     onward (string_bytes c.put_escaped.new.text) _ _ c.in_ok-put-4.ensures (

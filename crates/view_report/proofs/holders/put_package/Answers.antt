@@ -7,10 +7,10 @@ returns c =
     onward (string_bytes c.args.text.now) _ _ c.in_ok-put.ensures (
     onward (string_bytes c.put.new.text) _ _ c.in_ok-put_uuid.ensures (
     onward (string_bytes c.put_uuid.new.text) _ _ c.in_ok-put-2.ensures (
-    onward (string_bytes c.put-2.new.text) _ _ (rw (c.number_of.ensures, c.deref.ensures.value) at c.in_ok-put_swatch.ensures) (
+    onward (string_bytes c.put-2.new.text) _ _ c.in_ok-put_swatch.ensures (
     onward (string_bytes c.put_swatch.new.text) _ _ c.in_ok-put-3.ensures (
     onward (string_bytes c.put-3.new.text) _ _ c.in_ok-put_uuid-2.ensures (
     onward (string_bytes c.put_uuid-2.new.text) _ _ c.in_ok-put-4.ensures (
-    onward (string_bytes c.put-4.new.text) _ _ (rw c.deref-2.ensures.value at c.in_ok-put_full_name.ensures) (
+    onward (string_bytes c.put-4.new.text) _ _ c.in_ok-put_full_name.ensures (
     onward (string_bytes c.put_full_name.new.text) _ _ c.in_ok-put-5.ensures (
     onward (string_bytes c.put-5.new.text) _ _ c.in_ok-put_sum_cells.ensures c.in_ok-put_lent.ensures)))))))))

@@ -5,14 +5,14 @@ use Rattle.view_report.proofs.pages.put_head.Goals as goal
 pub returns : goal.returns
 returns c =
     onward (string_bytes c.args.text.now) _ _ c.in_ok-put.ensures (
-    onward (string_bytes c.put.new.text) _ _ (rw c.deref.ensures.value at c.in_ok-put_plain_name.ensures) (
+    onward (string_bytes c.put.new.text) _ _ c.in_ok-put_plain_name.ensures (
     onward (string_bytes c.put_plain_name.new.text) _ _ c.in_ok-put-2.ensures (
     onward (string_bytes c.put-2.new.text) _ _ c.in_ok-put-3.ensures (
-    onward (string_bytes c.put-3.new.text) _ _ (rw c.deref-2.ensures.value at c.in_ok-put_plain_name-2.ensures) (
+    onward (string_bytes c.put-3.new.text) _ _ c.in_ok-put_plain_name-2.ensures (
     onward (string_bytes c.put_plain_name-2.new.text) _ _ c.in_ok-put-4.ensures (
     onward (string_bytes c.put-4.new.text) _ _ c.in_ok-put_uuid.ensures (
     onward (string_bytes c.put_uuid.new.text) _ _ c.in_ok-put-5.ensures (
     onward (string_bytes c.put-5.new.text) _ _ (rw c.receipt_count.ensures at c.in_ok-put_count.ensures) (
     onward (string_bytes c.put_count.new.text) _ _ c.in_ok-put-6.ensures (
     onward (string_bytes c.put-6.new.text) _ _ c.in_ok-put-7.ensures (
-    onward (string_bytes c.put-7.new.text) _ _ (rw (c.deref-3.ensures.value, c.deref-4.ensures.value) at c.in_ok-put_patterns.ensures) c.in_ok-put-8.ensures)))))))))))
+    onward (string_bytes c.put-7.new.text) _ _ (rw c.deref.ensures.value at c.in_ok-put_patterns.ensures) c.in_ok-put-8.ensures)))))))))))

@@ -1,10 +1,9 @@
 use Rattle.std.specs.Prelude.{string_bytes}
 use Rattle.view_report.specs.Patterns.{pattern_row}
-use Rattle.view_report.specs.Registers.{number_of}
 use Rattle.view_report.proofs.Texts.{one_more}
 use Rattle.view_report.proofs.patterns.put_patterns.Goals as goal
 
 pub loop-live-preserved : goal.loop-live-preserved
 loop-live-preserved c =
-    one_more (λ p. pattern_row (number_of c.args.all.now p.loan)) c.args.packages.now c.loop-live.live-index c.live-item.result (string_bytes c.args.text.now) c.loop-live-test.true
-    c.live-item.is c.loop-live.invariant (rw c.number_of.ensures at c.in_ok-put_pattern.ensures)
+    one_more (λ p. pattern_row p.number) c.args.packages.now c.loop-live.live-index c.live-item.result (string_bytes c.args.text.now) c.loop-live-test.true
+    c.live-item.is c.loop-live.invariant c.in_ok-put_pattern.ensures

@@ -1,0 +1,16 @@
+use Rattle.std.specs.Prelude.{string_bytes}
+use Rattle.view_report.proofs.Texts.{onward}
+use Rattle.view_drawing.proofs.legends.put_begin.Goals as goal
+
+pub returns : goal.returns
+returns c =
+    onward (string_bytes c.args.text.now) _ _ c.in_ok-put.ensures (
+    onward (string_bytes c.put.new.text) _ _ (rw c.times.ensures at c.in_ok-put_count.ensures) (
+    onward (string_bytes c.put_count.new.text) _ _ c.in_ok-put-2.ensures (
+    onward (string_bytes c.put-2.new.text) _ _ c.in_ok-put_class.ensures (
+    onward (string_bytes c.put_class.new.text) _ _ c.in_ok-put-3.ensures (
+    onward (string_bytes c.put-3.new.text) _ _ c.in_ok-put_count-2.ensures (
+    onward (string_bytes c.put_count-2.new.text) _ _ c.in_ok-put-4.ensures (
+    onward (string_bytes c.put-4.new.text) _ _ c.in_ok-put_class-2.ensures (
+    onward (string_bytes c.put_class-2.new.text) _ _ c.in_ok-put-5.ensures (
+    onward (string_bytes c.put-5.new.text) _ _ (rw c.pattern_of.ensures at c.in_ok-put_count-3.ensures) c.in_ok-put-6.ensures)))))))))

@@ -1,0 +1,8 @@
+use Rattle.std.proofs.Common.{◌≡◌, ◌++◌, flat_map, take}
+use Rattle.std.specs.Prelude.{string_bytes}
+use Rattle.view_drawing.specs.Legends.{holder_row}
+use Rattle.view_drawing.proofs.legends.put_rows.Given as goal
+
+-- the text of those so far
+abbrev pub invariant-loop-live : goal.invariant-loop-live
+invariant-loop-live l = string_bytes l.text ≡ string_bytes l.initial.text ++ flat_map (holder_row l.register) (take l.live-index l.packages)

@@ -1,0 +1,5 @@
+pub mod Sheets
+pub mod Names
+pub mod Marks
+pub mod Legends
+pub mod Drawings
