@@ -195,7 +195,8 @@ def verb_sessions(session):
     session.take(shown)
     session.show("")
     session.show("# All verbs, the first of each kind shown before it is carried out.")
-    world = verbs.every_verb(session)
+    people = verbs.every_verb(session)
+    world = people.world
     session.run("status harbour", status_of(world))
     session.run("log harbour 7900", log_of(world, "7900"))
     session.run("log harbour --from 11 --last 3", log_of(world, first=11, last=3))
@@ -204,7 +205,32 @@ def verb_sessions(session):
     session.run("log harbour --last few", "refused: number\n", 1)
     session.run("audit harbour", f"good {len(world.receipts)}\n")
     session.run("report harbour", page_of(world, {}, reference.reply_text))
+    short_names(session, world)
+    # (deleted, and found by what receipts tell)
+    book = nordmark.medium("level-book")
+    people.delete(book)
+    session.run(f"explain harbour {book[:4].upper()}", way_of(world, book))
+    verbs.come_to_an_end(people)
+    session.run("status harbour", status_of(world))
+    session.run("audit harbour", f"good {len(world.receipts)}\n")
+    session.show("")
+    session.show("# Trees of tiles, and a loan of what covers a box.")
+    world = verbs.trees_and_boxes(session)
+    session.run("status tree", status_of(world))
+    session.run("audit tree", f"good {len(world.receipts)}\n")
     return shown
+
+
+def short_names(session, world):
+    """A package and an item that is looked at, by their first digits."""
+    package, town = world.packages[nordmark.ARCHIVE], nordmark.sheet(6, 0, 0)
+    session.run(f"manifest harbour {nordmark.ARCHIVE[:4].upper()}", reference.manifest(package))
+    session.run(f"export harbour {nordmark.ARCHIVE[:14]}", export(world.frame, package, world.tickets[nordmark.ARCHIVE]))
+    session.run(f"explain harbour {town[:5]}", way_of(world, town))
+    session.run("manifest harbour ffff", "refused: no such package\n", 1)
+    session.run("explain harbour ffff", "refused: no such identity\n", 1)
+    # (no UUID begins so)
+    session.run("export harbour ffff-", "refused: uuid\n", 1)
 
 
 def exports(session):
@@ -225,7 +251,9 @@ def projects(session, oblong):
     frame = Frame.read(nordmark.FRAME)
     session.run(f"export maps {CREW.upper()} --qgis crew.gpkg", project(frame, "crew.gpkg"))
     session.run(f"export oblong {oblong.archive} --qgis=-'<a&b>;\"ä.gpkg", project(oblong.frame, "-'<a&b>;\"ä.gpkg"))
-    session.run("export maps 7900 --qgis crew.gpkg", "refused: uuid\n", 1)
+    session.run(f"export maps {CREW[:4]} --qgis crew.gpkg", project(frame, "crew.gpkg"))
+    session.run("export maps 790 --qgis crew.gpkg", "refused: uuid\n", 1)
+    session.run("export maps ffff --qgis crew.gpkg", "refused: no such package\n", 1)
     session.run(f"export maps {nordmark.BOAT} --qgis crew.gpkg", "refused: no such package\n", 1)
     session.run(f"export nowhere {CREW} --qgis crew.gpkg", "", 3)
     session.run(f"export maps {CREW} --qgis", "", 2)
@@ -240,6 +268,8 @@ def papers(session):
     session.run(f"report maps {CREW}", loan_page_of(world, {}, reference.reply_text, CREW))
     session.run(f"report maps {CREW.upper()} --names {session.name('samples/names.csv', names)}", loan_page_of(world, called, reference.reply_text, CREW))
     session.run(f"report maps {nordmark.ARCHIVE}", "refused: no such package\n", 1)
+    session.run(f"report maps {CREW[:4].upper()}", loan_page_of(world, {}, reference.reply_text, CREW))
+    session.run(f"report maps {nordmark.ARCHIVE[:5]}", "refused: no such package\n", 1)
     session.run("report maps harbour", "refused: uuid\n", 1)
     for words, named in (("", {}), (" --names samples/names.csv", called)):
         session.run(f"map maps{words}", drawing_of(world, named))

@@ -1,10 +1,13 @@
 //! The program `sheetdesk`: the words that it is called with, and the exit status.
 #![tactic(auto)]
 
+mod boxes;
 mod bringing;
 mod clock;
+mod dropping;
 mod field;
 mod founding;
+mod naming;
 mod notes;
 mod ordering;
 mod reporting;
@@ -12,6 +15,8 @@ mod running;
 mod sessions;
 mod showing;
 mod streams;
+mod tile_names;
+mod trees;
 
 use crate::running::out_of_memory;
 use crate::sessions::run;

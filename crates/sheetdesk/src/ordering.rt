@@ -1,13 +1,15 @@
 //! A verb's words become an order over the bytes of a file. What they leave out is new, or of the clock.
 use crate::clock::{moment_now, new_uuid};
+use crate::naming::print_hint;
 use crate::running::text_of;
 use crate::streams::Input;
 use clap::ArgMatches;
 use command_folder::endings::{Ending, FAILED, NO_MEMORY};
+use command_ordering::ordering::hint_order_for;
 use command_requests::orders::Order;
 use command_verbs::verbs::{Mark, Verb};
 use command_words::statuses::{Outcome, What};
-use commands::ordering::{Purpose, order_for};
+use commands::ordering::Purpose;
 use sheet_types::command::Mode;
 use sheet_types::reading::read_uuid;
 use std::io::ErrorKind;
@@ -15,7 +17,7 @@ use std::{fs, io};
 use uuid::Uuid;
 
 /// Says on standard error what could not be had, and answers how the program ends.
-fn without(rt: &HostRuntime, what: &str, error: &io::Error, ending: Ending) -> Ending {
+pub(crate) fn without(rt: &HostRuntime, what: &str, error: &io::Error, ending: Ending) -> Ending {
     if error.kind() == ErrorKind::OutOfMemory {
         return NO_MEMORY;
     }
@@ -24,7 +26,11 @@ fn without(rt: &HostRuntime, what: &str, error: &io::Error, ending: Ending) -> E
 }
 
 /// The UUID of an option, or a new one.
-fn uuid_given(rt: &HostRuntime, given: &ArgMatches<'_>, id: &str) -> Result<Uuid, Ending> {
+pub(crate) fn uuid_given(
+    rt: &HostRuntime,
+    given: &ArgMatches<'_>,
+    id: &str,
+) -> Result<Uuid, Ending> {
     match given.get_str(id) {
         Some(word) => match read_uuid(word) {
             Some(uuid) => Ok(uuid),
@@ -95,6 +101,15 @@ fn put_verb<'m>(given: &ArgMatches<'m>, identity: Uuid) -> Option<Verb<'m>> {
     }
 }
 
+/// Whether a loan takes along what belongs to other sheets too.
+pub(crate) fn mode_of(given: &ArgMatches<'_>) -> Mode {
+    if given.get_flag("follow") {
+        Mode::Follow
+    } else {
+        Mode::Strict
+    }
+}
+
 /// The loan that the words ask for. One word is the area; of two the first is the package that lends.
 fn lend_verb<'m>(given: &ArgMatches<'m>, loan: Uuid) -> Verb<'m> {
     let first = text_of(given, "first");
@@ -102,15 +117,10 @@ fn lend_verb<'m>(given: &ArgMatches<'m>, loan: Uuid) -> Verb<'m> {
         Some(area) => (Some(first), area),
         None => (None, first),
     };
-    let mode = if given.get_flag("follow") {
-        Mode::Follow
-    } else {
-        Mode::Strict
-    };
     Verb::Lend {
         from,
         area,
-        mode,
+        mode: mode_of(given),
         loan,
     }
 }
@@ -141,7 +151,7 @@ pub(crate) fn is_verb(name: &str) -> bool {
 }
 
 /// What becomes of the request.
-fn purpose_of(options: &ArgMatches<'_>) -> Purpose {
+pub(crate) fn purpose_of(options: &ArgMatches<'_>) -> Purpose {
     if options.get_flag("dry-run") {
         Purpose::Show
     } else {
@@ -157,7 +167,9 @@ fn done_in(
     purpose: Purpose,
     reader: &mut Input<'_>,
 ) -> Ending {
-    order_for(rt, folder, order, purpose, reader, &mut io::writer(rt))
+    let (ending, hint) = hint_order_for(rt, folder, order, purpose, reader, &mut io::writer(rt));
+    print_hint(rt, hint);
+    ending
 }
 
 /// The same, over the bytes of a file; of `-` those of the reader, and of no file none.

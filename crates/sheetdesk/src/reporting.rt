@@ -1,4 +1,5 @@
 //! The pages of `report`, and the drawing of `map`: their words are read, and the file of names.
+use crate::naming::package_given;
 use crate::running::{ended, is_printed, out_of_memory, output_failed, text_of};
 use clap::ArgMatches;
 use command_folder::endings::Ending;
@@ -11,17 +12,26 @@ use view_names::lists::{ListFault, read_names};
 use view_page::pages::{Paper, report_for};
 use view_report::registers::Name;
 
-/// What is asked of the register.
-fn paper_of(name: &str, given: &ArgMatches<'_>) -> Result<Paper, Ending> {
-    if name == "map" {
-        return Ok(Paper::Map);
-    }
-    let Some(loan) = given.get_str("package") else {
-        return Ok(Paper::Whole);
-    };
+/// The page of a loan.
+fn loan_paper(loan: &str) -> Result<Paper, Ending> {
     match read_uuid(loan) {
         Some(loan) => Ok(Paper::Loan(loan)),
         None => Err(Ending::Usual(Outcome::Refused(What::BadUuid))),
+    }
+}
+
+/// What is asked of the register. Of a folder that does not open, the page says why, whatever was asked.
+fn paper_of(rt: &HostRuntime, name: &str, given: &ArgMatches<'_>) -> Result<Paper, Ending> {
+    if name == "map" {
+        return Ok(Paper::Map);
+    }
+    if given.get_str("package").is_none() {
+        return Ok(Paper::Whole);
+    }
+    match package_given(rt, given) {
+        Ok(loan) => loan_paper(loan.as_str()),
+        Err(Ending::Unopened(_)) => Ok(Paper::Whole),
+        Err(ending) => Err(ending),
     }
 }
 
@@ -80,7 +90,7 @@ pub(crate) fn reported(rt: &HostRuntime, name: &str, given: &ArgMatches<'_>) -> 
 
 /// Writes it, and answers the exit status.
 fn written(rt: &HostRuntime, name: &str, given: &ArgMatches<'_>) -> u8 {
-    let paper = match paper_of(name, given) {
+    let paper = match paper_of(rt, name, given) {
         Ok(paper) => paper,
         Err(ending) => return ended(rt, &ending),
     };

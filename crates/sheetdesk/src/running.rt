@@ -1,12 +1,16 @@
 //! A command, carried out: what it asks for is done in `cli`, `commands` and `views`.
+use crate::boxes::lend_box;
 use crate::bringing::{brought, is_bringing};
+use crate::dropping::dropped;
 use crate::field::{listed, projected};
 use crate::founding::founded;
+use crate::naming::named_look;
 use crate::notes::{fault_note, print_refusals, tally_for};
 use crate::ordering::{is_verb, ordered};
 use crate::reporting::reported;
-use crate::showing::shown;
+use crate::showing::{Wish, shown};
 use crate::streams::{Input, Onlooker};
+use crate::trees::put_tree;
 use clap::error::ErrorKind;
 use clap::{ArgMatches, Error};
 use cli::rehearse::rehearse;
@@ -172,7 +176,6 @@ fn asked_look<'m>(name: &str, given: &ArgMatches<'m>) -> Option<AskedLook<'m>> {
             from: given.get_str("from"),
             last: given.get_str("last"),
         })),
-        "get" => Some(AskedLook::Get(text_of(given, "identity"))),
         "explain" => Some(AskedLook::Explain(text_of(given, "identity"))),
         "receipt" => Some(AskedLook::Receipt(text_of(given, "request"))),
         "manifest" => Some(AskedLook::Manifest(text_of(given, "package"))),
@@ -180,6 +183,17 @@ fn asked_look<'m>(name: &str, given: &ArgMatches<'m>) -> Option<AskedLook<'m>> {
         "map" => Some(AskedLook::Map(given.get_str("zoom"))),
         "audit" => Some(AskedLook::Audit),
         _ => None,
+    }
+}
+
+/// What a command wishes to look at, by a name or by its words, if it looks at a folder.
+fn wish_of<'m>(name: &str, given: &ArgMatches<'m>) -> Option<Wish<'m>> {
+    match named_look(name, given) {
+        Some(asked) => Some(Wish::Named(asked)),
+        None => match asked_look(name, given) {
+            Some(asked) => Some(Wish::Asked(asked)),
+            None => None,
+        },
     }
 }
 
@@ -197,6 +211,22 @@ fn changed(rt: &HostRuntime, name: &str, given: &ArgMatches<'_>, reader: &mut In
     let ending = work_for(rt, folder, asked, reader, &mut writer, &mut teller);
     print_refusals(rt, &writer.tally);
     ending
+}
+
+/// Adds the tiles of a tree, or an item.
+fn put(rt: &HostRuntime, given: &ArgMatches<'_>, reader: &mut Input<'_>) -> Ending {
+    match given.subcommand() {
+        Some((kind, words)) if kind == "tiles" => put_tree(rt, given, words),
+        _ => ordered(rt, "put", given, reader),
+    }
+}
+
+/// Lends the sheets that cover a box, or those of an area.
+fn lend(rt: &HostRuntime, given: &ArgMatches<'_>, reader: &mut Input<'_>) -> Ending {
+    match given.get_str("box") {
+        Some(words) => lend_box(rt, given, words),
+        None => ordered(rt, "lend", given, reader),
+    }
 }
 
 /// Carries out the command of this name, and answers the exit status.
@@ -218,16 +248,19 @@ pub(crate) fn carried_out(
     if let Some(status) = reported(rt, name, given) {
         return status;
     }
-    if let Some(asked) = asked_look(name, given) {
+    if let Some(wish) = wish_of(name, given) {
         return looked(
             rt,
-            &shown(rt, text_of(given, "folder"), asked, given.get_str("output")),
+            &shown(rt, text_of(given, "folder"), wish, given.get_str("output")),
         );
     }
     let typed = reader.text();
     let ending = match name {
         "init" => founded(rt, given),
         "tidy" => tidy(rt, text_of(given, "folder"), &mut io::writer(rt)),
+        "drop" => dropped(rt, given),
+        "put" => put(rt, given, reader),
+        "lend" => lend(rt, given, reader),
         _ if is_bringing(name) => brought(rt, name, given, reader),
         _ if is_verb(name) => ordered(rt, name, given, reader),
         _ => changed(rt, name, given, reader),
