@@ -11,7 +11,8 @@ _sheetdesk_options() {
         lend) echo --follow --as --at --request --dry-run ;;
         return|join|part) echo --at --request --dry-run ;;
         put) echo --type --as --at --request --dry-run ;;
-        log) echo --from --last ;;
+        status|explain) echo --json ;;
+        log) echo --from --last --json ;;
         export) echo --qgis ;;
         holds) echo --tiles --points --geometry --code --label ;;
         changes) echo --more --at --summary ;;

@@ -29,10 +29,6 @@ Exit status:
 `sheetdesk rehearse --help` has the options and the form of a list, `sheetdesk init --help` a first session
 with a folder of packages.";
 
-/// What `rehearse` is for.
-pub const REHEARSE_ABOUT: &str =
-    "Shows what a list of requests would come to, in memory, and keeps nothing";
-
 /// After the options of `rehearse`.
 pub const REHEARSE_WORDS: &str =
     "The eleven numbers of FRAME, in the unit of the reference system but for sizes in pixels and counts:
@@ -90,55 +86,6 @@ Exit status:
   3  memory, a store, the port, a reader or a writer gave out: `store: OutOfMemory` or `store: StoreFault`
      on standard error; what was printed before stands";
 
-/// What `init` is for.
-pub const INIT_ABOUT: &str = "Makes a new archive in a folder that holds no packages";
-
-/// What `apply` is for.
-pub const APPLY_ABOUT: &str = "Carries out one request, as JSON on standard input";
-
-/// What `import` is for.
-pub const IMPORT_ABOUT: &str = "Carries out a list of requests and prints its report";
-
-/// What `manifest` is for.
-pub const MANIFEST_ABOUT: &str = "Prints what a package holds, a record for each item and link";
-
-/// What `audit` is for.
-pub const AUDIT_ABOUT: &str = "Says whether all packages and receipts agree";
-
-/// What `serve` is for.
-pub const SERVE_ABOUT: &str = "Serves the packages as JSON over HTTP, on this machine alone";
-
-/// What `status` is for.
-pub const STATUS_ABOUT: &str = "Prints a table of the packages that live";
-
-/// What `log` is for.
-pub const LOG_ABOUT: &str = "Prints the ledger, a line for each receipt";
-
-/// What `get` is for.
-pub const GET_ABOUT: &str = "Prints the bytes of a tile or a medium, or the label of a mark";
-
-/// What `completions` is for.
-pub const COMPLETIONS_ABOUT: &str = "Prints what a shell needs to complete the words of sheetdesk";
-
-/// What `completions bash` is for.
-pub const BASH_ABOUT: &str = "For bash: eval \"$(sheetdesk completions bash)\"";
-
-/// What `explain` is for.
-pub const EXPLAIN_ABOUT: &str = "Prints the whole way of an item, from receipt to receipt";
-
-/// What `report` is for.
-pub const REPORT_ABOUT: &str =
-    "Prints the register as one page of HTML, or the custody of one loan with places to sign";
-
-/// What `receipt` is for.
-pub const RECEIPT_ABOUT: &str = "Prints the receipt of a request, as JSON";
-
-/// What `export` is for.
-pub const EXPORT_ABOUT: &str = "Prints a package as SQL that makes a GeoPackage with true units";
-
-/// What `holds` is for.
-pub const HOLDS_ABOUT: &str = "Prints SQL by which sqlite3 lists what an edited file holds";
-
 /// After the words of `holds`.
 pub const HOLDS_WORDS: &str =
     "Standard output is a text for stock `sqlite3`, which lists what a GeoPackage holds, as CSV: a record for
@@ -157,16 +104,6 @@ Exit status:
   0  the text was printed
   2  the command line is no use of the program
   3  memory or standard output gave out";
-
-/// What `map` is for.
-pub const MAP_ABOUT: &str = "Prints a drawing of who holds which sheets, as SVG";
-
-/// What `tidy` is for.
-pub const TIDY_ABOUT: &str = "Removes files that the register can do without";
-
-/// What `session` is for.
-pub const SESSION_ABOUT: &str =
-    "Carries out the commands of a file, and prints each with its answer";
 
 /// After the words of `session`.
 pub const SESSION_WORDS: &str = "Each line of the file is one of
@@ -251,3 +188,54 @@ Exit status:
   2  the command line is no use of the program
   3  memory, a file, a port or a stream gave out, or the packages are not in order: standard error has
      the line `store: ` and the name of the fault; of an audit standard output has the name";
+
+/// After the words of a verb.
+pub const VERB_WORDS: &str =
+    "A verb makes one request and carries it out. Its UUID and that of what it makes are new, and its moment
+is that of the clock, unless they are given. A package and an item are named by their UUID, or by the first
+digits of it: at least four, which no other has.
+
+A first loan:
+  mkdir maps
+  sheetdesk init maps --frame 25832,0,0,4096,4096,256,256,0,3,1,1
+  sheetdesk put maps a000 tile 2/3/3 sheet.png
+  sheetdesk lend maps 1/1/1
+  sheetdesk put maps c3f1 media harbour.jpg
+  sheetdesk return maps c3f1
+where a000 and c3f1 begin the UUIDs that `init` and `lend` print.
+
+Standard output:
+  lend, return, put, join, part   what was made, and the number and the sums of the receipt
+  with --dry-run                  the request as JSON, as `sheetdesk apply` reads it; nothing changes
+
+Exit status:
+  0  done
+  1  refused: by the register, with the refusal as JSON, or `refused: ` and what: uuid, area, place, point,
+     code, type, body, not lent, no such package, two packages, no such item, two items, no mapping
+  2  the command line is no use of the program
+  3  memory, a file or a stream gave out, or the packages are not in order: standard error has the line `store: `
+     and the name of the fault";
+
+/// After the words of `changes` and `bring`.
+pub const BRING_WORDS: &str =
+    "Standard input is the list that `sqlite3` prints of an edited file by the text of `holds`. An item that was
+not changed stays what it is. One that was changed is deleted, and comes again under a new identity. Close the
+program that edits the file before.
+  sheetdesk export maps a0000000-0000-4000-8000-000000000000 | sqlite3 crew.gpkg
+  sheetdesk holds | sqlite3 crew.gpkg > holds.csv
+  sheetdesk bring maps a0000000-0000-4000-8000-000000000000 --dry-run --summary < holds.csv
+  sheetdesk bring maps a0000000-0000-4000-8000-000000000000 < holds.csv
+The package must be as it was when it was exported. With --more nothing is deleted, and the file may be another
+program's. `changes` prints a list for `import`; `bring` carries it out at once, and prints its report.
+
+Exit status:
+  0  the list was printed; or it was carried out, whatever its report says
+  1  nothing was done. Standard output has `refused: ` and `uuid`, `at`, `no such package`, `list`, `package`,
+     `stale` and a number, `system`, `frame`, `items` and a line for each record that the package cannot hold,
+     or `identity`. Standard error says what that means
+  2  the command line is no use of the program
+  3  memory, a store, a reader or a writer gave out";
+
+/// After the words of `completions`.
+pub const COMPLETIONS_WORDS: &str = "A line for ~/.bashrc:
+  eval \"$(sheetdesk completions bash)\"";

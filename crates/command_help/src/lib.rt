@@ -1,8 +1,8 @@
 //! Which words the command line of `sheetdesk` has, and what `--help` says of them.
 #![tactic(auto)]
 
-mod bringing;
+mod building;
 pub mod completions;
 pub mod help;
-mod verbs;
+mod tables;
 pub mod words;
