@@ -12,7 +12,8 @@ _sheetdesk_options() {
         return|join|part) echo --at --request --dry-run ;;
         put) echo --type --tms --as --at --request --dry-run ;;
         drop) echo --yes --at --dry-run ;;
-        log) echo --from --last ;;
+        status|explain) echo --json ;;
+        log) echo --from --last --json ;;
         export) echo --qgis ;;
         holds) echo --tiles --points --geometry --code --label ;;
         changes) echo --more --at --summary ;;

@@ -42,6 +42,9 @@ const REQUEST: Word = Value("request", "UUID", "Identity of the request; else a 
 /// Whether a verb only shows its request.
 const DRY_RUN: Word = Flag("dry-run", "Print the request as JSON, and change nothing");
 
+/// Whether what is looked at is told to other programs.
+const JSON: Word = Flag("json", "The same as one JSON array, an object a line");
+
 /// What is made by a verb.
 const AS: Word = Value("as", "UUID", "Identity of what is made; else a new one");
 
@@ -300,7 +303,7 @@ pub(crate) const LOOKS: &[Entry] = &[
         name: "status",
         about: "Prints a table of the packages that live",
         after: FOLDER_WORDS,
-        words: &[FOLDER],
+        words: &[FOLDER, JSON],
     }),
     One(Verb {
         name: "log",
@@ -315,6 +318,7 @@ pub(crate) const LOOKS: &[Entry] = &[
             ),
             Value("from", "SEQ", "From this number on"),
             Value("last", "N", "The last N of them"),
+            JSON,
         ],
     }),
     One(Verb {
@@ -346,6 +350,7 @@ pub(crate) const LOOKS: &[Entry] = &[
                 "IDENTITY",
                 "The item, by its identity or the first digits of it, as 6523",
             ),
+            JSON,
         ],
     }),
     One(Verb {

@@ -1,5 +1,5 @@
 //! Words that name a package or an item by its first digits, and what is told where they name none.
-use crate::running::text_of;
+use crate::running::{asked_form, text_of};
 use clap::ArgMatches;
 use command_folder::endings::{Ending, NO_MEMORY};
 use command_named::looking::NamedLook;
@@ -54,7 +54,7 @@ pub(crate) fn named_look<'m>(name: &str, given: &ArgMatches<'m>) -> Option<Named
     let package = given.get_str("package").unwrap_or("");
     match name {
         "get" => Some(NamedLook::Get(identity)),
-        "explain" if is_short(identity) => Some(NamedLook::Explain(identity)),
+        "explain" if is_short(identity) => Some(NamedLook::Explain(asked_form(given), identity)),
         "manifest" if is_short(package) => Some(NamedLook::Manifest(package)),
         "export" if is_short(package) => Some(NamedLook::Export(package)),
         _ => None,

@@ -26,6 +26,7 @@ use commands::working::{Asked, work_for};
 use std::alloc::AllocError;
 use std::convert::AsStr;
 use std::io;
+use view_json::forms::Form;
 use views::endings as seen;
 use views::excerpts::LogWords;
 use views::looking::Asked as AskedLook;
@@ -167,16 +168,28 @@ fn asked_work<'m>(name: &str, given: &ArgMatches<'m>) -> Option<Asked<'m>> {
     }
 }
 
+/// In which form a command that looks is to tell.
+pub(crate) fn asked_form(given: &ArgMatches<'_>) -> Form {
+    if given.get_flag("json") {
+        Form::Json
+    } else {
+        Form::Table
+    }
+}
+
 /// What a command asks to look at, if it looks at a folder.
 fn asked_look<'m>(name: &str, given: &ArgMatches<'m>) -> Option<AskedLook<'m>> {
     match name {
-        "status" => Some(AskedLook::Status),
-        "log" => Some(AskedLook::Log(LogWords {
-            package: given.get_str("package"),
-            from: given.get_str("from"),
-            last: given.get_str("last"),
-        })),
-        "explain" => Some(AskedLook::Explain(text_of(given, "identity"))),
+        "status" => Some(AskedLook::Status(asked_form(given))),
+        "log" => Some(AskedLook::Log(
+            asked_form(given),
+            LogWords {
+                package: given.get_str("package"),
+                from: given.get_str("from"),
+                last: given.get_str("last"),
+            },
+        )),
+        "explain" => Some(AskedLook::Explain(asked_form(given), text_of(given, "identity"))),
         "receipt" => Some(AskedLook::Receipt(text_of(given, "request"))),
         "manifest" => Some(AskedLook::Manifest(text_of(given, "package"))),
         "export" => Some(AskedLook::Export(text_of(given, "package"))),
