@@ -1,4 +1,5 @@
--- One JSON array (RFC 8259) over many lines: `[`, an object a line with a comma before each but the first, `]`. Profile.
+-- One JSON array (RFC 8259) over many lines: `[`, an object a line with a comma before each but the first, `]`.
+-- Profile.
 use Rattle.std.specs.Prelude.{◌≡◌, ℕ, Bool, true, false, List, [], ◌∷◌, ◌++◌, codes, Option, option_map, string_bytes}
 use Rattle.std.specs.Option.{option_map_or}
 use Rattle.serde_json.specs.Data.{Data, null, number, string, unsigned}
@@ -28,6 +29,10 @@ has_some (d ∷ ds) = true
 pub record IsOpen (ds : List Data) (it : Lines) : Type 0 where
   pub text : string_bytes it.text ≡ so_far ds
   pub later : it.is_later ≡ has_some ds
+
+-- these objects are put behind the others
+abbrev pub Puts : List Data → Lines → Lines → Type 0
+Puts objects old new = (ds : List Data) → IsOpen ds old → IsOpen (ds ++ objects) new
 
 -- an object's text is put on the next line
 pub record PutsLine (object : List ℕ) (old new : Lines) : Type 0 where

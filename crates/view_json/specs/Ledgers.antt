@@ -9,8 +9,9 @@ use Rattle.view_json.specs.Arrays.{array_text, count, end_data}
 
 abbrev pub receipt_data : Receipt → Data
 receipt_data r =
-    object (member (codes "at") (string r.at) (member (codes "bytes") (count r.bytes) (member (codes "from") (end_data r.source)
-    (member (codes "receipt") (count r.seq) (member (codes "things") (count (length r.items)) (member (codes "to") (end_data r.target)
+    object (member (codes "at") (string r.at) (member (codes "bytes") (count r.bytes)
+    (member (codes "from") (end_data r.source) (member (codes "receipt") (count r.seq)
+    (member (codes "things") (count (length r.items)) (member (codes "to") (end_data r.target)
     (member (codes "what") (string (first_word r.line)) no_members)))))))
 
 abbrev pub excerpt_json : List Receipt → Excerpt → List ℕ

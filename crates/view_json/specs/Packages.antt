@@ -7,10 +7,11 @@ use Rattle.view_json.specs.Arrays.{array_text, count, end_data, text_or_null}
 
 abbrev pub package_data : PackageRow → Data
 package_data p =
-    object (member (codes "bytes") (count p.sums.bytes) (member (codes "depth") (count p.depth) (member (codes "last_change") (text_or_null p.changed)
-    (member (codes "links") (count p.sums.links) (member (codes "loan") (count p.loan) (member (codes "media") (count p.sums.media)
-    (member (codes "package") (string (uuid_text p.uuid)) (member (codes "parent") (end_data p.parent) (member (codes "rows") (count p.sums.rows)
-    (member (codes "tiles") (count p.sums.tiles) no_members))))))))))
+    object (member (codes "bytes") (count p.sums.bytes) (member (codes "depth") (count p.depth)
+    (member (codes "last_change") (text_or_null p.changed) (member (codes "links") (count p.sums.links)
+    (member (codes "loan") (count p.loan) (member (codes "media") (count p.sums.media)
+    (member (codes "package") (string (uuid_text p.uuid)) (member (codes "parent") (end_data p.parent)
+    (member (codes "rows") (count p.sums.rows) (member (codes "tiles") (count p.sums.tiles) no_members))))))))))
 
 -- the last object: how many files are of no live package
 abbrev pub strays_data : ℕ → Data

@@ -1,4 +1,5 @@
--- The way of an item as JSON: an object for each receipt that names its identity, and a last one for where it stands now. Profile.
+-- The way of an item as JSON: an object for each receipt that names its identity, and a last one for where it stands.
+-- Profile.
 use Rattle.std.specs.Prelude.{ℕ, List, [], ◌∷◌, ◌++◌, codes, filter, map, Option}
 use Rattle.serde_json.specs.Data.{Data, string, object, member, no_members}
 use Rattle.sheet_types.specs.Balance.{names_identity}
@@ -10,8 +11,9 @@ use Rattle.view_json.specs.Arrays.{array_text, count, end_data}
 -- by how the receipt names the identity
 abbrev pub naming_data : Receipt → List ℕ → Data
 naming_data r naming =
-    object (member (codes "as") (string naming) (member (codes "at") (string r.at) (member (codes "from") (end_data r.source)
-    (member (codes "receipt") (count r.seq) (member (codes "request") (string (uuid_text r.request)) (member (codes "to") (end_data r.target)
+    object (member (codes "as") (string naming) (member (codes "at") (string r.at)
+    (member (codes "from") (end_data r.source) (member (codes "receipt") (count r.seq)
+    (member (codes "request") (string (uuid_text r.request)) (member (codes "to") (end_data r.target)
     (member (codes "what") (string (first_word r.line)) no_members)))))))
 
 abbrev pub way_data : List ℕ → Receipt → Data

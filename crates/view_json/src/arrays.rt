@@ -3,7 +3,7 @@ ghost use Rattle.std.specs.Prelude.{◌≡◌, ◌++◌, ◌∷◌, [], IfOk, Li
 ghost use Rattle.serde_json.specs.Data.{Data};
 ghost use Rattle.serde_json.specs.View.{view};
 ghost use Rattle.serde_json.specs.Written.{comma_if, compact_text};
-ghost use Rattle.view_json.specs.Arrays.{IsOpen, PutsLine, array_text, end_data, text_or_null};
+ghost use Rattle.view_json.specs.Arrays.{IsOpen, Puts, PutsLine, array_text, end_data, text_or_null};
 
 use serde_json::Value;
 use sheet_types::collections::Text;
@@ -49,7 +49,7 @@ fn put_line(lines: &mut Lines, object: &str) -> Result<(), AllocError>
 
 /// Puts an object behind the others.
 pub(crate) fn put_object(lines: &mut Lines, object: &str) -> Result<(), AllocError>
-    ensures { IfOk result (λ _. (ds : List Data) (d : Data) → object.now ≡ compact_text d → IsOpen ds lines.old → IsOpen (ds ++ d ∷ []) lines.new) }
+    ensures { IfOk result (λ _. (d : Data) → object.now ≡ compact_text d → Puts (d ∷ []) lines.old lines.new) }
 {
     put_line(lines, object)?;
     Ok(())
@@ -57,7 +57,8 @@ pub(crate) fn put_object(lines: &mut Lines, object: &str) -> Result<(), AllocErr
 
 /// Closes an array.
 pub(crate) fn closed(lines: Lines) -> Result<String, AllocError>
-    ensures { IfOk result (λ text. (ds : List Data) → IsOpen ds lines → string_bytes text ≡ array_text ds) }
+    ensures { IfOk result (λ text.
+        (ds : List Data) → IsOpen ds lines → string_bytes text ≡ array_text ds) }
 {
     let mut text = lines.text;
     text.push_str("\n]\n")?;

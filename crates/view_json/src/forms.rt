@@ -76,7 +76,10 @@ pub fn told_way(
     receipts: &[Receipt],
     identity: Uuid,
 ) -> Result<Option<String>, AllocError>
-    ensures { IfOk result (λ found. MatchOption found (list_any (speaks_of identity) receipts.now ≡ false) (λ text. (list_any (speaks_of identity) receipts.now ≡ true) × (string_bytes text ≡ told_way form identity receipts.now))) }
+    ensures { IfOk result (λ found.
+        MatchOption found (list_any (speaks_of identity) receipts.now ≡ false)
+        (λ text. (list_any (speaks_of identity) receipts.now ≡ true)
+        × (string_bytes text ≡ told_way form identity receipts.now))) }
 {
     match form {
         Form::Table => way_text(alloc, receipts, identity),

@@ -1,9 +1,8 @@
 //! The ledger as JSON.
 ghost use Rattle.std.specs.Prelude.{◌≡◌, ◌++◌, ◌∷◌, [], IfOk, List, map, string_bytes};
-ghost use Rattle.serde_json.specs.Data.{Data};
 ghost use Rattle.serde_json.specs.View.{view};
 ghost use Rattle.serde_json.specs.Written.{compact_text};
-ghost use Rattle.view_json.specs.Arrays.{IsOpen};
+ghost use Rattle.view_json.specs.Arrays.{Puts};
 ghost use Rattle.view_json.specs.Ledgers.{excerpt_json, receipt_data};
 
 use crate::arrays::{Lines, closed, end_value, opened, put_object};
@@ -43,7 +42,7 @@ fn receipt_text(alloc: Global, receipt: &Receipt) -> Result<String, AllocError>
 
 /// Puts the object of a receipt.
 fn put_receipt(alloc: Global, lines: &mut Lines, receipt: &Receipt) -> Result<(), AllocError>
-    ensures { IfOk result (λ _. (ds : List Data) → IsOpen ds lines.old → IsOpen (ds ++ receipt_data receipt.now ∷ []) lines.new) }
+    ensures { IfOk result (λ _. Puts (receipt_data receipt.now ∷ []) lines.old lines.new) }
 {
     let text = receipt_text(alloc, receipt)?;
     put_object(lines, text.as_str())?;
@@ -52,7 +51,7 @@ fn put_receipt(alloc: Global, lines: &mut Lines, receipt: &Receipt) -> Result<()
 
 /// Puts the objects of receipts.
 fn put_receipts(alloc: Global, lines: &mut Lines, receipts: &[&Receipt]) -> Result<(), AllocError>
-    ensures { IfOk result (λ _. (ds : List Data) → IsOpen ds lines.old → IsOpen (ds ++ map (λ r. receipt_data r.now) receipts.now) lines.new) }
+    ensures { IfOk result (λ _. Puts (map (λ r. receipt_data r.now) receipts.now) lines.old lines.new) }
 {
     for receipt in receipts {
         put_receipt(alloc, lines, receipt)?;

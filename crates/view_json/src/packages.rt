@@ -1,9 +1,8 @@
 //! The table of packages as JSON.
 ghost use Rattle.std.specs.Prelude.{◌≡◌, ◌++◌, ◌∷◌, [], IfOk, List, string_bytes};
-ghost use Rattle.serde_json.specs.Data.{Data};
 ghost use Rattle.serde_json.specs.View.{view};
 ghost use Rattle.serde_json.specs.Written.{compact_text};
-ghost use Rattle.view_json.specs.Arrays.{IsOpen};
+ghost use Rattle.view_json.specs.Arrays.{Puts};
 ghost use Rattle.view_json.specs.Packages.{package_data, status_json, strays_data};
 
 use crate::arrays::{Lines, closed, end_value, opened, put_object, text_value};
@@ -46,7 +45,7 @@ fn package_text(alloc: Global, row: &PackageRow) -> Result<String, AllocError>
 
 /// Puts the object of a package.
 fn put_package(alloc: Global, lines: &mut Lines, row: &PackageRow) -> Result<(), AllocError>
-    ensures { IfOk result (λ _. (ds : List Data) → IsOpen ds lines.old → IsOpen (ds ++ package_data row.now ∷ []) lines.new) }
+    ensures { IfOk result (λ _. Puts (package_data row.now ∷ []) lines.old lines.new) }
 {
     let text = package_text(alloc, row)?;
     put_object(lines, text.as_str())?;
@@ -70,14 +69,15 @@ fn strays_text(alloc: Global, strays: u64) -> Result<String, AllocError>
 
 /// Puts that object.
 fn put_strays(alloc: Global, lines: &mut Lines, strays: u64) -> Result<(), AllocError>
-    ensures { IfOk result (λ _. (ds : List Data) → IsOpen ds lines.old → IsOpen (ds ++ strays_data strays ∷ []) lines.new) }
+    ensures { IfOk result (λ _. Puts (strays_data strays ∷ []) lines.old lines.new) }
 {
     let text = strays_text(alloc, strays)?;
     put_object(lines, text.as_str())?;
     Ok(())
 }
 
-/// An object for each package, in their order, and a last one that says how many files are of no live package, as one array.
+/// An object for each package, in their order, and a last one that says how many files are of no live package, as one
+/// array.
 ///
 /// # Errors
 ///

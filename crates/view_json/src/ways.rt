@@ -1,11 +1,10 @@
 //! The way of an item as JSON.
 ghost use Rattle.std.specs.Prelude.{◌≡◌, ◌++◌, ◌∷◌, [], IfOk, List, MatchOption, false, string_bytes, true};
 ghost use Rattle.std.specs.List.{list_any};
-ghost use Rattle.serde_json.specs.Data.{Data};
 ghost use Rattle.serde_json.specs.View.{view};
 ghost use Rattle.serde_json.specs.Written.{compact_text};
 ghost use Rattle.view_text.specs.Ways.{speaks_of};
-ghost use Rattle.view_json.specs.Arrays.{IsOpen};
+ghost use Rattle.view_json.specs.Arrays.{Puts};
 ghost use Rattle.view_json.specs.Ways.{naming_data, place_data, way_datas, way_json};
 
 use crate::arrays::{Lines, closed, end_value, opened, put_object};
@@ -37,7 +36,8 @@ fn naming_value(alloc: Global, receipt: &Receipt, naming: &str) -> Result<Value,
 
 /// Its text.
 fn naming_text(alloc: Global, receipt: &Receipt, naming: &str) -> Result<String, AllocError>
-    ensures { IfOk result (λ text. string_bytes text ≡ compact_text (naming_data receipt.now naming.now)) }
+    ensures { IfOk result (λ text.
+        string_bytes text ≡ compact_text (naming_data receipt.now naming.now)) }
 {
     let value = naming_value(alloc, receipt, naming)?;
     let text = value.to_string(alloc)?;
@@ -51,7 +51,7 @@ fn put_named(
     receipt: &Receipt,
     naming: &str,
 ) -> Result<(), AllocError>
-    ensures { IfOk result (λ _. (ds : List Data) → IsOpen ds lines.old → IsOpen (ds ++ naming_data receipt.now naming.now ∷ []) lines.new) }
+    ensures { IfOk result (λ _. Puts (naming_data receipt.now naming.now ∷ []) lines.old lines.new) }
 {
     let text = naming_text(alloc, receipt, naming)?;
     put_object(lines, text.as_str())?;
@@ -65,7 +65,7 @@ fn put_if_named(
     receipt: &Receipt,
     identity: Uuid,
 ) -> Result<(), AllocError>
-    ensures { IfOk result (λ _. (ds : List Data) → IsOpen ds lines.old → IsOpen (ds ++ way_datas identity (receipt.now ∷ [])) lines.new) }
+    ensures { IfOk result (λ _. Puts (way_datas identity (receipt.now ∷ [])) lines.old lines.new) }
 {
     match named_as(receipt, identity) {
         Some(naming) => {
@@ -83,7 +83,7 @@ fn put_receipts(
     receipts: &[Receipt],
     identity: Uuid,
 ) -> Result<(), AllocError>
-    ensures { IfOk result (λ _. (ds : List Data) → IsOpen ds lines.old → IsOpen (ds ++ way_datas identity receipts.now) lines.new) }
+    ensures { IfOk result (λ _. Puts (way_datas identity receipts.now) lines.old lines.new) }
 {
     for receipt in receipts {
         put_if_named(alloc, lines, receipt, identity)?;
@@ -110,14 +110,15 @@ fn place_text(alloc: Global, place: Option<Uuid>) -> Result<String, AllocError>
 
 /// Puts that object.
 fn put_place(alloc: Global, lines: &mut Lines, place: Option<Uuid>) -> Result<(), AllocError>
-    ensures { IfOk result (λ _. (ds : List Data) → IsOpen ds lines.old → IsOpen (ds ++ place_data place ∷ []) lines.new) }
+    ensures { IfOk result (λ _. Puts (place_data place ∷ []) lines.old lines.new) }
 {
     let text = place_text(alloc, place)?;
     put_object(lines, text.as_str())?;
     Ok(())
 }
 
-/// An object for each receipt that names the identity, in their order, and a last one for where the item stands, as one array.
+/// An object for each receipt that names the identity, in their order, and a last one for where the item stands, as one
+/// array.
 fn way_array(alloc: Global, receipts: &[Receipt], identity: Uuid) -> Result<String, AllocError>
     ensures { IfOk result (λ text. string_bytes text ≡ way_json identity receipts.now) }
 {
@@ -128,7 +129,8 @@ fn way_array(alloc: Global, receipts: &[Receipt], identity: Uuid) -> Result<Stri
     Ok(text)
 }
 
-/// The way of an item by receipts in the order of their numbers: an object for each that names its identity, and a last one for where it stands now, as one array. `None` where no receipt names it.
+/// The way of an item by receipts in the order of their numbers: an object for each that names its identity, and a last
+/// one for where it stands now, as one array. `None` where no receipt names it.
 ///
 /// # Errors
 ///
@@ -138,7 +140,10 @@ pub fn way_json(
     receipts: &[Receipt],
     identity: Uuid,
 ) -> Result<Option<String>, AllocError>
-    ensures { IfOk result (λ found. MatchOption found (list_any (speaks_of identity) receipts.now ≡ false) (λ text. (list_any (speaks_of identity) receipts.now ≡ true) × (string_bytes text ≡ way_json identity receipts.now))) }
+    ensures { IfOk result (λ found.
+        MatchOption found (list_any (speaks_of identity) receipts.now ≡ false)
+        (λ text. (list_any (speaks_of identity) receipts.now ≡ true)
+        × (string_bytes text ≡ way_json identity receipts.now))) }
 {
     if !is_spoken_of(receipts, identity) {
         return Ok(None);

@@ -7,4 +7,4 @@ use Rattle.view_json.proofs.ledgers.put_receipt.Goals as goal
 pub returns : goal.returns
 returns c =
     let is : c.as_str.result.now ≡ compact_text (receipt_data c.args.receipt.now) = search rules in
-    λ ds given. c.in_ok-put_object.ensures ds (receipt_data c.args.receipt.now) is given
+    c.in_ok-put_object.ensures (receipt_data c.args.receipt.now) is

@@ -7,4 +7,4 @@ use Rattle.view_json.proofs.packages.put_package.Goals as goal
 pub returns : goal.returns
 returns c =
     let is : c.as_str.result.now ≡ compact_text (package_data c.args.row.now) = search rules in
-    λ ds given. c.in_ok-put_object.ensures ds (package_data c.args.row.now) is given
+    c.in_ok-put_object.ensures (package_data c.args.row.now) is

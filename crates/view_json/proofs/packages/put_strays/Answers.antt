@@ -7,4 +7,4 @@ use Rattle.view_json.proofs.packages.put_strays.Goals as goal
 pub returns : goal.returns
 returns c =
     let is : c.as_str.result.now ≡ compact_text (strays_data c.args.strays) = search rules in
-    λ ds given. c.in_ok-put_object.ensures ds (strays_data c.args.strays) is given
+    c.in_ok-put_object.ensures (strays_data c.args.strays) is

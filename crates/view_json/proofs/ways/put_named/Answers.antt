@@ -7,4 +7,4 @@ use Rattle.view_json.proofs.ways.put_named.Goals as goal
 pub returns : goal.returns
 returns c =
     let is : c.as_str.result.now ≡ compact_text (naming_data c.args.receipt.now c.args.naming.now) = search rules in
-    λ ds given. c.in_ok-put_object.ensures ds (naming_data c.args.receipt.now c.args.naming.now) is given
+    c.in_ok-put_object.ensures (naming_data c.args.receipt.now c.args.naming.now) is

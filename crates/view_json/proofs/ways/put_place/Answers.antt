@@ -7,4 +7,4 @@ use Rattle.view_json.proofs.ways.put_place.Goals as goal
 pub returns : goal.returns
 returns c =
     let is : c.as_str.result.now ≡ compact_text (place_data c.args.place) = search rules in
-    λ ds given. c.in_ok-put_object.ensures ds (place_data c.args.place) is given
+    c.in_ok-put_object.ensures (place_data c.args.place) is
