@@ -1,7 +1,15 @@
 //! A whole drawing.
 ghost use Rattle.std.specs.Prelude.{◌≡◌, ◌++◌, IfOk, IsTrue, length, string_bytes};
 ghost use Rattle.sheet_types.specs.Matrix.{is_good_frame};
-ghost use Rattle.view_drawing.specs.Drawings.{defs_text, drawing_text, head_text, legend_text, map_height, map_text, whole_height};
+ghost use Rattle.view_drawing.specs.Drawings.{
+  defs_text,
+  drawing_text,
+  head_text,
+  legend_text,
+  map_height,
+  map_text,
+  whole_height,
+};
 
 use crate::legends::put_rows;
 use crate::marks::put_marks;

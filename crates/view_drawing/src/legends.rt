@@ -72,7 +72,9 @@ pub(crate) fn put_rows(
     register: &Register,
     packages: &[Live],
 ) -> Result<(), AllocError>
-    ensures { IfOk result (λ _. string_bytes text.new ≡ string_bytes text.old ++ flat_map (holder_row register.now) packages.now) }
+    ensures { IfOk result
+        (λ _. string_bytes text.new ≡ string_bytes text.old
+        ++ flat_map (holder_row register.now) packages.now) }
 {
     for live in packages {
         put_row(text, register, live)?;

@@ -48,7 +48,9 @@ fn put_end(
     code: i64,
     label: &str,
 ) -> Result<(), AllocError>
-    ensures { IfOk result (λ _. string_bytes text.new ≡ string_bytes text.old ++ mark_end register.now thing.now code label.now) }
+    ensures { IfOk result
+        (λ _. string_bytes text.new ≡ string_bytes text.old
+        ++ mark_end register.now thing.now code label.now) }
 {
     put_signed(text, code)?;
     put(text, ", ")?;
@@ -70,7 +72,9 @@ fn put_mark(
     code: i64,
     label: &str,
 ) -> Result<(), AllocError>
-    ensures { IfOk result (λ _. string_bytes text.new ≡ string_bytes text.old ++ mark_text register.now thing.now number x y code label.now) }
+    ensures { IfOk result
+        (λ _. string_bytes text.new ≡ string_bytes text.old
+        ++ mark_text register.now thing.now number x y code label.now) }
 {
     put_begin(text, &register.frame, number, x, y)?;
     put_end(text, register, thing, code, label)?;
@@ -84,7 +88,9 @@ fn put_mark_of(
     thing: &Thing,
     number: usize,
 ) -> Result<(), AllocError>
-    ensures { IfOk result (λ _. string_bytes text.new ≡ string_bytes text.old ++ mark_of register.now thing.now number thing.now.about) }
+    ensures { IfOk result
+        (λ _. string_bytes text.new ≡ string_bytes text.old
+        ++ mark_of register.now thing.now number thing.now.about) }
 {
     match &thing.about {
         About::Mark { x, y, code, label } => put_mark(
@@ -117,7 +123,9 @@ pub(crate) fn put_marks(
     register: &Register,
     things: &[Thing],
 ) -> Result<(), AllocError>
-    ensures { IfOk result (λ _. string_bytes text.new ≡ string_bytes text.old ++ flat_map (mark_if register.now) things.now) }
+    ensures { IfOk result
+        (λ _. string_bytes text.new ≡ string_bytes text.old
+        ++ flat_map (mark_if register.now) things.now) }
 {
     for thing in things {
         put_mark_if(text, register, thing)?;

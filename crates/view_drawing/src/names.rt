@@ -1,7 +1,16 @@
 //! The names of the sheets of the first zoom, and where something stands on the map.
 ghost use Rattle.std.specs.Prelude.{◌≡◌, ◌++◌, IfOk, IsTrue, flat_map, string_bytes};
 ghost use Rattle.sheet_types.specs.Matrix.{is_good_frame};
-ghost use Rattle.view_drawing.specs.Names.{name_at, name_if, name_in, named_at, named_text, names_text, percent_text, place_text};
+ghost use Rattle.view_drawing.specs.Names.{
+  name_at,
+  name_if,
+  name_in,
+  named_at,
+  named_text,
+  names_text,
+  percent_text,
+  place_text,
+};
 
 use std::alloc::AllocError;
 use uuid::Uuid;
@@ -74,7 +83,9 @@ fn put_name_in(
     column: i64,
     row: i64,
 ) -> Result<(), AllocError>
-    ensures { IfOk result (λ _. string_bytes text.new ≡ string_bytes text.old ++ name_in names.now layout.now id column row) }
+    ensures { IfOk result
+        (λ _. string_bytes text.new ≡ string_bytes text.old
+        ++ name_in names.now layout.now id column row) }
 {
     let left = column_share(layout, column);
     let top = row_share(layout, row);
@@ -92,7 +103,9 @@ fn put_name_at(
     column: i64,
     row: i64,
 ) -> Result<(), AllocError>
-    ensures { IfOk result (λ _. string_bytes text.new ≡ string_bytes text.old ++ name_at names.now level.now id zoom column row) }
+    ensures { IfOk result
+        (λ _. string_bytes text.new ≡ string_bytes text.old
+        ++ name_at names.now level.now id zoom column row) }
 {
     if zoom == level.zoom {
         put_name_in(text, names, &level.layout, id, column, row)
@@ -108,7 +121,9 @@ fn put_name_if(
     level: &Level,
     thing: &Thing,
 ) -> Result<(), AllocError>
-    ensures { IfOk result (λ _. string_bytes text.new ≡ string_bytes text.old ++ name_if names.now level.now thing.now) }
+    ensures { IfOk result
+        (λ _. string_bytes text.new ≡ string_bytes text.old
+        ++ name_if names.now level.now thing.now) }
 {
     match &thing.about {
         About::Sheet { zoom, column, row } => {
@@ -125,7 +140,9 @@ fn put_names(
     level: &Level,
     things: &[Thing],
 ) -> Result<(), AllocError>
-    ensures { IfOk result (λ _. string_bytes text.new ≡ string_bytes text.old ++ flat_map (name_if names.now level.now) things.now) }
+    ensures { IfOk result
+        (λ _. string_bytes text.new ≡ string_bytes text.old
+        ++ flat_map (name_if names.now level.now) things.now) }
 {
     for thing in things {
         put_name_if(text, names, level, thing)?;
