@@ -2,7 +2,17 @@
 ghost use Rattle.std.specs.Prelude.{◌≡◌, IfOk, IsOkAnd, IsTrue, option_map, string_bytes};
 ghost use Rattle.sheet_types.specs.Matrix.{is_good_frame};
 ghost use Rattle.command_folder.specs.Printing.{Prints};
-ghost use Rattle.view_page.specs.Pages.{IsPaper, IsPaperOf, OpensPage, ShowsFault, ShowsPage, ShowsText, as_bytes, page_of_fault, text_of_fault};
+ghost use Rattle.view_page.specs.Pages.{
+  IsPaper,
+  IsPaperOf,
+  OpensPage,
+  ShowsFault,
+  ShowsPage,
+  ShowsText,
+  as_bytes,
+  page_of_fault,
+  text_of_fault,
+};
 ghost use Rattle.view_page.specs.Registers.{LooksThrough};
 
 use crate::registers::register_of;
