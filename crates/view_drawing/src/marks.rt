@@ -12,7 +12,8 @@ use view_report::registers::{About, Register, Thing, live_of};
 
 /// Puts where a point stands on the map.
 fn put_mark_place(text: &mut String, frame: &Frame, x: i64, y: i64) -> Result<(), AllocError>
-    ensures { IfOk result (λ _. string_bytes text.new ≡ string_bytes text.old ++ mark_place frame.now x y) }
+    ensures { IfOk result
+        (λ _. string_bytes text.new ≡ string_bytes text.old ++ mark_place frame.now x y) }
 {
     let left = x_share(frame, x);
     let top = y_share(frame, y);
@@ -28,7 +29,8 @@ fn put_begin(
     x: i64,
     y: i64,
 ) -> Result<(), AllocError>
-    ensures { IfOk result (λ _. string_bytes text.new ≡ string_bytes text.old ++ mark_begin frame.now number x y) }
+    ensures { IfOk result
+        (λ _. string_bytes text.new ≡ string_bytes text.old ++ mark_begin frame.now number x y) }
 {
     put(text, "<use class=\"")?;
     put_class(text, number)?;
@@ -109,7 +111,8 @@ fn put_mark_of(
 
 /// Puts an item, if it is a mark of a package that lives.
 fn put_mark_if(text: &mut String, register: &Register, thing: &Thing) -> Result<(), AllocError>
-    ensures { IfOk result (λ _. string_bytes text.new ≡ string_bytes text.old ++ mark_if register.now thing.now) }
+    ensures { IfOk result
+        (λ _. string_bytes text.new ≡ string_bytes text.old ++ mark_if register.now thing.now) }
 {
     match live_of(&register.packages, thing.holder) {
         Some(live) => put_mark_of(text, register, thing, live.number),

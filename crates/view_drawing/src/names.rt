@@ -24,7 +24,8 @@ use view_report::registers::{About, Name, Register, Thing, name_of};
 
 /// Puts ten-thousandths as a percentage with two places.
 fn put_percent(text: &mut String, share: u64) -> Result<(), AllocError>
-    ensures { IfOk result (λ _. string_bytes text.new ≡ string_bytes text.old ++ percent_text share) }
+    ensures { IfOk result
+        (λ _. string_bytes text.new ≡ string_bytes text.old ++ percent_text share) }
 {
     put_count(text, share / 100)?;
     put(text, ".")?;
@@ -36,7 +37,8 @@ fn put_percent(text: &mut String, share: u64) -> Result<(), AllocError>
 
 /// Puts where on the map something stands, in ten-thousandths of its sides.
 pub(crate) fn put_place(text: &mut String, left: u64, top: u64) -> Result<(), AllocError>
-    ensures { IfOk result (λ _. string_bytes text.new ≡ string_bytes text.old ++ place_text left top) }
+    ensures { IfOk result
+        (λ _. string_bytes text.new ≡ string_bytes text.old ++ place_text left top) }
 {
     put(text, " x=\"")?;
     put_percent(text, left)?;
@@ -48,7 +50,8 @@ pub(crate) fn put_place(text: &mut String, left: u64, top: u64) -> Result<(), Al
 
 /// Puts the name of a sheet at its place.
 fn put_named(text: &mut String, name: &Name, left: u64, top: u64) -> Result<(), AllocError>
-    ensures { IfOk result (λ _. string_bytes text.new ≡ string_bytes text.old ++ named_text name.now left top) }
+    ensures { IfOk result
+        (λ _. string_bytes text.new ≡ string_bytes text.old ++ named_text name.now left top) }
 {
     put(text, "<text class=\"nm\"")?;
     put_place(text, left, top)?;
@@ -66,7 +69,8 @@ fn put_name_of(
     left: u64,
     top: u64,
 ) -> Result<(), AllocError>
-    ensures { IfOk result (λ _. string_bytes text.new ≡ string_bytes text.old ++ names_text names.now id left top) }
+    ensures { IfOk result
+        (λ _. string_bytes text.new ≡ string_bytes text.old ++ names_text names.now id left top) }
 {
     match name_of(names, id) {
         Some(name) => put_named(text, name, left, top),
@@ -157,7 +161,8 @@ pub(crate) fn put_first_names(
     total: u64,
 ) -> Result<(), AllocError>
     requires { IsTrue (is_good_frame register.now.frame) }
-    ensures { IfOk result (λ _. string_bytes text.new ≡ string_bytes text.old ++ named_at register.now total) }
+    ensures { IfOk result
+        (λ _. string_bytes text.new ≡ string_bytes text.old ++ named_at register.now total) }
 {
     match level_at(&register.frame, total, 0) {
         Some(level) => put_names(text, &register.names, &level, register.things.as_slice()),

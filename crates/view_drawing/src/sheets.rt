@@ -140,7 +140,8 @@ fn put_sheets(
 
 /// Puts a zoom.
 fn put_level(text: &mut String, register: &Register, level: &Level) -> Result<(), AllocError>
-    ensures { IfOk result (λ _. string_bytes text.new ≡ string_bytes text.old ++ level_text register.now level.now) }
+    ensures { IfOk result
+        (λ _. string_bytes text.new ≡ string_bytes text.old ++ level_text register.now level.now) }
 {
     put(text, "<svg class=\"l")?;
     put_count(text, level.index)?;
@@ -162,7 +163,8 @@ fn put_level_if(
     index: u64,
 ) -> Result<(), AllocError>
     requires { IsTrue (is_good_frame register.now.frame) }
-    ensures { IfOk result (λ _. string_bytes text.new ≡ string_bytes text.old ++ level_if register.now total index) }
+    ensures { IfOk result
+        (λ _. string_bytes text.new ≡ string_bytes text.old ++ level_if register.now total index) }
 {
     match level_at(&register.frame, total, index) {
         Some(level) => put_level(text, register, &level),
@@ -177,7 +179,9 @@ pub(crate) fn put_levels(
     total: u64,
 ) -> Result<(), AllocError>
     requires { IsTrue (is_good_frame register.now.frame) }
-    ensures { IfOk result (λ _. string_bytes text.new ≡ string_bytes text.old ++ levels_text register.now total total) }
+    ensures { IfOk result
+        (λ _. string_bytes text.new ≡ string_bytes text.old
+        ++ levels_text register.now total total) }
 {
     for index in 0..total {
         put_level_if(text, register, total, index)?;
