@@ -166,7 +166,8 @@ pub fn show_fault<W: Write>(
     fault: &OpenFault,
     writer: &mut W,
 ) -> Ending
-    ensures { ShowsFault paper fault.now writer.old writer.new (W.contents writer.old) (W.contents writer.new) result }
+    ensures { ShowsFault paper fault.now writer.old writer.new
+        (W.contents writer.old) (W.contents writer.new) result }
 {
     match page_of_fault(alloc, paper, fault) {
         Ok(Some(text)) => print(writer, text.as_str(), Ending::Unopened(*fault)),
