@@ -5,13 +5,17 @@ use Rattle.sheet_types.specs.Texts.{uuid_text}
 use Rattle.view_text.specs.declared.packages.PackageRow.{PackageRow}
 use Rattle.view_json.specs.Arrays.{array_text, count, end_data, text_or_null}
 
-abbrev pub package_data : PackageRow → Data
-package_data p =
+-- by the values of its last change and of its parent
+abbrev pub package_object : PackageRow → Data → Data → Data
+package_object p changed parent =
     object (member (codes "bytes") (count p.sums.bytes) (member (codes "depth") (count p.depth)
-    (member (codes "last_change") (text_or_null p.changed) (member (codes "links") (count p.sums.links)
+    (member (codes "last_change") changed (member (codes "links") (count p.sums.links)
     (member (codes "loan") (count p.loan) (member (codes "media") (count p.sums.media)
-    (member (codes "package") (string (uuid_text p.uuid)) (member (codes "parent") (end_data p.parent)
+    (member (codes "package") (string (uuid_text p.uuid)) (member (codes "parent") parent
     (member (codes "rows") (count p.sums.rows) (member (codes "tiles") (count p.sums.tiles) no_members))))))))))
+
+abbrev pub package_data : PackageRow → Data
+package_data p = package_object p (text_or_null p.changed) (end_data p.parent)
 
 -- the last object: how many files are of no live package
 abbrev pub strays_data : ℕ → Data

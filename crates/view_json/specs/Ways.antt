@@ -8,13 +8,16 @@ use Rattle.sheet_types.specs.declared.receipt.Receipt.{Receipt}
 use Rattle.view_text.specs.Ways.{first_word, names_end, naming_word, place_by, speaks_of}
 use Rattle.view_json.specs.Arrays.{array_text, count, end_data}
 
--- by how the receipt names the identity
-abbrev pub naming_data : Receipt → List ℕ → Data
-naming_data r naming =
+-- by how the receipt names the identity, and the values of its ends
+abbrev pub naming_object : Receipt → List ℕ → Data → Data → Data
+naming_object r naming from to =
     object (member (codes "as") (string naming) (member (codes "at") (string r.at)
-    (member (codes "from") (end_data r.source) (member (codes "receipt") (count r.seq)
-    (member (codes "request") (string (uuid_text r.request)) (member (codes "to") (end_data r.target)
+    (member (codes "from") from (member (codes "receipt") (count r.seq)
+    (member (codes "request") (string (uuid_text r.request)) (member (codes "to") to
     (member (codes "what") (string (first_word r.line)) no_members)))))))
+
+abbrev pub naming_data : Receipt → List ℕ → Data
+naming_data r naming = naming_object r naming (end_data r.source) (end_data r.target)
 
 abbrev pub way_data : List ℕ → Receipt → Data
 way_data id r = naming_data r (naming_word (names_identity id r) (names_end id r))

@@ -3,7 +3,7 @@ ghost use Rattle.std.specs.Prelude.{◌≡◌, ◌++◌, ◌∷◌, [], IfOk, Li
 ghost use Rattle.serde_json.specs.View.{view};
 ghost use Rattle.serde_json.specs.Written.{compact_text};
 ghost use Rattle.view_json.specs.Arrays.{Puts};
-ghost use Rattle.view_json.specs.Packages.{package_data, status_json, strays_data};
+ghost use Rattle.view_json.specs.Packages.{package_data, package_object, status_json, strays_data};
 
 use crate::arrays::{Lines, closed, end_value, opened, put_object, text_value};
 use serde_json::{Value, json};
@@ -11,27 +11,41 @@ use std::alloc::{AllocError, Global};
 use uuid::Uuid;
 use view_text::packages::PackageRow;
 
-/// The JSON of a package.
-fn package_value(alloc: Global, row: &PackageRow) -> Result<Value, AllocError>
-    ensures { IfOk result (λ value. view value ≡ package_data row.now) }
+/// The JSON of a package, by the values of its last change and of its parent.
+fn package_object(
+    alloc: Global,
+    row: &PackageRow,
+    changed: &Value,
+    parent: &Value,
+) -> Result<Value, AllocError>
+    ensures { IfOk result (λ value.
+        view value ≡ package_object row.now (view changed.now) (view parent.now)) }
 {
     let mut letters = Uuid::encode_buffer();
     let package = row.uuid.hyphenated().encode_lower(&mut letters);
-    let parent = end_value(alloc, row.parent)?;
-    let changed = text_value(alloc, &row.changed)?;
     let sums = row.sums;
     json!(in alloc; {
         "bytes": sums.bytes,
         "depth": row.depth,
-        "last_change": &changed,
+        "last_change": changed,
         "links": sums.links,
         "loan": row.loan,
         "media": sums.media,
         "package": package,
-        "parent": &parent,
+        "parent": parent,
         "rows": sums.rows,
         "tiles": sums.tiles
     })
+}
+
+/// The JSON of a package.
+fn package_value(alloc: Global, row: &PackageRow) -> Result<Value, AllocError>
+    ensures { IfOk result (λ value. view value ≡ package_data row.now) }
+{
+    let changed = text_value(alloc, &row.changed)?;
+    let parent = end_value(alloc, row.parent)?;
+    let value = package_object(alloc, row, &changed, &parent)?;
+    Ok(value)
 }
 
 /// Its text.

@@ -5,7 +5,7 @@ ghost use Rattle.serde_json.specs.View.{view};
 ghost use Rattle.serde_json.specs.Written.{compact_text};
 ghost use Rattle.view_text.specs.Ways.{speaks_of};
 ghost use Rattle.view_json.specs.Arrays.{Puts};
-ghost use Rattle.view_json.specs.Ways.{naming_data, place_data, way_datas, way_json};
+ghost use Rattle.view_json.specs.Ways.{naming_data, naming_object, place_data, way_datas, way_json};
 
 use crate::arrays::{Lines, closed, end_value, opened, put_object};
 use serde_json::{Value, json};
@@ -14,24 +14,39 @@ use std::alloc::{AllocError, Global};
 use uuid::Uuid;
 use view_text::ways::{first_word, is_spoken_of, named_as, place_by};
 
-/// The JSON of a receipt that names an identity so.
-fn naming_value(alloc: Global, receipt: &Receipt, naming: &str) -> Result<Value, AllocError>
-    ensures { IfOk result (λ value. view value ≡ naming_data receipt.now naming.now) }
+/// The JSON of a receipt that names an identity so, by the values of its ends.
+fn naming_object(
+    alloc: Global,
+    receipt: &Receipt,
+    naming: &str,
+    from: &Value,
+    to: &Value,
+) -> Result<Value, AllocError>
+    ensures { IfOk result (λ value.
+        view value ≡ naming_object receipt.now naming.now (view from.now) (view to.now)) }
 {
     let mut letters = Uuid::encode_buffer();
     let request = receipt.request.hyphenated().encode_lower(&mut letters);
-    let from = end_value(alloc, receipt.source)?;
-    let to = end_value(alloc, receipt.target)?;
     let what = first_word(receipt.line.as_str());
     json!(in alloc; {
         "as": naming,
         "at": receipt.at.as_str(),
-        "from": &from,
+        "from": from,
         "receipt": receipt.seq,
         "request": request,
-        "to": &to,
+        "to": to,
         "what": what
     })
+}
+
+/// The JSON of a receipt that names an identity so.
+fn naming_value(alloc: Global, receipt: &Receipt, naming: &str) -> Result<Value, AllocError>
+    ensures { IfOk result (λ value. view value ≡ naming_data receipt.now naming.now) }
+{
+    let from = end_value(alloc, receipt.source)?;
+    let to = end_value(alloc, receipt.target)?;
+    let value = naming_object(alloc, receipt, naming, &from, &to)?;
+    Ok(value)
 }
 
 /// Its text.
