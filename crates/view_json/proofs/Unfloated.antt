@@ -23,17 +23,24 @@ neither : (a b : Bool) → a ≡ false → b ≡ false → (a || (b || false)) �
 neither a b no_a no_b = ap (λ x. x || (b || false)) no_a ∙ ap (λ x. x || false) no_b
 
 pub package_has_none : (p : PackageRow) → has_float (package_data p) ≡ false
-package_has_none p = neither (has_float (text_or_null p.changed)) (has_float (end_data p.parent)) (text_has_none p.changed) (end_has_none p.parent)
+package_has_none p =
+    neither (has_float (text_or_null p.changed)) (has_float (end_data p.parent))
+    (text_has_none p.changed) (end_has_none p.parent)
 
 pub receipt_has_none : (r : Receipt) → has_float (receipt_data r) ≡ false
-receipt_has_none r = neither (has_float (end_data r.source)) (has_float (end_data r.target)) (end_has_none r.source) (end_has_none r.target)
+receipt_has_none r =
+    neither (has_float (end_data r.source)) (has_float (end_data r.target))
+    (end_has_none r.source) (end_has_none r.target)
 
 pub naming_has_none : (r : Receipt) (naming : List ℕ) → has_float (naming_data r naming) ≡ false
-naming_has_none r naming = neither (has_float (end_data r.source)) (has_float (end_data r.target)) (end_has_none r.source) (end_has_none r.target)
+naming_has_none r naming =
+    neither (has_float (end_data r.source)) (has_float (end_data r.target))
+    (end_has_none r.source) (end_has_none r.target)
 
 pub place_has_none : (place : Option (List ℕ)) → has_float (place_data place) ≡ false
 place_has_none place = ap (λ x. x || false) (end_has_none place)
 
 -- so the text that is written is that of the object
-pub written : (text : List ℕ) (d e : Data) → d ≡ e → has_float e ≡ false → (has_float d ≡ false → text ≡ compact_text d) → text ≡ compact_text e
+pub written : (text : List ℕ) (d e : Data) → d ≡ e → has_float e ≡ false
+    → (has_float d ≡ false → text ≡ compact_text d) → text ≡ compact_text e
 written text d e is none so = so (ap has_float is ∙ none) ∙ ap compact_text is

@@ -49,7 +49,8 @@ fn put_line(lines: &mut Lines, object: &str) -> Result<(), AllocError>
 
 /// Puts an object behind the others.
 pub(crate) fn put_object(lines: &mut Lines, object: &str) -> Result<(), AllocError>
-    ensures { IfOk result (λ _. (d : Data) → object.now ≡ compact_text d → Puts (d ∷ []) lines.old lines.new) }
+    ensures { IfOk result (λ _.
+        (d : Data) → object.now ≡ compact_text d → Puts (d ∷ []) lines.old lines.new) }
 {
     put_line(lines, object)?;
     Ok(())

@@ -51,7 +51,8 @@ fn put_receipt(alloc: Global, lines: &mut Lines, receipt: &Receipt) -> Result<()
 
 /// Puts the objects of receipts.
 fn put_receipts(alloc: Global, lines: &mut Lines, receipts: &[&Receipt]) -> Result<(), AllocError>
-    ensures { IfOk result (λ _. Puts (map (λ r. receipt_data r.now) receipts.now) lines.old lines.new) }
+    ensures { IfOk result (λ _.
+        Puts (map (λ r. receipt_data r.now) receipts.now) lines.old lines.new) }
 {
     for receipt in receipts {
         put_receipt(alloc, lines, receipt)?;

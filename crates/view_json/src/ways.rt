@@ -66,7 +66,8 @@ fn put_named(
     receipt: &Receipt,
     naming: &str,
 ) -> Result<(), AllocError>
-    ensures { IfOk result (λ _. Puts (naming_data receipt.now naming.now ∷ []) lines.old lines.new) }
+    ensures { IfOk result (λ _.
+        Puts (naming_data receipt.now naming.now ∷ []) lines.old lines.new) }
 {
     let text = naming_text(alloc, receipt, naming)?;
     put_object(lines, text.as_str())?;

@@ -15,4 +15,5 @@ pub returns : goal.returns
 returns c =
     let all = subst (λ rows. IsOpen (map package_data rows) c.loop-row.lines)
     (take_all c.loop-row.row-index c.args.rows.now (omega (arith, c.loop-row-test.false))) c.loop-row.invariant in
-    c.in_ok-text.ensures (map package_data c.args.rows.now ++ strays_data c.args.strays ∷ []) (c.in_ok-put_strays.ensures (map package_data c.args.rows.now) all)
+    c.in_ok-text.ensures (map package_data c.args.rows.now ++ strays_data c.args.strays ∷ [])
+    (c.in_ok-put_strays.ensures (map package_data c.args.rows.now) all)

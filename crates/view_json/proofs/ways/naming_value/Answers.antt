@@ -9,4 +9,5 @@ pub returns : goal.returns
 returns c =
     c.in_ok-value.ensures
     ∙ ap (λ it. naming_object c.args.receipt.now c.args.naming.now it (view c.in_ok-to.to)) c.in_ok-from.ensures
-    ∙ ap (λ it. naming_object c.args.receipt.now c.args.naming.now (end_data c.args.receipt.now.source) it) c.in_ok-to.ensures
+    ∙ ap (λ it. naming_object c.args.receipt.now c.args.naming.now (end_data c.args.receipt.now.source) it)
+    c.in_ok-to.ensures
