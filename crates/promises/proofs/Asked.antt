@@ -1,5 +1,5 @@
 -- One request, and what a crash leaves after it.
-use Rattle.std.specs.Prelude.{◌≡◌, ◌⊎◌, ◌↔◌, Bool, true, false, List, [], ◌++◌, map, refl, Result, Ok, Err, IsTrue, IsErr}
+use Rattle.std.specs.Prelude.{◌≡◌, ◌⊎◌, ℕ, ◌↔◌, Bool, true, false, List, [], ◌++◌, map, refl, Result, Ok, Err, IsTrue, IsErr}
 use Rattle.std.proofs.Common.{sym, ap, subst, ◌∙◌, inl, inr}
 use Rattle.std.proofs.lemmas.List.{append-nil}
 use Rattle.std.proofs.lemmas.List.Sorted.{IsPermutation-refl}
@@ -23,8 +23,10 @@ use Rattle.world_changes.proofs.HeldStores.{held_clean, members_left}
 use Rattle.world_members.specs.Members.{AllClean, AllOpen}
 use Rattle.world_members.specs.Turning.{LeftAs}
 use Rattle.world_members.specs.declared.members.Member.{Member}
+use Rattle.world.specs.Asked.{IsStepWith}
 use Rattle.world.specs.Worlds.{Seen, StandsFor, IsHeld, IsStep, LeavesNoTrace, LeftAsItStands, held}
 use Rattle.promises.specs.Calls.{AreOf, AreLeft, Asks}
+use Rattle.promises.proofs.Given.{given_by_step}
 
 -- a step that gave a receipt came to what the request makes
 receipt_makes : (w : World) (q : Request) (receipt : Receipt) (next : World) → Step w q (Ok receipt) next → next ≡ (outcome w q).1
@@ -84,10 +86,15 @@ module _ {S : Type 0} (g : Ghosts S) (law : LeftAsItStands g) (q : Request) (old
       by_test true e = faults.0 e
       by_test false e = absurd (let both : true ≡ false = sym is ∙ usable (λ fault. (let yes = faults.1 fault in let both : true ≡ false = sym yes ∙ e in cc)) ∙ was_usable in cc)
 
-  pub asks : (reply : Reply) → IsStep g q old reply new → LeavesNoTrace g old reply new → (¬ IsFault reply → new.has_failed ≡ old.has_failed) → (is_fault : Bool) → IsTrue is_fault ↔ IsFault reply → Asks g q old new reply
-  asks reply step no_trace usable is_fault faults = record {
-    gone = step.gone;
-    clean = step.clean;
-    step = step.step;
-    left = λ clean gone w stands opened was_usable contents may. left_by reply new.has_failed refl no_trace usable is_fault faults step clean gone w stands opened was_usable contents may;
-  }
+module _ {S : Type 0} (g : Ghosts S) (law : LeftAsItStands g) {H : Type 0} (Asked : List ℕ → H → H → Type 0) (Taken : List ℕ → S → H → H → Type 0) (q : Request) (old new : Seen S) (before after : H) (is_held : IsHeld g new) where
+  pub asks : (reply : Reply) → IsStepWith g Asked Taken q old reply new before after → LeavesNoTrace g old reply new → (¬ IsFault reply → new.has_failed ≡ old.has_failed) → (is_fault : Bool) → IsTrue is_fault ↔ IsFault reply → Asks g Asked Taken q old new before after reply
+  asks reply it no_trace usable is_fault faults =
+      let shelf = given_by_step g Asked Taken q old reply new before after it in
+      record {
+        stores = shelf.0;
+        given = shelf.1;
+        clean = λ clean disks. it.step.clean clean (shelf.2 disks);
+        step = λ clean disks. it.step.step clean (shelf.2 disks);
+        left = λ clean disks w stands opened was_usable contents may.
+            left_by g law q old new is_held reply new.has_failed refl no_trace usable is_fault faults it.step clean (shelf.2 disks) w stands opened was_usable contents may;
+      }

@@ -37,24 +37,26 @@ module _ {S : Type 0} (g : Ghosts S) where
         (still, record { packages = sights w still; sums = sums w still; holdings = held w stands });
   }
 
-module _ {S : Type 0} (g : Ghosts S) (archive : List ℕ) (frame : Frame) (requests : List Request) (p : List ℕ) (was : Begun S) (new : Seen S) (told : Told) (is : IsBegun g archive frame requests was) (looked : Looks g p was.world new told) where
+module _ {S : Type 0} (g : Ghosts S) {H : Type 0} (Asked : List ℕ → H → H → Type 0) (Taken : List ℕ → S → H → H → Type 0) (archive : List ℕ) (frame : Frame) (requests : List Request) (p : List ℕ) (before after : H) (was : Begun S) (new : Seen S) (told : Told) (is : IsBegun g Asked Taken archive frame requests before after was) (looked : Looks g p was.world new told) where
   abbrev shown : Shown S
   shown = record { world = new; replies = was.replies; told = told }
 
-  pub one_world : OneWorld g archive frame requests p shown
+  pub one_world : OneWorld g Asked Taken archive frame requests p before after shown
   one_world = record {
-    let_go = is.let_go;
-    so = λ clean gone.
-        let it = is.so (looked.clean clean) gone in
+    stores = is.stores;
+    given = is.given;
+    so = λ clean disks.
+        let it = is.so (looked.clean clean) disks in
         let seen = looked.answers clean it.world it.stands in
         (it.world, it.run, seen.0, seen.1);
   }
 
-  pub as_if_unasked : AsIfUnasked g archive frame requests p shown
+  pub as_if_unasked : AsIfUnasked g Asked Taken archive frame requests p before after shown
   as_if_unasked = record {
-    let_go = is.let_go;
-    so = λ clean gone.
-        let it = is.so (looked.clean clean) gone in
+    stores = is.stores;
+    given = is.given;
+    so = λ clean disks.
+        let it = is.so (looked.clean clean) disks in
         let seen = looked.answers clean it.world it.stands in
         (it.world, refused_as_unasked (new_world archive frame) requests was.replies.items it.world (run_of (new_world archive frame) requests was.replies.items it.world it.run), seen.0, seen.1);
   }
