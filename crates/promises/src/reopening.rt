@@ -54,7 +54,8 @@ pub fn open_and_run<S: Alter + Drop, H: Shelf<S>, W: Watcher>(
     shelf: &mut H,
 ) -> Option<Resumed<S>>
     requires { AreAllKeyed S.Store stores.items }
-    ensures { IfSome result (OpensAgain S.Store H.asks H.takes stores.items requests.now shelf.old shelf.new) }
+    ensures { IfSome result (OpensAgain S.Store H.asks H.takes stores.items requests.now
+        shelf.old shelf.new) }
 {
     have_types(requests);
     opens_again::<S>();

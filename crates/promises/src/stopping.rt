@@ -61,7 +61,8 @@ pub fn run_and_stop<S: Alter + Drop, H: Shelf<S>>(
     request: &Request,
     shelf: &mut H,
 ) -> Option<Stopped<S>>
-    ensures { IfSome result (StopsWhole S.Store H.asks H.takes archive frame.now before.now request.now shelf.old shelf.new) }
+    ensures { IfSome result (StopsWhole S.Store H.asks H.takes archive frame.now before.now request.now
+        shelf.old shelf.new) }
 {
     have_types(before);
     has_types(&request.command);

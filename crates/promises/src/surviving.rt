@@ -23,7 +23,8 @@ pub struct Survived<S: Alter + Drop> {
 }
 
 /// A new world, a list of requests, and one behind them, after which all stops. Then stores are opened, and
-/// that request is sent again, with others behind it, over a shelf that was made since. None where no world was made or opened, or there was no room for the replies.
+/// that request is sent again, with others behind it, over a shelf that was made since. None where no world was made or
+/// opened, or there was no room for the replies.
 pub fn run_stop_and_go_on<S: Alter + Drop, H: Shelf<S>, W: Watcher>(
     alloc: Global,
     archive: Uuid,
