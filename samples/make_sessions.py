@@ -18,6 +18,7 @@ are make_folders.py's. Nothing here runs the program.
 """
 
 import csv
+import json
 import os
 import re
 import sys
@@ -26,7 +27,7 @@ import field_work
 import nordmark
 import reference
 import verbs
-from machine import holding
+from machine import arrays, holding
 from machine.exports import export
 from machine.fault import fault_page_of
 from machine.frames import Frame
@@ -205,6 +206,7 @@ def verb_sessions(session):
     session.run("log harbour --last few", "refused: number\n", 1)
     session.run("audit harbour", f"good {len(world.receipts)}\n")
     session.run("report harbour", page_of(world, {}, reference.reply_text))
+    as_arrays(session, world)
     short_names(session, world)
     # (deleted, and found by what receipts tell)
     book = nordmark.medium("level-book")
@@ -221,6 +223,9 @@ def verb_sessions(session):
     world = verbs.trees_and_boxes(session)
     session.run("status tree", status_of(world))
     session.run("audit tree", f"good {len(world.receipts)}\n")
+    session.show("")
+    session.show("# Verbs that print nothing where they end well, and bold headings.")
+    quiet_and_bold(session)
     return shown
 
 
@@ -258,6 +263,34 @@ def short_names(session, world):
     session.run("explain harbour ffff", "refused: no such identity\n", 1)
     # (no UUID begins so)
     session.run("export harbour ffff-", "refused: uuid\n", 1)
+
+
+def bold(table):
+    """A table whose heading is bold on a terminal (ECMA-48)."""
+    heading, rest = table.split("\n", 1)
+    return f"\x1b[1m{heading}\x1b[0m\n{rest}"
+
+
+def quiet_and_bold(session):
+    """Verbs that print nothing, and tables with a bold heading."""
+    world = verbs.quietly(session)
+    session.run("status hush --color", bold(status_of(world)))
+    session.run("log hush --color --last 2", bold(log_of(world, last=2)))
+    # (an array has no heading)
+    session.run("status hush --color --json", arrays.packages_of(world, reference.sight_of))
+    session.run("audit hush", f"good {len(world.receipts)}\n")
+
+
+def as_arrays(session, world):
+    """The same for other programs."""
+    session.run("status harbour --json", arrays.packages_of(world, reference.sight_of))
+    session.run("log harbour --json", arrays.ledger_of(world))
+    session.run("log harbour --json 7900", arrays.ledger_of(world, "7900"))
+    session.run("log --json harbour --from 11 --last 3", arrays.ledger_of(world, first=11, last=3))
+    session.run("log harbour --json --last 0", arrays.ledger_of(world, last=0))
+    for identity in (nordmark.mark("light"), nordmark.medium("photo-lighthouse"), nordmark.sheet(6, 0, 0)):
+        session.run(f"explain harbour {identity.upper()} --json", arrays.steps_of(world, identity))
+        session.run(f"explain harbour --json {identity[:6]}", arrays.steps_of(world, identity))
 
 
 def exports(session):
@@ -472,11 +505,18 @@ def worked_sessions(session):
             long_one(session, name, checks)
 
 
+def is_read(lines):
+    """Whether these lines are one array, unless they tell a refusal."""
+    text = "".join(line for line in lines if line.strip() and not line.startswith(("#", "$")))
+    return text.startswith("refused: ") or isinstance(json.loads(text), list)
+
+
 def sessions_by_hand(session):
     """Lines that begin with `$ ` are typed, those with `# ` are comments, the others are printed."""
     for path in BY_HAND:
         with open(path, encoding="utf-8") as found:
             lines = found.read().splitlines(keepends=True)
+        assert all(is_read(printed) for line, printed in by_command(lines).items() if line.endswith(" --json\n"))
         session.printed += lines
         session.typed += [line.removeprefix("$ ") for line in lines if line.startswith(("$ ", "# ")) or line == "\n"]
 

@@ -22,8 +22,8 @@ module _ {S : Type 0} (g : Ghosts S) where
       → NamedLook → Ending → Option Hint → Type 0
   NamedLooked old stores writer writer' before after (Get word) ending hint =
       ShowsItem g word old stores writer writer' before after ending hint
-  NamedLooked old stores writer writer' before after (Explain word) ending hint =
-      ShowsNamed g word old stores writer writer' before after ending hint
+  NamedLooked old stores writer writer' before after (Explain form word) ending hint =
+      ShowsNamed g form word old stores writer writer' before after ending hint
   NamedLooked old stores writer writer' before after (Manifest word) ending hint =
       ShowsPackage g what.Manifest word old stores writer writer' before after ending hint
   NamedLooked old stores writer writer' before after (Export word) ending hint =

@@ -14,6 +14,7 @@ use Rattle.command_searches.specs.Hints.{hint_of}
 use Rattle.command_verbs.specs.Faults.{verb_line}
 use Rattle.command_verbs.specs.declared.names.NameFault.TheVariants.{Two}
 use Rattle.command_verbs.specs.declared.verbs.VerbFault.TheVariants.{Unfound}
+use Rattle.view_json.specs.declared.forms.Form.{Form}
 use Rattle.view_searches.specs.Ways.{IsNamedWay}
 use Rattle.view_searches.specs.declared.ways.NamedWay.{NamedWay}
 use Rattle.view_world.specs.Looks.{LooksInto}
@@ -44,11 +45,11 @@ module _ {W : Type 0} (writer writer' : W) (before after : Option (List ℕ)) wh
   TellsWay (Ok it) ending = TellsFound it.found (option_map (λ text. string_bytes text) it.text) ending
   TellsWay (Err fault) ending = (ending ≡ stopped fault) × (writer' ≡ writer)
 
-module _ {S : Type 0} (g : Ghosts S) (word : Bor (List ℕ)) where
+module _ {S : Type 0} (g : Ghosts S) (form : Form) (word : Bor (List ℕ)) where
   -- So much is found for the word among all items that the receipts of each world added that the value stood for, and it is told. The stores were only read.
   pub record ShowsNamed {W : Type 0} (seen : Seen S) (stores : List (Held S)) (writer writer' : W)
       (before after : Option (List ℕ)) (ending : Ending) (hint : Option Hint) : Type 0 where
     pub way : Result NamedWay Fault
-    pub looked : LooksInto g (λ w it. IsNamedWay (receipts_of w) word.now it) seen stores way
+    pub looked : LooksInto g (λ w it. IsNamedWay form (receipts_of w) word.now it) seen stores way
     pub told : TellsWay writer writer' before after way ending
     pub hinted : hint ≡ way_hint word way

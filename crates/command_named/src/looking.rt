@@ -14,6 +14,7 @@ use std::alloc::Global;
 use std::io::Write;
 use store_folder::opening::close_stores;
 use store_folder::start::FolderStore;
+use view_json::forms::Form;
 use views::endings::Ending;
 use world::world::World;
 
@@ -22,8 +23,8 @@ use world::world::World;
 pub enum NamedLook<'t> {
     /// What stands in this item.
     Get(&'t str),
-    /// The way of this item, which may be deleted since.
-    Explain(&'t str),
+    /// The way of this item in a form. The item may be deleted since.
+    Explain(Form, &'t str),
     /// The manifest of this package.
     Manifest(&'t str),
     /// The SQL of this package.
@@ -42,7 +43,7 @@ fn named_in<'t, S: Alter + Drop, W: Write>(
 {
     match asked {
         NamedLook::Get(word) => item_in(alloc, world, word, writer),
-        NamedLook::Explain(word) => named_way_in(alloc, world, word, writer),
+        NamedLook::Explain(form, word) => named_way_in(alloc, world, form, word, writer),
         NamedLook::Manifest(word) => package_in(alloc, world, PackageLook::Manifest, word, writer),
         NamedLook::Export(word) => package_in(alloc, world, PackageLook::Export, word, writer),
     }

@@ -18,16 +18,22 @@ use package_tables::fault::Fault;
 use sqlite::{Alter, Connection};
 use std::alloc::Global;
 use std::io::Write;
+use view_json::forms::Form;
 use view_searches::ways::{NamedWay, named_way};
 use views::endings::Ending;
 use world::world::World;
 
 /// What is found for a word among all items that receipts added, and the way of the one that it names.
-fn way_by(alloc: Global, register: &Result<Register, Fault>, word: &str) -> Result<NamedWay, Fault>
-    ensures { IfOk result (λ it. IsOkAnd register.now (λ told. IsNamedWay told.receipts.items word.now it)) }
+fn way_by(
+    alloc: Global,
+    form: Form,
+    register: &Result<Register, Fault>,
+    word: &str,
+) -> Result<NamedWay, Fault>
+    ensures { IfOk result (λ it. IsOkAnd register.now (λ told. IsNamedWay form told.receipts.items word.now it)) }
 {
     match register {
-        Ok(register) => match named_way(alloc, register.receipts.as_slice(), word) {
+        Ok(register) => match named_way(alloc, form, register.receipts.as_slice(), word) {
             Ok(it) => Ok(it),
             Err(_) => Err(Fault::OutOfMemory),
         },
@@ -80,19 +86,20 @@ fn tell_way<W: Write>(alloc: Global, way: &Result<NamedWay, Fault>, writer: &mut
     }
 }
 
-/// Prints the way of the item that a word names, of all that ever were. The stores of the world are handed on. Where the word names none, what comes
+/// Prints the way of the item that a word names, of all that ever were, in this form. The stores of the world are handed on. Where the word names none, what comes
 /// nearest is told beside it.
 pub fn named_way_in<'t, S: Alter + Drop, W: Write>(
     alloc: Global,
     world: World<S>,
+    form: Form,
     word: &'t str,
     writer: &mut W,
 ) -> (Ending, Option<Hint<'t>>, Vec<Connection<S>>)
-    ensures { ShowsNamed S.Store word.entry world result.2.items writer.old writer.new
+    ensures { ShowsNamed S.Store form word.entry world result.2.items writer.old writer.new
         (W.contents writer.old) (W.contents writer.new) result.0 result.1 }
 {
     let (register, stores) = register_of(alloc, world);
-    let way = way_by(alloc, &register, word);
+    let way = way_by(alloc, form, &register, word);
     let hint = hint_after(word, &way);
     let ending = tell_way(alloc, &way, writer);
     (ending, hint, stores)

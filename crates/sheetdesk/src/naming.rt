@@ -1,5 +1,5 @@
 //! Words that name a package or an item by its first digits, and what is told where they name none.
-use crate::running::text_of;
+use crate::running::{asked_form, text_of};
 use clap::ArgMatches;
 use command_folder::endings::{Ending, NO_MEMORY};
 use command_named::looking::NamedLook;
@@ -52,10 +52,14 @@ pub(crate) fn package_given(
 }
 
 /// What a command asks to look at by a word that names it, if it does. A whole UUID names itself, and needs no search.
-pub(crate) fn named_look<'m>(name: &str, word: &'m str) -> Option<NamedLook<'m>> {
+pub(crate) fn named_look<'m>(
+    name: &str,
+    given: &ArgMatches<'_>,
+    word: &'m str,
+) -> Option<NamedLook<'m>> {
     match name {
         "get" => Some(NamedLook::Get(word)),
-        "explain" if is_short(word) => Some(NamedLook::Explain(word)),
+        "explain" if is_short(word) => Some(NamedLook::Explain(asked_form(given), word)),
         "manifest" if is_short(word) => Some(NamedLook::Manifest(word)),
         "export" if is_short(word) => Some(NamedLook::Export(word)),
         _ => None,

@@ -8,6 +8,7 @@ use crate::founding::founded;
 use crate::naming::named_look;
 use crate::notes::{fault_note, print_refusals, tally_for};
 use crate::ordering::{if_given, is_verb, ordered};
+use crate::outputs::{verb_ended, verb_output};
 use crate::reporting::reported;
 use crate::showing::{Wish, shown};
 use crate::streams::{Input, Onlooker};
@@ -27,6 +28,7 @@ use commands::working::{Asked, work_for};
 use std::alloc::AllocError;
 use std::convert::AsStr;
 use std::io;
+use view_json::forms::Form;
 use views::endings as seen;
 use views::excerpts::LogWords;
 use views::looking::Asked as AskedLook;
@@ -168,16 +170,28 @@ fn asked_work<'m>(name: &str, given: &ArgMatches<'m>) -> Option<Asked<'m>> {
     }
 }
 
+/// In which form a command that looks is to tell.
+pub(crate) fn asked_form(given: &ArgMatches<'_>) -> Form {
+    if given.get_flag("json") {
+        Form::Json
+    } else {
+        Form::Table
+    }
+}
+
 /// What a command asks to look at, by the word that names it, if it looks at a folder.
 fn asked_look<'m>(name: &str, given: &ArgMatches<'m>, word: &'m str) -> Option<AskedLook<'m>> {
     match name {
-        "status" => Some(AskedLook::Status),
-        "log" => Some(AskedLook::Log(LogWords {
-            package: if_given(given, "package", word),
-            from: given.get_str("from"),
-            last: given.get_str("last"),
-        })),
-        "explain" => Some(AskedLook::Explain(word)),
+        "status" => Some(AskedLook::Status(asked_form(given))),
+        "log" => Some(AskedLook::Log(
+            asked_form(given),
+            LogWords {
+                package: if_given(given, "package", word),
+                from: given.get_str("from"),
+                last: given.get_str("last"),
+            },
+        )),
+        "explain" => Some(AskedLook::Explain(asked_form(given), word)),
         "receipt" => Some(AskedLook::Receipt(text_of(given, "request"))),
         "manifest" => Some(AskedLook::Manifest(word)),
         "export" => Some(AskedLook::Export(word)),
@@ -189,7 +203,7 @@ fn asked_look<'m>(name: &str, given: &ArgMatches<'m>, word: &'m str) -> Option<A
 
 /// What a command wishes to look at, by a name or by its words, if it looks at a folder.
 fn wish_of<'m>(name: &str, given: &ArgMatches<'m>, word: &'m str) -> Option<Wish<'m>> {
-    match named_look(name, word) {
+    match named_look(name, given, word) {
         Some(asked) => Some(Wish::Named(asked)),
         None => match asked_look(name, given, word) {
             Some(asked) => Some(Wish::Asked(asked)),
@@ -232,6 +246,13 @@ fn lend(rt: &HostRuntime, given: &ArgMatches<'_>, named: &Named, reader: &mut In
     }
 }
 
+/// Removes what older versions and stops left in a folder.
+fn tidied(rt: &HostRuntime, given: &ArgMatches<'_>) -> Ending {
+    let mut output = verb_output(rt, given);
+    let ending = tidy(rt, text_of(given, "folder"), &mut output);
+    verb_ended(rt, &output, ending)
+}
+
 /// Carries out a command that changes something, and answers how it ended.
 fn worked(
     rt: &HostRuntime,
@@ -243,7 +264,7 @@ fn worked(
     let word = named.word.as_str();
     match name {
         "init" => founded(rt, given),
-        "tidy" => tidy(rt, text_of(given, "folder"), &mut io::writer(rt)),
+        "tidy" => tidied(rt, given),
         "drop" => dropped(rt, given, word),
         "put" => put(rt, given, named, reader),
         "lend" => lend(rt, given, named, reader),
@@ -269,10 +290,7 @@ fn carried_out_of(
         return status;
     }
     if let Some(wish) = wish_of(name, given, word) {
-        return looked(
-            rt,
-            &shown(rt, text_of(given, "folder"), wish, given.get_str("output")),
-        );
+        return looked(rt, &shown(rt, name, given, wish));
     }
     let typed = reader.text();
     let ending = worked(rt, name, given, named, reader);
