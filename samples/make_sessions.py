@@ -216,11 +216,38 @@ def verb_sessions(session):
     session.run("status harbour", status_of(world))
     session.run("audit harbour", f"good {len(world.receipts)}\n")
     session.show("")
+    session.show("# By the names that people give.")
+    names(session)
+    session.show("")
     session.show("# Trees of tiles, and a loan of what covers a box.")
     world = verbs.trees_and_boxes(session)
     session.run("status tree", status_of(world))
     session.run("audit tree", f"good {len(world.receipts)}\n")
     return shown
+
+
+def names(session):
+    """Verbs and looks by names; where names are none."""
+    archive, crew, town = nordmark.ARCHIVE, nordmark.HARBOUR, nordmark.sheet(6, 0, 0)
+    people, called = verbs.by_names(session)
+    world = people.world
+    session.run("explain named Skarvholm", way_of(world, town))
+    session.run("manifest named crew", reference.manifest(world.packages[crew]))
+    for word in (crew[:4], archive):
+        session.run(f"manifest named {word}", reference.manifest(world.packages[archive]))
+    session.run("export named crew", export(world.frame, world.packages[crew], world.tickets[crew]))
+    session.run("export named crew --qgis crew.gpkg", project(world.frame, "crew.gpkg"))
+    session.run("log named crew", log_of(world, crew))
+    session.run("report named crew", loan_page_of(world, called, reference.reply_text, crew))
+    people.bring_home(crew, archive, word="crew")
+    session.run("report named crew", "refused: no such package\n", 1)
+    people.drop("levels", nordmark.medium("level-book"))
+    people.drop("levels", nordmark.medium("level-book"), " --yes")
+    session.run("audit named", f"good {len(world.receipts)}\n")
+    # (whether a list is one is not asked for a whole UUID)
+    session.name("unnamed/names.csv", b"uuid;name\n")
+    session.run("manifest unnamed home", "refused: names\n", 1)
+    session.run(f"manifest unnamed {archive}", "", 3)
 
 
 def short_names(session, world):
@@ -273,12 +300,20 @@ def projects(session, oblong):
     session.run(f"export maps {CREW} --qgis", "", 2)
 
 
+def names_read():
+    """The sample's file of names."""
+    with open(os.path.join(HERE, "names.csv"), "rb") as it:
+        return it.read()
+
+
+def names_called():
+    return {record["uuid"]: record["name"] for record in csv.DictReader(names_read().decode().splitlines())}
+
+
 def papers(session):
     """The custody page of a loan, with names and without; what is none; and the pages of folders that do not open."""
     world = rehearsed(told()[0].text().encode()).world
-    with open(os.path.join(HERE, "names.csv"), "rb") as it:
-        names = it.read()
-    called = {record["uuid"]: record["name"] for record in csv.DictReader(names.decode().splitlines())}
+    names, called = names_read(), names_called()
     session.run(f"report maps {CREW}", loan_page_of(world, {}, reference.reply_text, CREW))
     session.run(f"report maps {CREW.upper()} --names {session.name('samples/names.csv', names)}", loan_page_of(world, called, reference.reply_text, CREW))
     session.run(f"report maps {nordmark.ARCHIVE}", "refused: no such package\n", 1)
@@ -311,6 +346,10 @@ def drawings(session, oblong):
     session.run(f"init {MAKING} lending", f"archive {nordmark.ARCHIVE}\n")
     session.run("import lending " + session.name("lists/lending.csv", requests), report_of(done))
     session.run("map lending --names samples/names.csv", drawn)
+    called = names_called()
+    session.run("report lending boat --names samples/names.csv", loan_page_of(done.world, called, reference.reply_text, nordmark.BOAT))
+    session.run("report lending boat", "refused: uuid\n", 1)
+    session.run("report lending boat --names samples/nowhere.csv", "refused: names\n", 1)
 
 
 def making(check):

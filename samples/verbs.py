@@ -53,15 +53,23 @@ def counts_of(receipt):
     return f"receipt {receipt.seq}: {tiles} tiles, {media} media, {rows} rows, {links} links, {size} bytes\n"
 
 
+def names_text(names):
+    """What people call packages and items, as CSV."""
+    return "".join(f"{uuid},{name}\n" for uuid, name in [("uuid", "name"), *names]).encode()
+
+
 class Verbs:
     """Verbs over a folder, and the world that they lead to."""
 
-    def __init__(self, session, folder, is_shown):
+    def __init__(self, session, folder, is_shown, names=None):
         self.session, self.folder = session, folder
         self.unshown = {*FIELDS, ("merge", None)} if is_shown else set()
         self.world = World(nordmark.ARCHIVE, Frame.read(nordmark.FRAME))
         self.number = 0
-        session.type(f"mkdir {folder}", "")
+        if names is None:
+            session.type(f"mkdir {folder}", "")
+        else:
+            session.name(f"{folder}/names.csv", names_text(names))
         words = f"init {folder} --archive {nordmark.ARCHIVE} --at {nordmark.CREATED} --frame {nordmark.FRAME}"
         session.run(words, f"archive {nordmark.ARCHIVE}\n")
 
@@ -112,9 +120,9 @@ class Verbs:
         request = {"command": "split", "package": package, "other": loan, "kind": mode, **ends}
         return self.do("lend", rest, request, loan)
 
-    def bring_home(self, loan, into, digits=8):
+    def bring_home(self, loan, into, digits=8, word=None):
         request = {"command": "merge", "package": loan, "other": into, "ticket": self.world.tickets[loan]}
-        return self.do("return", loan[:digits], request)
+        return self.do("return", word or loan[:digits], request)
 
     def tie(self, verb, first, second, mapping, base, other, package=nordmark.ARCHIVE):
         command = {"join": "link", "part": "unlink"}[verb]
@@ -278,6 +286,34 @@ def every_verb(session):
     come_out(verbs)
     no_request(verbs)
     return verbs
+
+
+def by_names(session):
+    """Packages and items by what people call them. A name comes before first digits, and a whole UUID before a name."""
+    archive, crew = nordmark.ARCHIVE, nordmark.HARBOUR
+    town, light, book = nordmark.sheet(*TOWN), nordmark.mark("light"), nordmark.medium("level-book")
+    names = [(archive, "home"), (crew, "crew"), (town, "Skarvholm"), (book, "levels"), (light, "Pålen"), (archive, crew[:4]), (crew, archive)]
+    # (of the first word that two go by one is a package that is not yet there; the last says again what stands above)
+    names += [(archive, "both"), (crew, "both"), (book, "pair"), (light, "pair"), (archive, "home")]
+    verbs = Verbs(session, "named", False, names)
+    run, data = session.run, nordmark.SHEETS[TOWN].encode()
+    request = {"command": "add", "package": archive, "identity": town, "kind": "tile", "data": b"\x89PNG\r\n\x1a\n" + data}
+    verbs.do("put", "home tile 6/0/0 samples/town.png", {**request, **dict(zip(["zoom", "column", "row"], TOWN))}, town)
+    verbs.lend("home 6/0/0", crew, (6, 0, 0, 0, 0))
+    medium = {"command": "add", "package": crew, "identity": book, "kind": "media", "text": "text/plain", "data": b"levels along the sound\n"}
+    verbs.do("put", f"crew media {session.name('samples/levels.txt', medium['data'])}", medium, book)
+    mark = {"command": "add", "package": crew, "identity": light, "kind": "row", "x": 502345678, "y": 5960678900, "code": 210, "text": "lights"}
+    verbs.do("put", "crew mark 502345.678,5960678.9 210 lights", mark, light)
+    link = {"command": "link", "package": crew, "identity": light, "other": book, "kind": "rows_media"}
+    verbs.do("join", "levels Pålen", link)
+    run("get named levels", "levels along the sound\n")
+    verbs.refused("manifest", "both", f"two packages {archive} {crew}")
+    verbs.refused("lend", "both 6/0/0", f"two packages {archive} {crew}")
+    verbs.refused("drop", "pair", f"two items {book} {light}")
+    verbs.refused("part", "levels pair", f"two items {book} {light}")
+    verbs.refused("manifest", "Home", "uuid")
+    verbs.refused("get", "Home", "no such item")
+    return verbs, dict(reversed(names))
 
 
 def trees_and_boxes(session):

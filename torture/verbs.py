@@ -111,6 +111,28 @@ def whole_names(archive, loan):
     return tile
 
 
+def names(archive, loan, tile):
+    """What people call a package or an item serves in each subcommand as its UUID does."""
+    called = f"uuid,name\n{archive},Old harbour\n{loan},{archive[:6]}\n{tile},{archive}\n{loan},twins\n{archive},twins\n"
+    keep("maps/names.csv", called)
+    by_name = lambda words, name: subprocess.run([PROGRAM, *words.format(name).split("|")], capture_output=True, text=True)
+    for words in ("manifest|maps|{}", "export|maps|{}", "export|maps|{}|--qgis|crew.gpkg", "log|maps|{}", "report|maps|{}"):
+        for name, uuid in (("Old harbour", archive), (archive[:6], loan), (archive, archive)):
+            ends = [(it.returncode, it.stdout) for it in (by_name(words, name), by_name(words, uuid))]
+            if ends[0] != ends[1]:
+                sys.exit(f"verbs: '{words}' prints another text by the name {name}")
+        told = by_name(words, "twins")
+        if (told.returncode, told.stdout) != (1, f"refused: two packages {loan} {archive}\n"):
+            sys.exit(f"verbs: '{words}' of two prints {told.stdout}")
+    run(f"put maps {archive[:6]} mark 1,1 5 twins --dry-run", 0, r'\{.*"package":"' + loan + '".*\n')
+    run(f"lend maps {archive[:6]} --box 0,0,0.512,0.512 --zoom 3 --dry-run", 0, r'\{.*"package":"' + loan + '".*\n')
+    keep("maps/names.csv", f"uuid,name\n{archive}\n")
+    for words in ("manifest maps home", "drop maps twins", "return maps 0bad"):
+        run(words, 1, "refused: names\n", "names: maps/names.csv: .*\n")
+    run(f"manifest maps {archive}")
+    os.remove("maps/names.csv")
+
+
 def two(archive, loan):
     """Items and packages whose UUIDs begin alike."""
     one, more = ("0badcafe-0000-4000-8000-00000000000" + digit for digit in "12")
@@ -160,6 +182,7 @@ with tempfile.TemporaryDirectory() as room:
     trees(home)
     crew = boxes(home)
     sheet = whole_names(home, crew)
+    names(home, crew, sheet)
     two(home, crew)
     drops(home, sheet)
     run(f"return maps {crew[:8]}", 0, f"home {crew} {home}\nreceipt .*\n")

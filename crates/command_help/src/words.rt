@@ -7,7 +7,8 @@ use crate::tables::{
 use clap::Command;
 use std::alloc::{AllocError, Global};
 
-/// What makes an archive. Each table is used in a function of its own, since a check goes through all that it has at once.
+/// What makes an archive. Each table is used in a function of its own, since a check goes through all that it has
+/// at once.
 fn with_making<'a>(alloc: Global, command: Command<'a>) -> Result<Command<'a>, AllocError> {
     with_entries(alloc, command, MAKING)
 }

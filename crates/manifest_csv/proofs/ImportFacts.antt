@@ -136,7 +136,8 @@ module _ {S : Type 0} (g : Ghosts S) where
   imported text requests old new failed fails writer writer' before after (Err (Unread fault)) list it = absurd it.written
 
   -- the same of requests that are a list already
-  pub carried : (requests : List Request) (old new : Seen S) (failed fails : ℕ) (before after : Option (List ℕ)) (r : Result (Unit {0}) ImportFault) → IsImported g requests old new failed fails before after r
+  pub carried : (requests : List Request) (old new : Seen S) (failed fails : ℕ) (before after : Option (List ℕ))
+      (r : Result (Unit {0}) ImportFault) → IsImported g requests old new failed fails before after r
       → IsCarried g requests old new failed fails before after r
   carried requests old new failed fails before after (Ok x) it = it
   carried requests old new failed fails before after (Err (Stopped n fault)) it = it

@@ -90,9 +90,14 @@ module _ {S : Type 0} (g : Ghosts S) where
   Imports text old new failed fails writer writer' before after (Err Unwritten) = (requests : List Request) × IfSome text (λ t. IsList t requests) × IsImported requests old new failed fails before after (Err Unwritten)
   Imports text old new failed fails writer writer' before after (Ok x) = (requests : List Request) × IfSome text (λ t. IsList t requests) × IsImported requests old new failed fails before after (Ok x)
 
-  -- Requests that are a list already are carried out and reported. Where memory for a line is wanting, nothing is carried out.
-  abbrev pub IsCarried : List Request → Seen S → Seen S → ℕ → ℕ → Option (List ℕ) → Option (List ℕ) → Result (Unit {0}) ImportFault → Type 0
+  -- Requests that are a list already are carried out and reported. Where memory for a line is wanting, nothing is
+  -- carried out.
+  abbrev pub IsCarried : List Request → Seen S → Seen S → ℕ → ℕ → Option (List ℕ) → Option (List ℕ)
+      → Result (Unit {0}) ImportFault → Type 0
   IsCarried requests old new failed fails before after (Err (Unread fault)) = (fault ≡ Memory) × (new ≡ old)
-  IsCarried requests old new failed fails before after (Err (Stopped n fault)) = IsImported requests old new failed fails before after (Err (Stopped n fault))
-  IsCarried requests old new failed fails before after (Err Unwritten) = IsImported requests old new failed fails before after (Err Unwritten)
-  IsCarried requests old new failed fails before after (Ok x) = IsImported requests old new failed fails before after (Ok x)
+  IsCarried requests old new failed fails before after (Err (Stopped n fault)) =
+      IsImported requests old new failed fails before after (Err (Stopped n fault))
+  IsCarried requests old new failed fails before after (Err Unwritten) =
+      IsImported requests old new failed fails before after (Err Unwritten)
+  IsCarried requests old new failed fails before after (Ok x) =
+      IsImported requests old new failed fails before after (Ok x)

@@ -1,6 +1,6 @@
 //! A loan of the sheets that cover a box, as a person asks for it.
 use crate::naming::print_hint;
-use crate::ordering::{mode_of, moment_given, purpose_of, uuid_given};
+use crate::ordering::{if_given, mode_of, moment_given, purpose_of, uuid_given};
 use crate::running::text_of;
 use clap::ArgMatches;
 use command_folder::endings::Ending;
@@ -27,8 +27,13 @@ fn given_or_new(rt: &HostRuntime, given: &ArgMatches<'_>) -> Result<(Uuid, Uuid,
     Ok((id, loan, at))
 }
 
-/// Lends the sheets that cover a box.
-pub(crate) fn lend_box(rt: &HostRuntime, given: &ArgMatches<'_>, words: &str) -> Ending {
+/// Lends the sheets that cover a box, from the package that a word names, if one was given.
+pub(crate) fn lend_box(
+    rt: &HostRuntime,
+    given: &ArgMatches<'_>,
+    giver: &str,
+    words: &str,
+) -> Ending {
     let Some((ground, zoom)) = box_of(given, words) else {
         return Ending::Usual(Outcome::Refused(What::BadNumber));
     };
@@ -39,7 +44,7 @@ pub(crate) fn lend_box(rt: &HostRuntime, given: &ArgMatches<'_>, words: &str) ->
     let boxed = BoxedLoan {
         id,
         at: at.as_str(),
-        from: given.get_str("first"),
+        from: if_given(given, "first", giver),
         zoom,
         ground,
         mode: mode_of(given),

@@ -61,18 +61,19 @@ fn bring_from<R: Read + Drop>(
     ending
 }
 
-/// Carries the command out.
+/// Carries the command out of the package that a word names.
 pub(crate) fn brought(
     rt: &HostRuntime,
     name: &str,
     given: &ArgMatches<'_>,
+    word: &str,
     reader: &mut Input<'_>,
 ) -> Ending {
     let moment = match moment_given(rt, given) {
         Ok(moment) => moment,
         Err(ending) => return ending,
     };
-    match package_given(rt, given) {
+    match package_given(rt, given, word) {
         Ok(package) => bring_from(rt, name, given, package.as_str(), moment.as_str(), reader),
         Err(ending) => ending,
     }

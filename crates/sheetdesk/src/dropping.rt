@@ -9,14 +9,14 @@ use command_naming::drops::Dropping;
 use command_ordering::dropping::drop_for;
 use std::io;
 
-/// Drops an item of a folder's packages.
-pub(crate) fn dropped(rt: &HostRuntime, given: &ArgMatches<'_>) -> Ending {
+/// Drops the item of a folder's packages that a word names.
+pub(crate) fn dropped(rt: &HostRuntime, given: &ArgMatches<'_>, word: &str) -> Ending {
     let at = match moment_given(rt, given) {
         Ok(at) => at,
         Err(ending) => return ending,
     };
     let dropping = Dropping {
-        word: text_of(given, "identity"),
+        word,
         at: at.as_str(),
         ends_links: given.get_flag("yes"),
         is_shown: given.get_flag("dry-run"),

@@ -44,15 +44,20 @@ pub(crate) fn listed(rt: &HostRuntime, given: &ArgMatches<'_>) -> u8 {
     }
 }
 
-/// Prints the QGIS project of an export for the file of a name, and answers how that ended; none where a command
+/// Prints the QGIS project of the export of a package for the file of a name, and answers how that ended; none where a command
 /// asks for no such project.
-pub(crate) fn projected(rt: &HostRuntime, name: &str, given: &ArgMatches<'_>) -> Option<Ending> {
+pub(crate) fn projected(
+    rt: &HostRuntime,
+    name: &str,
+    given: &ArgMatches<'_>,
+    word: &str,
+) -> Option<Ending> {
     if name != "export" {
         return None;
     }
     let file = given.get_str("qgis")?;
     let folder = text_of(given, "folder");
-    Some(match package_given(rt, given) {
+    Some(match package_given(rt, given, word) {
         Ok(package) => project_for(rt, folder, package.as_str(), file, &mut io::writer(rt)),
         Err(ending) => ending,
     })

@@ -3,6 +3,7 @@
 
 mod boxes;
 mod bringing;
+mod called;
 mod clock;
 mod dropping;
 mod field;

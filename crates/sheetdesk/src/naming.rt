@@ -34,8 +34,11 @@ fn named_package(rt: &HostRuntime, folder: &str, word: &str) -> Result<Uuid, End
 }
 
 /// The package of a command that takes a whole UUID, in the words that it was given in, or in full where these are its first digits.
-pub(crate) fn package_given(rt: &HostRuntime, given: &ArgMatches<'_>) -> Result<String, Ending> {
-    let word = text_of(given, "package");
+pub(crate) fn package_given(
+    rt: &HostRuntime,
+    given: &ArgMatches<'_>,
+    word: &str,
+) -> Result<String, Ending> {
     let text: Result<String, AllocError> = if is_short(word) {
         let uuid = named_package(rt, text_of(given, "folder"), word)?;
         format!(in rt.alloc(); "{uuid}")
@@ -49,14 +52,16 @@ pub(crate) fn package_given(rt: &HostRuntime, given: &ArgMatches<'_>) -> Result<
 }
 
 /// What a command asks to look at by a word that names it, if it does. A whole UUID names itself, and needs no search.
-pub(crate) fn named_look<'m>(name: &str, given: &ArgMatches<'m>) -> Option<NamedLook<'m>> {
-    let identity = given.get_str("identity").unwrap_or("");
-    let package = given.get_str("package").unwrap_or("");
+pub(crate) fn named_look<'m>(
+    name: &str,
+    given: &ArgMatches<'_>,
+    word: &'m str,
+) -> Option<NamedLook<'m>> {
     match name {
-        "get" => Some(NamedLook::Get(identity)),
-        "explain" if is_short(identity) => Some(NamedLook::Explain(asked_form(given), identity)),
-        "manifest" if is_short(package) => Some(NamedLook::Manifest(package)),
-        "export" if is_short(package) => Some(NamedLook::Export(package)),
+        "get" => Some(NamedLook::Get(word)),
+        "explain" if is_short(word) => Some(NamedLook::Explain(asked_form(given), word)),
+        "manifest" if is_short(word) => Some(NamedLook::Manifest(word)),
+        "export" if is_short(word) => Some(NamedLook::Export(word)),
         _ => None,
     }
 }

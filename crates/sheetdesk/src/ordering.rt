@@ -1,4 +1,5 @@
 //! A verb's words become an order over the bytes of a file. What they leave out is new, or of the clock.
+use crate::called::Named;
 use crate::clock::{moment_now, new_uuid};
 use crate::naming::print_hint;
 use crate::running::text_of;
@@ -74,9 +75,8 @@ pub(crate) fn moment_given(rt: &HostRuntime, given: &ArgMatches<'_>) -> Result<S
     }
 }
 
-/// What `put` adds, by the kind that its words begin with.
-fn put_verb<'m>(given: &ArgMatches<'m>, identity: Uuid) -> Option<Verb<'m>> {
-    let package = text_of(given, "package");
+/// What `put` adds to a package, by the kind that its words begin with.
+fn put_verb<'m>(given: &ArgMatches<'m>, package: &'m str, identity: Uuid) -> Option<Verb<'m>> {
     let (kind, words) = given.subcommand()?;
     match kind {
         "tile" => Some(Verb::PutTile {
@@ -110,12 +110,20 @@ pub(crate) fn mode_of(given: &ArgMatches<'_>) -> Mode {
     }
 }
 
+/// A word, where one of this id was given.
+pub(crate) fn if_given<'m>(given: &ArgMatches<'_>, id: &str, word: &'m str) -> Option<&'m str> {
+    if given.contains_id(id) {
+        Some(word)
+    } else {
+        None
+    }
+}
+
 /// The loan that the words ask for. One word is the area; of two the first is the package that lends.
-fn lend_verb<'m>(given: &ArgMatches<'m>, loan: Uuid) -> Verb<'m> {
-    let first = text_of(given, "first");
+fn lend_verb<'m>(given: &ArgMatches<'m>, giver: &'m str, loan: Uuid) -> Verb<'m> {
     let (from, area) = match given.get_str("second") {
-        Some(area) => (Some(first), area),
-        None => (None, first),
+        Some(area) => (Some(giver), area),
+        None => (None, text_of(given, "first")),
     };
     Verb::Lend {
         from,
@@ -126,20 +134,25 @@ fn lend_verb<'m>(given: &ArgMatches<'m>, loan: Uuid) -> Verb<'m> {
 }
 
 /// The verb of a command, if it is one. What it makes gets this identity.
-fn verb_of<'m>(name: &str, given: &ArgMatches<'m>, identity: Uuid) -> Option<Verb<'m>> {
+fn verb_of<'m>(
+    name: &str,
+    given: &ArgMatches<'m>,
+    named: &'m Named,
+    identity: Uuid,
+) -> Option<Verb<'m>> {
+    let word = named.word.as_str();
+    let other = named.other.as_str();
     match name {
-        "put" => put_verb(given, identity),
-        "lend" => Some(lend_verb(given, identity)),
-        "return" => Some(Verb::Return {
-            loan: text_of(given, "loan"),
-        }),
+        "put" => put_verb(given, word, identity),
+        "lend" => Some(lend_verb(given, word, identity)),
+        "return" => Some(Verb::Return { loan: word }),
         "join" => Some(Verb::Join {
-            first: text_of(given, "first"),
-            second: text_of(given, "second"),
+            first: word,
+            second: other,
         }),
         "part" => Some(Verb::Part {
-            first: text_of(given, "first"),
-            second: text_of(given, "second"),
+            first: word,
+            second: other,
         }),
         _ => None,
     }
@@ -205,6 +218,7 @@ fn ordered_by<'m>(
     name: &str,
     given: &ArgMatches<'m>,
     options: &ArgMatches<'m>,
+    named: &'m Named,
     reader: &mut Input<'_>,
 ) -> Ending {
     let id = match uuid_given(rt, options, "request") {
@@ -219,7 +233,7 @@ fn ordered_by<'m>(
         Ok(at) => at,
         Err(ending) => return ending,
     };
-    let Some(verb) = verb_of(name, given, identity) else {
+    let Some(verb) = verb_of(name, given, named, identity) else {
         return FAILED;
     };
     let order = Order {
@@ -237,10 +251,11 @@ pub(crate) fn ordered(
     rt: &HostRuntime,
     name: &str,
     given: &ArgMatches<'_>,
+    named: &Named,
     reader: &mut Input<'_>,
 ) -> Ending {
     match given.subcommand() {
-        Some((_, words)) => ordered_by(rt, name, given, words, reader),
-        None => ordered_by(rt, name, given, given, reader),
+        Some((_, words)) => ordered_by(rt, name, given, words, named, reader),
+        None => ordered_by(rt, name, given, given, named, reader),
     }
 }

@@ -95,7 +95,12 @@ fn places_of(rt: &HostRuntime, folder: &str) -> io::Result<Vec<Place>> {
 }
 
 /// Adds the tiles of a tree to a package.
-pub(crate) fn put_tree(rt: &HostRuntime, given: &ArgMatches<'_>, words: &ArgMatches<'_>) -> Ending {
+pub(crate) fn put_tree(
+    rt: &HostRuntime,
+    given: &ArgMatches<'_>,
+    words: &ArgMatches<'_>,
+    package: &str,
+) -> Ending {
     let directory = text_of(words, "directory");
     let at = match moment_given(rt, words) {
         Ok(at) => at,
@@ -109,7 +114,7 @@ pub(crate) fn put_tree(rt: &HostRuntime, given: &ArgMatches<'_>, words: &ArgMatc
         rt,
         text_of(given, "folder"),
         &TreeWords {
-            package: text_of(given, "package"),
+            package,
             at: at.as_str(),
             is_upward: words.get_flag("tms"),
         },

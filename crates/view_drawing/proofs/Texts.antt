@@ -15,4 +15,5 @@ pub level_more : (r : Register) (total : ℕ) (start text new : List ℕ) (n : �
     → new ≡ text ++ level_if r total n → new ≡ start ++ levels_text r total (n + 1)
 unfolding levels_text
 level_more r total start text new n so_far grown =
-    rw add-one (grown ∙ ap (λ t. t ++ level_if r total n) so_far ∙ append_assoc start (levels_text r total n) (level_if r total n))
+    rw add-one (grown ∙ ap (λ t. t ++ level_if r total n) so_far ∙ append_assoc start (levels_text r total n)
+    (level_if r total n))

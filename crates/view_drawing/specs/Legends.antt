@@ -13,8 +13,10 @@ rank_of packages loan = count_by (λ p. nat_lt p.loan loan) packages
 abbrev pub row_begin : ℕ → ℕ → List ℕ
 row_begin rank n =
     codes "<g transform=\"translate(0 " ++ (decimal (times 26 rank) ++ (codes ")\"><rect class=\"" ++ (class_text n
-    ++ (codes "\" width=\"28\" height=\"14\" fill=\"url(#w" ++ (decimal n ++ (codes ")\"/><use class=\"" ++ (class_text n
-    ++ (codes "\" x=\"44\" y=\"7\" href=\"#k" ++ (decimal (pattern_of n) ++ codes "\"/><text x=\"60\" y=\"12\">")))))))))
+    ++ (codes "\" width=\"28\" height=\"14\" fill=\"url(#w"
+    ++ (decimal n ++ (codes ")\"/><use class=\"" ++ (class_text n
+    ++ (codes "\" x=\"44\" y=\"7\" href=\"#k"
+    ++ (decimal (pattern_of n) ++ codes "\"/><text x=\"60\" y=\"12\">")))))))))
 
 abbrev pub amounts_text : ℕ → ℕ → List ℕ
 amounts_text sheets marks =

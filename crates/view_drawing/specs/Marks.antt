@@ -27,7 +27,8 @@ mark_begin f n x y =
 
 abbrev pub mark_end : Register → Thing → ℤ → List ℕ → List ℕ
 mark_end r t code label =
-    signed_decimal code ++ (codes ", " ++ (plain_name r.names t.holder ++ (codes ", " ++ (escaped label ++ codes "</title></use>\n"))))
+    signed_decimal code ++ (codes ", "
+    ++ (plain_name r.names t.holder ++ (codes ", " ++ (escaped label ++ codes "</title></use>\n"))))
 
 unfoldable pub mark_text : Register → Thing → ℕ → ℤ → ℤ → ℤ → List ℕ → List ℕ
 mark_text r t n x y code label = mark_begin r.frame n x y ++ mark_end r t code label

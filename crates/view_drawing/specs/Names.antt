@@ -22,14 +22,16 @@ place_text left top = codes " x=\"" ++ (percent_text left ++ (codes "\" y=\"" ++
 
 unfoldable pub named_text : Name → ℕ → ℕ → List ℕ
 named_text n left top =
-    codes "<text class=\"nm\"" ++ (place_text left top ++ (codes " dx=\"9\" dy=\"-9\">" ++ (escaped n.name ++ codes "</text>\n")))
+    codes "<text class=\"nm\"" ++ (place_text left top
+    ++ (codes " dx=\"9\" dy=\"-9\">" ++ (escaped n.name ++ codes "</text>\n")))
 
 -- of a sheet that has one, and where it is one of this zoom
 abbrev pub names_text : List Name → List ℕ → ℕ → ℕ → List ℕ
 names_text names id left top = option_map_or (λ n. named_text n left top) (name_of names id) []
 
 abbrev pub name_in : List Name → Layout → List ℕ → ℤ → ℤ → List ℕ
-name_in names l id column row = names_text names id (share (unsigned_abs column) l.columns) (share (plus (unsigned_abs row) 1) l.rows)
+name_in names l id column row =
+    names_text names id (share (unsigned_abs column) l.columns) (share (plus (unsigned_abs row) 1) l.rows)
 
 abbrev pub name_at : List Name → Level → List ℕ → ℤ → ℤ → ℤ → List ℕ
 name_at names l id zoom column row = if int_eq zoom l.zoom then name_in names l.layout id column row else []

@@ -16,7 +16,8 @@ use Rattle.view_report.specs.declared.registers.Thing.{Thing}
 
 abbrev pub sheet_title : List Name → Thing → ℤ → ℤ → ℤ → List ℕ
 sheet_title names t zoom column row =
-    place_text zoom column row ++ (codes ", " ++ (plain_name names t.holder ++ (also_named names t.identity ++ codes "</title></rect>\n")))
+    place_text zoom column row ++ (codes ", "
+    ++ (plain_name names t.holder ++ (also_named names t.identity ++ codes "</title></rect>\n")))
 
 -- a sheet of a package, and of one that lives
 abbrev pub sheet_of : Register → Level → Thing → ℤ → ℤ → ℤ → Live → List ℕ

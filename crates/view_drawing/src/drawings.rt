@@ -1,7 +1,15 @@
 //! A whole drawing.
 ghost use Rattle.std.specs.Prelude.{◌≡◌, ◌++◌, IfOk, IsTrue, length, string_bytes};
 ghost use Rattle.sheet_types.specs.Matrix.{is_good_frame};
-ghost use Rattle.view_drawing.specs.Drawings.{defs_text, drawing_text, head_text, legend_text, map_height, map_text, whole_height};
+ghost use Rattle.view_drawing.specs.Drawings.{
+  defs_text,
+  drawing_text,
+  head_text,
+  legend_text,
+  map_height,
+  map_text,
+  whole_height,
+};
 
 use crate::legends::put_rows;
 use crate::marks::put_marks;
@@ -53,7 +61,8 @@ fn receipt_count(register: &Register) -> u64
 
 /// Puts the beginning: how large it is, and its title.
 fn put_head(text: &mut String, register: &Register, whole: u64) -> Result<(), AllocError>
-    ensures { IfOk result (λ _. string_bytes text.new ≡ string_bytes text.old ++ head_text register.now whole) }
+    ensures { IfOk result
+        (λ _. string_bytes text.new ≡ string_bytes text.old ++ head_text register.now whole) }
 {
     put(text, HEAD)?;
     put_count(text, whole)?;
@@ -68,7 +77,8 @@ fn put_head(text: &mut String, register: &Register, whole: u64) -> Result<(), Al
 
 /// Puts the style, the patterns and the shapes.
 fn put_defs(text: &mut String, register: &Register) -> Result<(), AllocError>
-    ensures { IfOk result (λ _. string_bytes text.new ≡ string_bytes text.old ++ defs_text register.now) }
+    ensures { IfOk result
+        (λ _. string_bytes text.new ≡ string_bytes text.old ++ defs_text register.now) }
 {
     put(text, STYLE)?;
     put_patterns(text, &register.packages)?;
@@ -84,7 +94,8 @@ fn put_map(
     height: u64,
 ) -> Result<(), AllocError>
     requires { IsTrue (is_good_frame register.now.frame) }
-    ensures { IfOk result (λ _. string_bytes text.new ≡ string_bytes text.old ++ map_text register.now total height) }
+    ensures { IfOk result
+        (λ _. string_bytes text.new ≡ string_bytes text.old ++ map_text register.now total height) }
 {
     put(text, MAP_HEAD)?;
     put_count(text, height)?;
@@ -98,7 +109,8 @@ fn put_map(
 
 /// Puts the legend below a map that is so high.
 fn put_legend(text: &mut String, register: &Register, height: u64) -> Result<(), AllocError>
-    ensures { IfOk result (λ _. string_bytes text.new ≡ string_bytes text.old ++ legend_text register.now height) }
+    ensures { IfOk result
+        (λ _. string_bytes text.new ≡ string_bytes text.old ++ legend_text register.now height) }
 {
     put(text, "<g transform=\"translate(16 ")?;
     put_count(text, plus(height, 32))?;
@@ -111,7 +123,8 @@ fn put_legend(text: &mut String, register: &Register, height: u64) -> Result<(),
 /// Puts a whole drawing.
 fn put_drawing(text: &mut String, register: &Register) -> Result<(), AllocError>
     requires { IsTrue (is_good_frame register.now.frame) }
-    ensures { IfOk result (λ _. string_bytes text.new ≡ string_bytes text.old ++ drawing_text register.now) }
+    ensures { IfOk result
+        (λ _. string_bytes text.new ≡ string_bytes text.old ++ drawing_text register.now) }
 {
     let total = level_total(&register.frame);
     let height = map_height(&finest_of(&register.frame));

@@ -19,7 +19,8 @@ fn rank_of(packages: &[Live], loan: u64) -> usize
 
 /// Puts the colour, pattern and shape of the holder of this number, below so many other rows.
 fn put_begin(text: &mut String, rank: usize, number: usize) -> Result<(), AllocError>
-    ensures { IfOk result (λ _. string_bytes text.new ≡ string_bytes text.old ++ row_begin rank number) }
+    ensures { IfOk result
+        (λ _. string_bytes text.new ≡ string_bytes text.old ++ row_begin rank number) }
 {
     put(text, "<g transform=\"translate(0 ")?;
     put_count(text, times(26, rank as u64))?;
@@ -37,7 +38,8 @@ fn put_begin(text: &mut String, rank: usize, number: usize) -> Result<(), AllocE
 
 /// Puts how many sheets and marks a package holds.
 fn put_amounts(text: &mut String, sheets: u64, marks: u64) -> Result<(), AllocError>
-    ensures { IfOk result (λ _. string_bytes text.new ≡ string_bytes text.old ++ amounts_text sheets marks) }
+    ensures { IfOk result
+        (λ _. string_bytes text.new ≡ string_bytes text.old ++ amounts_text sheets marks) }
 {
     put(text, ": ")?;
     put_count(text, sheets)?;
@@ -49,7 +51,8 @@ fn put_amounts(text: &mut String, sheets: u64, marks: u64) -> Result<(), AllocEr
 
 /// Puts who holds it, and how much.
 fn put_end(text: &mut String, register: &Register, live: &Live) -> Result<(), AllocError>
-    ensures { IfOk result (λ _. string_bytes text.new ≡ string_bytes text.old ++ row_end register.now live.now) }
+    ensures { IfOk result
+        (λ _. string_bytes text.new ≡ string_bytes text.old ++ row_end register.now live.now) }
 {
     put_plain_name(text, &register.names, live.uuid)?;
     put_amounts(text, live.sums.tiles, live.sums.rows)?;
@@ -59,7 +62,8 @@ fn put_end(text: &mut String, register: &Register, live: &Live) -> Result<(), Al
 
 /// Puts the row of a package.
 fn put_row(text: &mut String, register: &Register, live: &Live) -> Result<(), AllocError>
-    ensures { IfOk result (λ _. string_bytes text.new ≡ string_bytes text.old ++ holder_row register.now live.now) }
+    ensures { IfOk result
+        (λ _. string_bytes text.new ≡ string_bytes text.old ++ holder_row register.now live.now) }
 {
     put_begin(text, rank_of(&register.packages, live.loan), live.number)?;
     put_end(text, register, live)?;
@@ -72,7 +76,9 @@ pub(crate) fn put_rows(
     register: &Register,
     packages: &[Live],
 ) -> Result<(), AllocError>
-    ensures { IfOk result (λ _. string_bytes text.new ≡ string_bytes text.old ++ flat_map (holder_row register.now) packages.now) }
+    ensures { IfOk result
+        (λ _. string_bytes text.new ≡ string_bytes text.old
+        ++ flat_map (holder_row register.now) packages.now) }
 {
     for live in packages {
         put_row(text, register, live)?;

@@ -1,4 +1,5 @@
-//! The map of a register as a file of its own: all zooms nested, names of the first, marks, and a legend (SVG). Functions of values, with no world and no reader.
+//! The map of a register as a file of its own: all zooms nested, names of the first, marks, and a legend (SVG).
+//! Functions of values, with no world and no reader.
 #![tactic(auto)]
 
 pub mod drawings;

@@ -12,7 +12,8 @@ use view_report::registers::{About, Register, Thing, live_of};
 
 /// Puts where a point stands on the map.
 fn put_mark_place(text: &mut String, frame: &Frame, x: i64, y: i64) -> Result<(), AllocError>
-    ensures { IfOk result (λ _. string_bytes text.new ≡ string_bytes text.old ++ mark_place frame.now x y) }
+    ensures { IfOk result
+        (λ _. string_bytes text.new ≡ string_bytes text.old ++ mark_place frame.now x y) }
 {
     let left = x_share(frame, x);
     let top = y_share(frame, y);
@@ -28,7 +29,8 @@ fn put_begin(
     x: i64,
     y: i64,
 ) -> Result<(), AllocError>
-    ensures { IfOk result (λ _. string_bytes text.new ≡ string_bytes text.old ++ mark_begin frame.now number x y) }
+    ensures { IfOk result
+        (λ _. string_bytes text.new ≡ string_bytes text.old ++ mark_begin frame.now number x y) }
 {
     put(text, "<use class=\"")?;
     put_class(text, number)?;
@@ -48,7 +50,9 @@ fn put_end(
     code: i64,
     label: &str,
 ) -> Result<(), AllocError>
-    ensures { IfOk result (λ _. string_bytes text.new ≡ string_bytes text.old ++ mark_end register.now thing.now code label.now) }
+    ensures { IfOk result
+        (λ _. string_bytes text.new ≡ string_bytes text.old
+        ++ mark_end register.now thing.now code label.now) }
 {
     put_signed(text, code)?;
     put(text, ", ")?;
@@ -70,7 +74,9 @@ fn put_mark(
     code: i64,
     label: &str,
 ) -> Result<(), AllocError>
-    ensures { IfOk result (λ _. string_bytes text.new ≡ string_bytes text.old ++ mark_text register.now thing.now number x y code label.now) }
+    ensures { IfOk result
+        (λ _. string_bytes text.new ≡ string_bytes text.old
+        ++ mark_text register.now thing.now number x y code label.now) }
 {
     put_begin(text, &register.frame, number, x, y)?;
     put_end(text, register, thing, code, label)?;
@@ -84,7 +90,9 @@ fn put_mark_of(
     thing: &Thing,
     number: usize,
 ) -> Result<(), AllocError>
-    ensures { IfOk result (λ _. string_bytes text.new ≡ string_bytes text.old ++ mark_of register.now thing.now number thing.now.about) }
+    ensures { IfOk result
+        (λ _. string_bytes text.new ≡ string_bytes text.old
+        ++ mark_of register.now thing.now number thing.now.about) }
 {
     match &thing.about {
         About::Mark { x, y, code, label } => put_mark(
@@ -103,7 +111,8 @@ fn put_mark_of(
 
 /// Puts an item, if it is a mark of a package that lives.
 fn put_mark_if(text: &mut String, register: &Register, thing: &Thing) -> Result<(), AllocError>
-    ensures { IfOk result (λ _. string_bytes text.new ≡ string_bytes text.old ++ mark_if register.now thing.now) }
+    ensures { IfOk result
+        (λ _. string_bytes text.new ≡ string_bytes text.old ++ mark_if register.now thing.now) }
 {
     match live_of(&register.packages, thing.holder) {
         Some(live) => put_mark_of(text, register, thing, live.number),
@@ -117,7 +126,9 @@ pub(crate) fn put_marks(
     register: &Register,
     things: &[Thing],
 ) -> Result<(), AllocError>
-    ensures { IfOk result (λ _. string_bytes text.new ≡ string_bytes text.old ++ flat_map (mark_if register.now) things.now) }
+    ensures { IfOk result
+        (λ _. string_bytes text.new ≡ string_bytes text.old
+        ++ flat_map (mark_if register.now) things.now) }
 {
     for thing in things {
         put_mark_if(text, register, thing)?;

@@ -1,7 +1,16 @@
 //! The names of the sheets of the first zoom, and where something stands on the map.
 ghost use Rattle.std.specs.Prelude.{◌≡◌, ◌++◌, IfOk, IsTrue, flat_map, string_bytes};
 ghost use Rattle.sheet_types.specs.Matrix.{is_good_frame};
-ghost use Rattle.view_drawing.specs.Names.{name_at, name_if, name_in, named_at, named_text, names_text, percent_text, place_text};
+ghost use Rattle.view_drawing.specs.Names.{
+  name_at,
+  name_if,
+  name_in,
+  named_at,
+  named_text,
+  names_text,
+  percent_text,
+  place_text,
+};
 
 use std::alloc::AllocError;
 use uuid::Uuid;
@@ -15,7 +24,8 @@ use view_report::registers::{About, Name, Register, Thing, name_of};
 
 /// Puts ten-thousandths as a percentage with two places.
 fn put_percent(text: &mut String, share: u64) -> Result<(), AllocError>
-    ensures { IfOk result (λ _. string_bytes text.new ≡ string_bytes text.old ++ percent_text share) }
+    ensures { IfOk result
+        (λ _. string_bytes text.new ≡ string_bytes text.old ++ percent_text share) }
 {
     put_count(text, share / 100)?;
     put(text, ".")?;
@@ -27,7 +37,8 @@ fn put_percent(text: &mut String, share: u64) -> Result<(), AllocError>
 
 /// Puts where on the map something stands, in ten-thousandths of its sides.
 pub(crate) fn put_place(text: &mut String, left: u64, top: u64) -> Result<(), AllocError>
-    ensures { IfOk result (λ _. string_bytes text.new ≡ string_bytes text.old ++ place_text left top) }
+    ensures { IfOk result
+        (λ _. string_bytes text.new ≡ string_bytes text.old ++ place_text left top) }
 {
     put(text, " x=\"")?;
     put_percent(text, left)?;
@@ -39,7 +50,8 @@ pub(crate) fn put_place(text: &mut String, left: u64, top: u64) -> Result<(), Al
 
 /// Puts the name of a sheet at its place.
 fn put_named(text: &mut String, name: &Name, left: u64, top: u64) -> Result<(), AllocError>
-    ensures { IfOk result (λ _. string_bytes text.new ≡ string_bytes text.old ++ named_text name.now left top) }
+    ensures { IfOk result
+        (λ _. string_bytes text.new ≡ string_bytes text.old ++ named_text name.now left top) }
 {
     put(text, "<text class=\"nm\"")?;
     put_place(text, left, top)?;
@@ -57,7 +69,8 @@ fn put_name_of(
     left: u64,
     top: u64,
 ) -> Result<(), AllocError>
-    ensures { IfOk result (λ _. string_bytes text.new ≡ string_bytes text.old ++ names_text names.now id left top) }
+    ensures { IfOk result
+        (λ _. string_bytes text.new ≡ string_bytes text.old ++ names_text names.now id left top) }
 {
     match name_of(names, id) {
         Some(name) => put_named(text, name, left, top),
@@ -74,7 +87,9 @@ fn put_name_in(
     column: i64,
     row: i64,
 ) -> Result<(), AllocError>
-    ensures { IfOk result (λ _. string_bytes text.new ≡ string_bytes text.old ++ name_in names.now layout.now id column row) }
+    ensures { IfOk result
+        (λ _. string_bytes text.new ≡ string_bytes text.old
+        ++ name_in names.now layout.now id column row) }
 {
     let left = column_share(layout, column);
     let top = row_share(layout, row);
@@ -92,7 +107,9 @@ fn put_name_at(
     column: i64,
     row: i64,
 ) -> Result<(), AllocError>
-    ensures { IfOk result (λ _. string_bytes text.new ≡ string_bytes text.old ++ name_at names.now level.now id zoom column row) }
+    ensures { IfOk result
+        (λ _. string_bytes text.new ≡ string_bytes text.old
+        ++ name_at names.now level.now id zoom column row) }
 {
     if zoom == level.zoom {
         put_name_in(text, names, &level.layout, id, column, row)
@@ -108,7 +125,9 @@ fn put_name_if(
     level: &Level,
     thing: &Thing,
 ) -> Result<(), AllocError>
-    ensures { IfOk result (λ _. string_bytes text.new ≡ string_bytes text.old ++ name_if names.now level.now thing.now) }
+    ensures { IfOk result
+        (λ _. string_bytes text.new ≡ string_bytes text.old
+        ++ name_if names.now level.now thing.now) }
 {
     match &thing.about {
         About::Sheet { zoom, column, row } => {
@@ -125,7 +144,9 @@ fn put_names(
     level: &Level,
     things: &[Thing],
 ) -> Result<(), AllocError>
-    ensures { IfOk result (λ _. string_bytes text.new ≡ string_bytes text.old ++ flat_map (name_if names.now level.now) things.now) }
+    ensures { IfOk result
+        (λ _. string_bytes text.new ≡ string_bytes text.old
+        ++ flat_map (name_if names.now level.now) things.now) }
 {
     for thing in things {
         put_name_if(text, names, level, thing)?;
@@ -140,7 +161,8 @@ pub(crate) fn put_first_names(
     total: u64,
 ) -> Result<(), AllocError>
     requires { IsTrue (is_good_frame register.now.frame) }
-    ensures { IfOk result (λ _. string_bytes text.new ≡ string_bytes text.old ++ named_at register.now total) }
+    ensures { IfOk result
+        (λ _. string_bytes text.new ≡ string_bytes text.old ++ named_at register.now total) }
 {
     match level_at(&register.frame, total, 0) {
         Some(level) => put_names(text, &register.names, &level, register.things.as_slice()),

@@ -1,7 +1,16 @@
 //! The sheets of each zoom, from the coarsest on.
 ghost use Rattle.std.specs.Prelude.{◌≡◌, ◌++◌, IfOk, IsTrue, flat_map, string_bytes};
 ghost use Rattle.sheet_types.specs.Matrix.{is_good_frame};
-ghost use Rattle.view_drawing.specs.Sheets.{level_if, level_text, levels_text, sheet_at, sheet_if, sheet_of, sheet_text, sheet_title};
+ghost use Rattle.view_drawing.specs.Sheets.{
+  level_if,
+  level_text,
+  levels_text,
+  sheet_at,
+  sheet_if,
+  sheet_of,
+  sheet_text,
+  sheet_title,
+};
 
 use std::alloc::AllocError;
 use view_report::drawing::{put_also_named, put_box, put_pattern_links, put_sides};
@@ -19,7 +28,9 @@ fn put_title(
     column: i64,
     row: i64,
 ) -> Result<(), AllocError>
-    ensures { IfOk result (λ _. string_bytes text.new ≡ string_bytes text.old ++ sheet_title names.now thing.now zoom column row) }
+    ensures { IfOk result
+        (λ _. string_bytes text.new ≡ string_bytes text.old
+        ++ sheet_title names.now thing.now zoom column row) }
 {
     put_place(text, zoom, column, row)?;
     put(text, ", ")?;
@@ -40,7 +51,9 @@ fn put_sheet_of(
     column: i64,
     row: i64,
 ) -> Result<(), AllocError>
-    ensures { IfOk result (λ _. string_bytes text.new ≡ string_bytes text.old ++ sheet_of register.now level.now thing.now zoom column row live.now) }
+    ensures { IfOk result
+        (λ _. string_bytes text.new ≡ string_bytes text.old
+        ++ sheet_of register.now level.now thing.now zoom column row live.now) }
 {
     let number = live.number;
     put_box(text, level, live, number, column, row)?;
@@ -58,7 +71,9 @@ fn put_sheet(
     column: i64,
     row: i64,
 ) -> Result<(), AllocError>
-    ensures { IfOk result (λ _. string_bytes text.new ≡ string_bytes text.old ++ sheet_text register.now level.now thing.now zoom column row) }
+    ensures { IfOk result
+        (λ _. string_bytes text.new ≡ string_bytes text.old
+        ++ sheet_text register.now level.now thing.now zoom column row) }
 {
     match live_of(&register.packages, thing.holder) {
         Some(live) => put_sheet_of(text, register, level, thing, live, zoom, column, row),
@@ -76,7 +91,9 @@ fn put_sheet_at(
     column: i64,
     row: i64,
 ) -> Result<(), AllocError>
-    ensures { IfOk result (λ _. string_bytes text.new ≡ string_bytes text.old ++ sheet_at register.now level.now thing.now zoom column row) }
+    ensures { IfOk result
+        (λ _. string_bytes text.new ≡ string_bytes text.old
+        ++ sheet_at register.now level.now thing.now zoom column row) }
 {
     if zoom == level.zoom {
         put_sheet(text, register, level, thing, zoom, column, row)
@@ -92,7 +109,9 @@ fn put_sheet_if(
     level: &Level,
     thing: &Thing,
 ) -> Result<(), AllocError>
-    ensures { IfOk result (λ _. string_bytes text.new ≡ string_bytes text.old ++ sheet_if register.now level.now thing.now) }
+    ensures { IfOk result
+        (λ _. string_bytes text.new ≡ string_bytes text.old
+        ++ sheet_if register.now level.now thing.now) }
 {
     match &thing.about {
         About::Sheet { zoom, column, row } => {
@@ -109,7 +128,9 @@ fn put_sheets(
     level: &Level,
     things: &[Thing],
 ) -> Result<(), AllocError>
-    ensures { IfOk result (λ _. string_bytes text.new ≡ string_bytes text.old ++ flat_map (sheet_if register.now level.now) things.now) }
+    ensures { IfOk result
+        (λ _. string_bytes text.new ≡ string_bytes text.old
+        ++ flat_map (sheet_if register.now level.now) things.now) }
 {
     for thing in things {
         put_sheet_if(text, register, level, thing)?;
@@ -119,7 +140,8 @@ fn put_sheets(
 
 /// Puts a zoom.
 fn put_level(text: &mut String, register: &Register, level: &Level) -> Result<(), AllocError>
-    ensures { IfOk result (λ _. string_bytes text.new ≡ string_bytes text.old ++ level_text register.now level.now) }
+    ensures { IfOk result
+        (λ _. string_bytes text.new ≡ string_bytes text.old ++ level_text register.now level.now) }
 {
     put(text, "<svg class=\"l")?;
     put_count(text, level.index)?;
@@ -141,7 +163,8 @@ fn put_level_if(
     index: u64,
 ) -> Result<(), AllocError>
     requires { IsTrue (is_good_frame register.now.frame) }
-    ensures { IfOk result (λ _. string_bytes text.new ≡ string_bytes text.old ++ level_if register.now total index) }
+    ensures { IfOk result
+        (λ _. string_bytes text.new ≡ string_bytes text.old ++ level_if register.now total index) }
 {
     match level_at(&register.frame, total, index) {
         Some(level) => put_level(text, register, &level),
@@ -156,7 +179,9 @@ pub(crate) fn put_levels(
     total: u64,
 ) -> Result<(), AllocError>
     requires { IsTrue (is_good_frame register.now.frame) }
-    ensures { IfOk result (λ _. string_bytes text.new ≡ string_bytes text.old ++ levels_text register.now total total) }
+    ensures { IfOk result
+        (λ _. string_bytes text.new ≡ string_bytes text.old
+        ++ levels_text register.now total total) }
 {
     for index in 0..total {
         put_level_if(text, register, total, index)?;

@@ -15,10 +15,21 @@ use Rattle.world.specs.Reading.{sight_of}
 use Rattle.world.specs.declared.reading.PackageSight.{PackageSight}
 
 -- one more
-pub life_next : (w : World) (sights : List PackageSight) (sums : List Sums) (loans : List ℕ) (receipts : List Receipt) → AreKept w sights sums → loans ≡ map (λ p. p.loan) w.packages → receipts ≡ receipts_of w
-    → (i : ℕ) (s : PackageSight) (x : Sums) (l k : ℕ) → k ≡ number_of receipts l → slice_get sights i ≡ Some s → slice_get sums i ≡ Some x → slice_get loans i ≡ Some l
+pub life_next : (w : World) (sights : List PackageSight) (sums : List Sums) (loans : List ℕ)
+    (receipts : List Receipt) → AreKept w sights sums → loans ≡ map (λ p. p.loan) w.packages
+    → receipts ≡ receipts_of w
+    → (i : ℕ) (s : PackageSight) (x : Sums) (l k : ℕ) → k ≡ number_of receipts l → slice_get sights i ≡ Some s
+    → slice_get sums i ≡ Some x → slice_get loans i ≡ Some l
     → (lives : List Live) → lives ≡ map (live_of w) (take i w.packages)
-    → lives ++ record { uuid = s.uuid; parent = s.parent; depth = s.depth; loan = l; number = k; ticket = s.ticket; sums = x } ∷ [] ≡ map (live_of w) (take (i + 1) w.packages)
+    → lives ++ record {
+      uuid = s.uuid;
+      parent = s.parent;
+      depth = s.depth;
+      loan = l;
+      number = k;
+      ticket = s.ticket;
+      sums = x;
+    } ∷ [] ≡ map (live_of w) (take (i + 1) w.packages)
 life_next w sights sums loans receipts kept made told i s x l k counted is is_x is_l lives so =
     let seen = at_both sight_of (λ (p : Package). record { uuid = p.uuid; parent = p.parent; depth = p.depth; ticket = ticket w p.uuid }) sights w.packages i s kept.seen is in
     let p : Package = seen.0 in
@@ -31,7 +42,24 @@ life_next w sights sums loans receipts kept made told i s x l k counted is is_x 
     let depth_is : s.depth ≡ p.depth = ap (λ (v : ModelSight). v.depth) seen.2 in
     let ticket_is : s.ticket ≡ ticket w p.uuid = ap (λ (v : ModelSight). v.ticket) seen.2 in
     let number_is : k ≡ number_of (receipts_of w) p.loan = counted ∙ (λ n. number_of (told n) (loan_is n)) in
-    let live : Live = record { uuid = s.uuid; parent = s.parent; depth = s.depth; loan = l; number = k; ticket = s.ticket; sums = x } in
-    let live_is : live ≡ live_of w p = λ n. record { uuid = uuid_is n; parent = parent_is n; depth = depth_is n; loan = loan_is n; number = number_is n; ticket = ticket_is n; sums = sums_is n } in
+    let live : Live = record {
+      uuid = s.uuid;
+      parent = s.parent;
+      depth = s.depth;
+      loan = l;
+      number = k;
+      ticket = s.ticket;
+      sums = x;
+    } in
+    let live_is : live ≡ live_of w p =
+    λ n. record {
+      uuid = uuid_is n;
+      parent = parent_is n;
+      depth = depth_is n;
+      loan = loan_is n;
+      number = number_is n;
+      ticket = ticket_is n;
+      sums = sums_is n;
+    } in
     ap (λ ls. ls ++ live ∷ []) so ∙ ap (λ r. map (live_of w) (take i w.packages) ++ r ∷ []) live_is ∙ sym (map_snoc (live_of w) (take i w.packages) p)
     ∙ ap (map (live_of w)) (sym (take_next w.packages i p seen.1))

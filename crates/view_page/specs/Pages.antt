@@ -25,7 +25,8 @@ use Rattle.view_report.specs.declared.registers.Register.{Register}
 use Rattle.view_page.specs.Registers.{IsRegisterOf, LooksThrough}
 use Rattle.world.specs.Worlds.{Seen}
 
--- what was asked of a register, and a text of it: its page or its map always, and the page of a loan where there is such a loan
+-- what was asked of a register, and a text of it: its page or its map always, and the page of a loan where there is
+-- such a loan
 abbrev pub IsPaper : Register → Paper → Option (List ℕ) → Type 0
 IsPaper r Whole (Some text) = text ≡ page_text r
 IsPaper r Whole None = ⊥

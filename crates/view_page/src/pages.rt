@@ -2,7 +2,17 @@
 ghost use Rattle.std.specs.Prelude.{◌≡◌, IfOk, IsOkAnd, IsTrue, option_map, string_bytes};
 ghost use Rattle.sheet_types.specs.Matrix.{is_good_frame};
 ghost use Rattle.command_folder.specs.Printing.{Prints};
-ghost use Rattle.view_page.specs.Pages.{IsPaper, IsPaperOf, OpensPage, ShowsFault, ShowsPage, ShowsText, as_bytes, page_of_fault, text_of_fault};
+ghost use Rattle.view_page.specs.Pages.{
+  IsPaper,
+  IsPaperOf,
+  OpensPage,
+  ShowsFault,
+  ShowsPage,
+  ShowsText,
+  as_bytes,
+  page_of_fault,
+  text_of_fault,
+};
 ghost use Rattle.view_page.specs.Registers.{LooksThrough};
 
 use crate::registers::register_of;
@@ -156,7 +166,8 @@ pub fn show_fault<W: Write>(
     fault: &OpenFault,
     writer: &mut W,
 ) -> Ending
-    ensures { ShowsFault paper fault.now writer.old writer.new (W.contents writer.old) (W.contents writer.new) result }
+    ensures { ShowsFault paper fault.now writer.old writer.new
+        (W.contents writer.old) (W.contents writer.new) result }
 {
     match page_of_fault(alloc, paper, fault) {
         Ok(Some(text)) => print(writer, text.as_str(), Ending::Unopened(*fault)),

@@ -139,7 +139,8 @@ mark_at r t n x y =
 
 abbrev pub mark_text : Register → Thing → ℕ → ℤ → List ℕ → List ℕ
 mark_text r t n code label =
-    codes " title=\"mark " ++ (signed_decimal code ++ (codes ", " ++ (plain_name r.names t.holder ++ (codes ", " ++ (escaped label
+    codes " title=\"mark " ++ (signed_decimal code
+    ++ (codes ", " ++ (plain_name r.names t.holder ++ (codes ", " ++ (escaped label
     ++ (codes "\"><svg width=\"16\" height=\"16\" viewBox=\"-8 -8 16 16\" aria-hidden=\"true\"><use href=\"#k"
     ++ (decimal (pattern_of n) ++ codes "\"/></svg></a>\n")))))))
 

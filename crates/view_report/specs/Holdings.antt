@@ -50,5 +50,7 @@ tie_if r holder t = if bytes_eq t.holder holder then tie_row r t else []
 abbrev pub holding_text : Register → Live → List ℕ
 holding_text r p =
     codes "<details id=\"d-" ++ (uuid_text p.uuid ++ (codes "\">\n<summary>" ++ (swatch_text p.number
-    ++ (codes "<b>" ++ (name_text r.names p.uuid ++ (codes "</b> " ++ (sums_text p.sums.tiles p.sums.media p.sums.rows p.sums.links
-    ++ (HOLDING_HEAD.now ++ (flat_map (thing_if r p.uuid) r.things ++ (flat_map (tie_if r p.uuid) r.ties.items ++ HOLDING_END.now))))))))))
+    ++ (codes "<b>" ++ (name_text r.names p.uuid
+    ++ (codes "</b> " ++ (sums_text p.sums.tiles p.sums.media p.sums.rows p.sums.links
+    ++ (HOLDING_HEAD.now ++ (flat_map (thing_if r p.uuid) r.things
+    ++ (flat_map (tie_if r p.uuid) r.ties.items ++ HOLDING_END.now))))))))))

@@ -8,4 +8,5 @@ use Rattle.sheet_types.specs.Ordered.{entry}
 
 -- a map has for each key the place of the first entry that has it
 abbrev pub ArePlaces : {X : Type 0} → (X → List ℕ) → BTreeMap (List ℕ) ℕ → List X → Type 0
-ArePlaces key places xs = (id : List ℕ) → option_and_then (slice_get xs) (get (slice_cmp nat_cmp) places id) ≡ entry key id xs
+ArePlaces key places xs = (id : List ℕ) → option_and_then (slice_get xs) (get (slice_cmp nat_cmp) places id)
+    ≡ entry key id xs

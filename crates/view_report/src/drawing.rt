@@ -261,7 +261,9 @@ pub fn put_pattern_links(
     level: &Level,
     packages: &[Live],
 ) -> Result<(), AllocError>
-    ensures { IfOk result (λ _. string_bytes text.new ≡ string_bytes text.old ++ flat_map (λ p. pattern_link level.now p.number) packages.now) }
+    ensures { IfOk result
+        (λ _. string_bytes text.new ≡ string_bytes text.old
+        ++ flat_map (λ p. pattern_link level.now p.number) packages.now) }
 {
     for live in packages {
         put_pattern_link(text, level, live.number)?;

@@ -45,7 +45,9 @@ fn put_pattern(text: &mut String, number: usize) -> Result<(), AllocError>
 ///
 /// Want of memory.
 pub fn put_patterns(text: &mut String, packages: &[Live]) -> Result<(), AllocError>
-    ensures { IfOk result (λ _. string_bytes text.new ≡ string_bytes text.old ++ flat_map (λ p. pattern_row p.number) packages.now) }
+    ensures { IfOk result
+        (λ _. string_bytes text.new ≡ string_bytes text.old
+        ++ flat_map (λ p. pattern_row p.number) packages.now) }
 {
     for live in packages {
         put_pattern(text, live.number)?;

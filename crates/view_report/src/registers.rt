@@ -1,7 +1,17 @@
 //! What a page tells of: the live packages, the things and links that they hold, the receipts, and names.
 ghost use Rattle.std.specs.Prelude.{◌≡◌, IfOk, bytes_eq, option_map};
 ghost use Rattle.sheet_types.specs.Custody.{ends_at};
-ghost use Rattle.view_report.specs.Registers.{about_of, command_of, is_split_until, live_of, name_of, number_of, receipt_found, thing_found, thing_of};
+ghost use Rattle.view_report.specs.Registers.{
+  about_of,
+  command_of,
+  is_split_until,
+  live_of,
+  name_of,
+  number_of,
+  receipt_found,
+  thing_found,
+  thing_of,
+};
 
 use crate::lists::{Names, Things};
 use sheet_types::collections::Text;
@@ -23,7 +33,8 @@ pub struct Live {
     pub depth: u64,
     /// The number of the receipt of the split that made it, 0 of the archive.
     pub loan: u64,
-    /// How many splits there were up to that receipt: it has its colour and its pattern by this number, as long as it lives.
+    /// How many splits there were up to that receipt: it has its colour and its pattern by this number, as long as
+    /// it lives.
     pub number: usize,
     /// The number of the last receipt that names it, 0 where none does.
     pub ticket: u64,
@@ -199,7 +210,8 @@ fn is_split_until(receipt: &Receipt, seq: u64) -> bool
     (receipt.seq <= seq) & (command_of(receipt) == "split")
 }
 
-/// How many splits there were up to this receipt. Of a loan, and the receipt that made it, that is its number, whichever loans came home since; of the archive it is 0.
+/// How many splits there were up to this receipt. Of a loan, and the receipt that made it, that is its number,
+/// whichever loans came home since; of the archive it is 0.
 pub fn number_of(receipts: &[Receipt], loan: u64) -> usize
     ensures { result ≡ number_of receipts.now loan }
 {

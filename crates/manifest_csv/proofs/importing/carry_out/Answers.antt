@@ -15,16 +15,27 @@ use Rattle.manifest_csv.proofs.importing.carry_out.Goals as goal
 pub returns-in_err-send-clause-carried : goal.returns-in_err-send-clause-carried
 returns-in_err-send-clause-carried g c =
     let header : WentOut (g.W.Write.contents c.args.writer.now) (g.W.Write.contents c.send.new.writer) report_header =
-    subst (WentOut (g.W.Write.contents c.args.writer.now) (g.W.Write.contents c.send.new.writer)) (c.as_bytes.ensures.value ∙ c.header_line.ensures) c.in_err-send.ensures.err in
-    subst (IsCarried g.S.Store c.args.requests.now c.args.world.now c.args.world.now (g.H.Shelf.failures_of c.args.shelf.now) (g.H.Shelf.failures_of c.args.shelf.now) (g.W.Write.contents c.args.writer.now) (g.W.Write.contents c.send.new.writer)) (sym (turned_into c.from_residual.result Unwritten c.from_residual.ensures.1))
-    (header_unwritten g.S.Store c.args.requests.now c.args.world.now (g.H.Shelf.failures_of c.args.shelf.now) (g.W.Write.contents c.args.writer.now) (g.W.Write.contents c.send.new.writer) header)
+    subst (WentOut (g.W.Write.contents c.args.writer.now) (g.W.Write.contents c.send.new.writer))
+    (c.as_bytes.ensures.value ∙ c.header_line.ensures) c.in_err-send.ensures.err in
+    subst (IsCarried g.S.Store c.args.requests.now c.args.world.now c.args.world.now
+    (g.H.Shelf.failures_of c.args.shelf.now) (g.H.Shelf.failures_of c.args.shelf.now)
+    (g.W.Write.contents c.args.writer.now) (g.W.Write.contents c.send.new.writer))
+    (sym (turned_into c.from_residual.result Unwritten c.from_residual.ensures.1))
+    (header_unwritten g.S.Store c.args.requests.now c.args.world.now (g.H.Shelf.failures_of c.args.shelf.now)
+    (g.W.Write.contents c.args.writer.now) (g.W.Write.contents c.send.new.writer) header)
 
 pub returns-clause-carried : goal.returns-clause-carried
 returns-clause-carried g c =
     let header : Appends (g.W.Write.contents c.args.writer.now) (g.W.Write.contents c.send.new.writer) report_header =
-    subst (Appends (g.W.Write.contents c.args.writer.now) (g.W.Write.contents c.send.new.writer)) (c.as_bytes.ensures.value ∙ c.header_line.ensures) c.in_ok-send.ensures.ok in
-    carried g.S.Store c.args.requests.now c.args.world.now c.report_each.new.world (g.H.Shelf.failures_of c.args.shelf.now) (g.H.Shelf.failures_of c.report_each.new.shelf) (g.W.Write.contents c.args.writer.now) (g.W.Write.contents c.report_each.new.writer) c.report_each.result
-    (after_header g.S.Store c.args.requests.now c.args.world.now c.report_each.new.world (g.H.Shelf.failures_of c.args.shelf.now) (g.H.Shelf.failures_of c.report_each.new.shelf) (g.W.Write.contents c.args.writer.now) (g.W.Write.contents c.send.new.writer) (g.W.Write.contents c.report_each.new.writer) c.report_each.result header
+    subst (Appends (g.W.Write.contents c.args.writer.now) (g.W.Write.contents c.send.new.writer))
+    (c.as_bytes.ensures.value ∙ c.header_line.ensures) c.in_ok-send.ensures.ok in
+    carried g.S.Store c.args.requests.now c.args.world.now c.report_each.new.world
+    (g.H.Shelf.failures_of c.args.shelf.now) (g.H.Shelf.failures_of c.report_each.new.shelf)
+    (g.W.Write.contents c.args.writer.now) (g.W.Write.contents c.report_each.new.writer) c.report_each.result
+    (after_header g.S.Store c.args.requests.now c.args.world.now c.report_each.new.world
+    (g.H.Shelf.failures_of c.args.shelf.now) (g.H.Shelf.failures_of c.report_each.new.shelf)
+    (g.W.Write.contents c.args.writer.now) (g.W.Write.contents c.send.new.writer)
+    (g.W.Write.contents c.report_each.new.writer) c.report_each.result header
     c.report_each.ensures.reported)
 
 pub returns-in_err-send-clause-imported : goal.returns-in_err-send-clause-imported

@@ -5,4 +5,5 @@ use Rattle.view_drawing.proofs.drawings.put_defs.Goals as goal
 pub returns : goal.returns
 returns c =
     onward (string_bytes c.args.text.now) _ _ c.in_ok-put.ensures (
-    onward (string_bytes c.put.new.text) _ _ (rw c.deref.ensures.value at c.in_ok-put_patterns.ensures) c.in_ok-put-2.ensures)
+    onward (string_bytes c.put.new.text) _ _ (rw c.deref.ensures.value at c.in_ok-put_patterns.ensures)
+    c.in_ok-put-2.ensures)

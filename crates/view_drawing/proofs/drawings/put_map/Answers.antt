@@ -9,4 +9,5 @@ returns c =
     onward (string_bytes c.put_count.new.text) _ _ c.in_ok-put-2.ensures (
     onward (string_bytes c.put-2.new.text) _ _ c.in_ok-put_levels.ensures (
     onward (string_bytes c.put_levels.new.text) _ _ c.in_ok-put_first_names.ensures (
-    onward (string_bytes c.put_first_names.new.text) _ _ (rw c.as_slice.ensures at c.in_ok-put_marks.ensures) c.in_ok-put-3.ensures)))))
+    onward (string_bytes c.put_first_names.new.text) _ _ (rw c.as_slice.ensures at c.in_ok-put_marks.ensures)
+    c.in_ok-put-3.ensures)))))

@@ -7,4 +7,5 @@ returns c =
     onward (string_bytes c.args.text.now) _ _ c.in_ok-put.ensures (
     onward (string_bytes c.put.new.text) _ _ c.in_ok-put_count.ensures (
     onward (string_bytes c.put_count.new.text) _ _ (rw c.word_of.ensures at c.in_ok-put-2.ensures) (
-    onward (string_bytes c.put-2.new.text) _ _ c.in_ok-put_count-2.ensures (rw c.word_of-2.ensures at c.in_ok-put-3.ensures))))
+    onward (string_bytes c.put-2.new.text) _ _ c.in_ok-put_count-2.ensures
+    (rw c.word_of-2.ensures at c.in_ok-put-3.ensures))))

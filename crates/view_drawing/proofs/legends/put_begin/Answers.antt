@@ -13,4 +13,5 @@ returns c =
     onward (string_bytes c.put_count-2.new.text) _ _ c.in_ok-put-4.ensures (
     onward (string_bytes c.put-4.new.text) _ _ c.in_ok-put_class-2.ensures (
     onward (string_bytes c.put_class-2.new.text) _ _ c.in_ok-put-5.ensures (
-    onward (string_bytes c.put-5.new.text) _ _ (rw c.pattern_of.ensures at c.in_ok-put_count-3.ensures) c.in_ok-put-6.ensures)))))))))
+    onward (string_bytes c.put-5.new.text) _ _ (rw c.pattern_of.ensures at c.in_ok-put_count-3.ensures)
+    c.in_ok-put-6.ensures)))))))))

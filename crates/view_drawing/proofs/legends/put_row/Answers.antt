@@ -6,4 +6,5 @@ use Rattle.view_drawing.proofs.legends.put_row.Goals as goal
 pub returns : goal.returns
 unfolding holder_row
 returns c =
-    onward (string_bytes c.args.text.now) _ _ (rw (c.rank_of.ensures, c.deref.ensures.value) at c.in_ok-put_begin.ensures) c.in_ok-put_end.ensures
+    onward (string_bytes c.args.text.now) _ _
+    (rw (c.rank_of.ensures, c.deref.ensures.value) at c.in_ok-put_begin.ensures) c.in_ok-put_end.ensures

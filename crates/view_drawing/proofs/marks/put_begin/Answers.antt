@@ -8,6 +8,8 @@ returns c =
     onward (string_bytes c.args.text.now) _ _ c.in_ok-put.ensures (
     onward (string_bytes c.put.new.text) _ _ c.in_ok-put_class.ensures (
     onward (string_bytes c.put_class.new.text) _ _ c.in_ok-put-2.ensures (
-    onward (string_bytes c.put-2.new.text) _ _ (simp (to_z-of_z, c.ranges.x, c.ranges.y) at c.in_ok-put_mark_place.ensures) (
+    onward (string_bytes c.put-2.new.text) _ _
+    (simp (to_z-of_z, c.ranges.x, c.ranges.y) at c.in_ok-put_mark_place.ensures) (
     onward (string_bytes c.put_mark_place.new.text) _ _ c.in_ok-put-3.ensures (
-    onward (string_bytes c.put-3.new.text) _ _ (rw c.pattern_of.ensures at c.in_ok-put_count.ensures) c.in_ok-put-4.ensures)))))
+    onward (string_bytes c.put-3.new.text) _ _ (rw c.pattern_of.ensures at c.in_ok-put_count.ensures)
+    c.in_ok-put-4.ensures)))))

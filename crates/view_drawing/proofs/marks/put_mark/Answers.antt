@@ -7,4 +7,6 @@ use Rattle.view_drawing.proofs.marks.put_mark.Goals as goal
 pub returns : goal.returns
 unfolding mark_text
 returns c =
-    onward (string_bytes c.args.text.now) _ _ (simp (to_z-of_z, c.ranges.x, c.ranges.y) at c.in_ok-put_begin.ensures) (simp (to_z-of_z, c.ranges.code) at c.in_ok-put_end.ensures)
+    onward (string_bytes c.args.text.now) _ _
+    (simp (to_z-of_z, c.ranges.x, c.ranges.y) at c.in_ok-put_begin.ensures)
+    (simp (to_z-of_z, c.ranges.code) at c.in_ok-put_end.ensures)

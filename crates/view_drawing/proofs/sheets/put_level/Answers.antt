@@ -13,4 +13,5 @@ returns c =
     onward (string_bytes c.put_sides.new.text) _ _ c.in_ok-put-3.ensures (
     onward (string_bytes c.put-3.new.text) _ _ (rw c.deref.ensures.value at c.in_ok-put_pattern_links.ensures) (
     onward (string_bytes c.put_pattern_links.new.text) _ _ c.in_ok-put-4.ensures (
-    onward (string_bytes c.put-4.new.text) _ _ (rw c.as_slice.ensures at c.in_ok-put_sheets.ensures) c.in_ok-put-5.ensures)))))))
+    onward (string_bytes c.put-4.new.text) _ _ (rw c.as_slice.ensures at c.in_ok-put_sheets.ensures)
+    c.in_ok-put-5.ensures)))))))

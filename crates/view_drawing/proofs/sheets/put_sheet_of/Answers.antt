@@ -5,5 +5,6 @@ use Rattle.view_drawing.proofs.sheets.put_sheet_of.Goals as goal
 
 pub returns : goal.returns
 returns c =
-    onward (string_bytes c.args.text.now) _ _ (simp (to_z-of_z, c.ranges.column, c.ranges.row) at c.in_ok-put_box.ensures)
+    onward (string_bytes c.args.text.now) _ _
+    (simp (to_z-of_z, c.ranges.column, c.ranges.row) at c.in_ok-put_box.ensures)
     (simp (to_z-of_z, c.ranges.zoom, c.ranges.column, c.ranges.row) at c.in_ok-put_title.ensures)

@@ -8,5 +8,6 @@ returns c = record {
   frame = refl;
   packages = refl;
   names = refl;
-  things = c.in_ok-kept.ensures ∙ filter_same _ _ _ (λ x b f' k. search rules) _ _ c.retain.ensures.filtered ∙ ap (filter (λ t. bytes_eq t.holder c.args.holder)) c.into_vec-held.ensures;
+  things = c.in_ok-kept.ensures ∙ filter_same _ _ _ (λ x b f' k. search rules) _ _ c.retain.ensures.filtered
+      ∙ ap (filter (λ t. bytes_eq t.holder c.args.holder)) c.into_vec-held.ensures;
 }

@@ -16,4 +16,5 @@ returns c =
     onward (string_bytes c.put-6.new.text) _ _ (rw c.receipt_count.ensures at c.in_ok-put_count.ensures) (
     onward (string_bytes c.put_count.new.text) _ _ c.in_ok-put-7.ensures (
     onward (string_bytes c.put-7.new.text) _ _ c.in_ok-put-8.ensures (
-    onward (string_bytes c.put-8.new.text) _ _ (rw c.deref.ensures.value at c.in_ok-put_patterns.ensures) c.in_ok-put-9.ensures))))))))))))
+    onward (string_bytes c.put-8.new.text) _ _ (rw c.deref.ensures.value at c.in_ok-put_patterns.ensures)
+    c.in_ok-put-9.ensures))))))))))))

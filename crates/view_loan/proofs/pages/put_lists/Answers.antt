@@ -9,4 +9,5 @@ returns c =
     onward (string_bytes c.put_all_lent.new.text) _ _ c.in_ok-put-2.ensures (
     onward (string_bytes c.put-2.new.text) _ _ (rw c.deref.ensures.value at c.in_ok-put_rows.ensures) (
     onward (string_bytes c.put_rows.new.text) _ _ c.in_ok-put-3.ensures (
-    onward (string_bytes c.put-3.new.text) _ _ (rw c.as_slice-2.ensures at c.in_ok-put_items.ensures) (rw c.deref-2.ensures.value at c.in_ok-put_ties.ensures))))))
+    onward (string_bytes c.put-3.new.text) _ _ (rw c.as_slice-2.ensures at c.in_ok-put_items.ensures)
+    (rw c.deref-2.ensures.value at c.in_ok-put_ties.ensures))))))

@@ -13,6 +13,9 @@ loop-at-preserved c =
     let sight : slice_get c.args.sights.now c.loop-at.at ≡ Some c.index-sights-at.result = slice_get-get_or c.args.sights.now c.loop-at.at c.index-sights-at.result in_sights ∙ ap (λ s. Some s) (sym c.index-sights-at.is) in
     record {
       so = λ w kept made told. chosen _ _ _ _ c.push.ensures.items (ap is_ok c.in_ok-push.was)
-          ∙ life_next w c.args.sights.now c.args.sums.now c.args.loans.now c.args.receipts.now kept made told c.loop-at.at c.index-sights-at.result _ _ _ c.number_of.ensures sight
-          (slice_get-get_or c.args.sums.now c.loop-at.at _ in_sums) (slice_get-get_or c.args.loans.now c.loop-at.at _ in_loans) c.loop-at.lives.items (c.loop-at.invariant.so w kept made told);
+          ∙ life_next w c.args.sights.now c.args.sums.now c.args.loans.now c.args.receipts.now kept made told
+          c.loop-at.at c.index-sights-at.result _ _ _ c.number_of.ensures sight
+          (slice_get-get_or c.args.sums.now c.loop-at.at _ in_sums)
+          (slice_get-get_or c.args.loans.now c.loop-at.at _ in_loans)
+          c.loop-at.lives.items (c.loop-at.invariant.so w kept made told);
     }

@@ -21,10 +21,14 @@ pub returns-in_err-packages-clause-asked : goal.returns-in_err-packages-clause-a
 returns-in_err-packages-clause-asked g c = asks_cut g.S.Store _ _ c.from_residual-in_err-packages.result c.from_residual-in_err-packages.ensures.0 c.loans_of.ensures c.ledger_of.ensures
 
 pub returns-in_err-things-clause-asked : goal.returns-in_err-things-clause-asked
-returns-in_err-things-clause-asked g c = asks_cut g.S.Store _ _ c.from_residual-in_err-things.result c.from_residual-in_err-things.ensures.0 c.loans_of.ensures c.ledger_of.ensures
+returns-in_err-things-clause-asked g c =
+    asks_cut g.S.Store _ _ c.from_residual-in_err-things.result c.from_residual-in_err-things.ensures.0
+    c.loans_of.ensures c.ledger_of.ensures
 
 pub returns-in_err-names-clause-asked : goal.returns-in_err-names-clause-asked
-returns-in_err-names-clause-asked g c = asks_cut g.S.Store _ _ c.from_residual-in_err-names.result c.from_residual-in_err-names.ensures.0 c.loans_of.ensures c.ledger_of.ensures
+returns-in_err-names-clause-asked g c =
+    asks_cut g.S.Store _ _ c.from_residual-in_err-names.result c.from_residual-in_err-names.ensures.0
+    c.loans_of.ensures c.ledger_of.ensures
 
 pub returns-in_default-clause-asked : goal.returns-in_default-clause-asked
 returns-in_default-clause-asked g c = asks_cut g.S.Store _ _ (Err StoreFault) refl c.loans_of.ensures c.ledger_of.ensures

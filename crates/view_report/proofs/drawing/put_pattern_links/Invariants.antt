@@ -6,4 +6,5 @@ use Rattle.view_report.proofs.drawing.put_pattern_links.Given as goal
 -- the patterns of the packages so far
 abbrev pub invariant-loop-live : goal.invariant-loop-live
 invariant-loop-live l =
-    string_bytes l.text ≡ string_bytes l.initial.text ++ flat_map (λ p. pattern_link l.level p.number) (take l.live-index l.packages)
+    string_bytes l.text ≡ string_bytes l.initial.text ++ flat_map (λ p. pattern_link l.level p.number)
+    (take l.live-index l.packages)

@@ -14,4 +14,5 @@ returns c =
     onward (string_bytes c.put-4.new.text) _ _ c.in_ok-put_sums.ensures (
     onward (string_bytes c.put_sums.new.text) _ _ c.in_ok-put-5.ensures (
     onward (string_bytes c.put-5.new.text) _ _ (rw c.as_slice.ensures at c.in_ok-put_items.ensures) (
-    onward (string_bytes c.put_items.new.text) _ _ (rw c.deref.ensures.value at c.in_ok-put_ties.ensures) c.in_ok-put-6.ensures))))))))))
+    onward (string_bytes c.put_items.new.text) _ _ (rw c.deref.ensures.value at c.in_ok-put_ties.ensures)
+    c.in_ok-put-6.ensures))))))))))

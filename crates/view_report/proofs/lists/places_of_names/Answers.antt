@@ -10,6 +10,9 @@ loop-left-preserved c =
     let back : c.loop-left.left ≡ at + 1 = omega (arith, c.loop-left-test.true) in
     record {
       within = omega (arith, c.loop-left.invariant.within);
-      noted = one_noted (λ n. n.uuid) c.loop-left.places c.insert.new.self c.args.list.now at c.index-list-left.result within
-          c.in_ok-insert.ensures.updates (subst (λ n. ArePlacesFrom (λ n. n.uuid) c.loop-left.places c.args.list.now n) back c.loop-left.invariant.noted);
+      noted = one_noted (λ n. n.uuid) c.loop-left.places c.insert.new.self
+          c.args.list.now at c.index-list-left.result within
+          c.in_ok-insert.ensures.updates
+          (subst (λ n. ArePlacesFrom (λ n. n.uuid) c.loop-left.places c.args.list.now n) back
+          c.loop-left.invariant.noted);
     }

@@ -2,4 +2,12 @@ use Rattle.std.proofs.Common.{append_assoc}
 use Rattle.view_report.proofs.pieces.put_holder.Goals as goal
 
 pub returns : goal.returns
-returns c = rw (c.in_ok-put-4.ensures, c.in_ok-put_name.ensures, c.in_ok-put-3.ensures, c.in_ok-put_uuid.ensures, c.in_ok-put-2.ensures, c.in_ok-put_holder_class.ensures, c.in_ok-put.ensures) (simp append_assoc)
+returns c = rw (
+  c.in_ok-put-4.ensures,
+  c.in_ok-put_name.ensures,
+  c.in_ok-put-3.ensures,
+  c.in_ok-put_uuid.ensures,
+  c.in_ok-put-2.ensures,
+  c.in_ok-put_holder_class.ensures,
+  c.in_ok-put.ensures,
+) (simp append_assoc)
