@@ -123,7 +123,7 @@ module _ {S : Type 0} (g : Ghosts S) (a : Ask) (text : Option (List ℕ)) (timed
 
 module _ {S : Type 0} (g : Ghosts S) {W : Type 0} (writer writer' : W) (before after : Option (List ℕ)) (a : Ask) (text : Option (List ℕ)) (old read new : Seen S) (failed fails : ℕ) (ending : Ending) (is_done : ending ≡ done) (timed : is_moment a.at.now ≡ true)
     (untouched : IsUntouched g old read) where
-  Home : Type 0
+  abbrev Home : Type 0
   Home = (gone : List (HeldStore S)) × (AllClean g new.members → AreClean g gone → (w : World) → StandsFor g old w → (next : World) × StandsFor g new next × IsHome a text w next)
 
   carried_home : (requests : Vec Request Global) (r : Result (Unit {0}) ImportFault) → (AllClean g read.members → (w : World) → StandsFor g old w → AnswersText w a text (Asked requests))
