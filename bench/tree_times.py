@@ -1,9 +1,10 @@
 #!/usr/bin/env python3
 """Times `put FOLDER PACKAGE tiles DIRECTORY` of a real pyramid, and the same work by plain Python over stock SQLite, in one run.
 
-Usage: tree_times.py [--folder FOLDER] [--program PROGRAM] [ROUNDS [SIDE]]
+Usage: tree_times.py [--folder FOLDER] [--program PROGRAM] [--tree TREE] [ROUNDS [SIDE]]
 
-(3 rounds of a picture of 1600 by 1600 pixels; FOLDER is where temporary files are, which should be on a disk.)
+(3 rounds of a picture of 1600 by 1600 pixels; FOLDER is where temporary files are, which should be on a disk; TREE is a pyramid that an
+earlier run made of a picture of that size, since GDAL takes minutes.)
 
 GDAL makes the pyramid: gdal2tiles cuts a picture of SIDE by SIDE pixels into tiles of 16 by 16, rows downwards (`--xyz`), of all zooms.
 With 1600 pixels the finest zoom has 10,000 tiles. The same tree goes into a new archive by either side. Each tile is a request that is
@@ -118,6 +119,7 @@ def main():
     words = argparse.ArgumentParser(description=__doc__, formatter_class=argparse.RawDescriptionHelpFormatter)
     words.add_argument("--folder")
     words.add_argument("--program")
+    words.add_argument("--tree")
     words.add_argument("rounds", nargs="?", type=int, default=3)
     words.add_argument("side", nargs="?", type=int, default=1600)
     said = words.parse_args()
@@ -128,7 +130,7 @@ def main():
     east, south = 500_000_000 + 1000 * (PIXELS << (zooms - 1)), 5_900_000_000
     frame = f"25832,500000000,{south},{east},{south + east - 500_000_000},{PIXELS},{PIXELS},0,{zooms},1,1"
     with tempfile.TemporaryDirectory(dir=said.folder) as place:
-        tree = pyramid(place, said.side, zooms)
+        tree = os.path.abspath(said.tree) if said.tree else pyramid(place, said.side, zooms)
         count, times, held = len(tiles_of(tree)), {"sheetdesk": [], "Python": []}, []
         for _ in range(said.rounds):
             for side, took in times.items():

@@ -1,14 +1,19 @@
 # Completes the words of sheetdesk:  eval "$(sheetdesk completions bash)"
-_sheetdesk_verbs='init put lend return join part apply import status log get explain receipt manifest export holds changes bring map report audit serve tidy rehearse session completions'
+_sheetdesk_verbs='init put lend return join part drop apply import status log get explain receipt manifest export holds changes bring map report audit serve tidy rehearse session completions'
 
 # The options of a verb.
 _sheetdesk_options() {
     case $1 in
-        init|rehearse) echo --archive --at --frame ;;
-        lend) echo --follow --as --at --request --dry-run ;;
-        return|join|part) echo --at --request --dry-run ;;
-        put) echo --type --as --at --request --dry-run ;;
-        log) echo --from --last ;;
+        init) echo --archive --at --frame --quiet ;;
+        rehearse) echo --archive --at --frame ;;
+        lend) echo --box --zoom --follow --as --at --request --dry-run --quiet ;;
+        return|join|part) echo --at --request --dry-run --quiet ;;
+        put) echo --type --tms --as --at --request --dry-run --quiet ;;
+        drop) echo --yes --at --dry-run --quiet ;;
+        tidy) echo --quiet ;;
+        status) echo --json --color ;;
+        explain) echo --json ;;
+        log) echo --from --last --json --color ;;
         export) echo --qgis ;;
         holds) echo --tiles --points --geometry --code --label ;;
         changes) echo --more --at --summary ;;
@@ -36,7 +41,7 @@ _sheetdesk_words() {
         2,completions) compgen -W bash -- "$word" ;;
         2,*) compgen -d -- "$word" ;;
         3,put|3,lend|3,return|3,log|3,manifest|3,export|3,changes|3,bring|3,report) compgen -W "$(_sheetdesk_packages "$folder")" -- "$word" ;;
-        4,put) compgen -W 'tile media mark' -- "$word" ;;
+        4,put) compgen -W 'tile tiles media mark' -- "$word" ;;
         *) compgen -f -- "$word" ;;
     esac
 }

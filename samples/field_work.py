@@ -100,6 +100,11 @@ class Field:
         self.files += 1
         return self.session.name(f"lists/{self.folder}_held_{self.files}.csv", text)
 
+    def whole(self, word):
+        """The live package that a word names: the only one that begins with it, by four digits or more; else the word itself."""
+        begun = [uuid for uuid in self.world.packages if len(word) >= 4 and uuid.startswith(word.lower())]
+        return begun[0] if len(begun) == 1 else word
+
     def run(self, verb, package, text, options=(), at=None, more=False):
         """A line, with what it prints; after it the world is the next one. Answers the path of the list."""
         at = next(self.days) if at is None else at
@@ -107,7 +112,7 @@ class Field:
         words = " ".join([verb, self.folder, package, *(["--more"] if more else []), "--at", at, *options, "<", path])
         with_text = self.session.files[path]
         try:
-            requests = changes_of_words(self.world, package, at, with_text, more).requests
+            requests = changes_of_words(self.world, self.whole(package), at, with_text, more).requests
         except Refused as why:
             self.session.run(words, "refused: " + "".join(f"{line}\n" for line in why.args), 1)
             return path
@@ -273,7 +278,10 @@ def no_lists(field):
 
 def refused_words(field):
     path = field.keep(exported(field.world, HOME).text())
-    field.run("changes", "6f0d3a52", path)
+    field.run("changes", "6f0", path)
+    field.run("changes", HOME[:8].upper(), path, at="2026-05-02T12:00:00.000Z")
+    field.run("bring", HOME[:4], path, at="2026-05-02T12:00:00.000Z")
+    field.session.run(f"bring {field.folder} ffff < {path}", "refused: no such package\n", 1)
     field.run("bring", HOME, path, at="2026-05-01")
     field.run("bring", nordmark.HARBOUR, path)
     field.session.run(f"bring {field.folder} {HOME} --summary < {path}", "", 2)

@@ -18,6 +18,7 @@ are make_folders.py's. Nothing here runs the program.
 """
 
 import csv
+import json
 import os
 import re
 import sys
@@ -26,7 +27,7 @@ import field_work
 import nordmark
 import reference
 import verbs
-from machine import holding
+from machine import arrays, holding
 from machine.exports import export
 from machine.fault import fault_page_of
 from machine.frames import Frame
@@ -195,7 +196,8 @@ def verb_sessions(session):
     session.take(shown)
     session.show("")
     session.show("# All verbs, the first of each kind shown before it is carried out.")
-    world = verbs.every_verb(session)
+    people = verbs.every_verb(session)
+    world = people.world
     session.run("status harbour", status_of(world))
     session.run("log harbour 7900", log_of(world, "7900"))
     session.run("log harbour --from 11 --last 3", log_of(world, first=11, last=3))
@@ -204,7 +206,91 @@ def verb_sessions(session):
     session.run("log harbour --last few", "refused: number\n", 1)
     session.run("audit harbour", f"good {len(world.receipts)}\n")
     session.run("report harbour", page_of(world, {}, reference.reply_text))
+    as_arrays(session, world)
+    short_names(session, world)
+    # (deleted, and found by what receipts tell)
+    book = nordmark.medium("level-book")
+    people.delete(book)
+    session.run(f"explain harbour {book[:4].upper()}", way_of(world, book))
+    verbs.come_to_an_end(people)
+    session.run("status harbour", status_of(world))
+    session.run("audit harbour", f"good {len(world.receipts)}\n")
+    session.show("")
+    session.show("# By the names that people give.")
+    names(session)
+    session.show("")
+    session.show("# Trees of tiles, and a loan of what covers a box.")
+    world = verbs.trees_and_boxes(session)
+    session.run("status tree", status_of(world))
+    session.run("audit tree", f"good {len(world.receipts)}\n")
+    session.show("")
+    session.show("# Verbs that print nothing where they end well, and bold headings.")
+    quiet_and_bold(session)
     return shown
+
+
+def names(session):
+    """Verbs and looks by names; where names are none."""
+    archive, crew, town = nordmark.ARCHIVE, nordmark.HARBOUR, nordmark.sheet(6, 0, 0)
+    people, called = verbs.by_names(session)
+    world = people.world
+    session.run("explain named Skarvholm", way_of(world, town))
+    session.run("manifest named crew", reference.manifest(world.packages[crew]))
+    for word in (crew[:4], archive):
+        session.run(f"manifest named {word}", reference.manifest(world.packages[archive]))
+    session.run("export named crew", export(world.frame, world.packages[crew], world.tickets[crew]))
+    session.run("export named crew --qgis crew.gpkg", project(world.frame, "crew.gpkg"))
+    session.run("log named crew", log_of(world, crew))
+    session.run("report named crew", loan_page_of(world, called, reference.reply_text, crew))
+    people.bring_home(crew, archive, word="crew")
+    session.run("report named crew", "refused: no such package\n", 1)
+    people.drop("levels", nordmark.medium("level-book"))
+    people.drop("levels", nordmark.medium("level-book"), " --yes")
+    session.run("audit named", f"good {len(world.receipts)}\n")
+    # (whether a list is one is not asked for a whole UUID)
+    session.name("unnamed/names.csv", b"uuid;name\n")
+    session.run("manifest unnamed home", "refused: names\n", 1)
+    session.run(f"manifest unnamed {archive}", "", 3)
+
+
+def short_names(session, world):
+    """A package and an item that is looked at, by their first digits."""
+    package, town = world.packages[nordmark.ARCHIVE], nordmark.sheet(6, 0, 0)
+    session.run(f"manifest harbour {nordmark.ARCHIVE[:4].upper()}", reference.manifest(package))
+    session.run(f"export harbour {nordmark.ARCHIVE[:14]}", export(world.frame, package, world.tickets[nordmark.ARCHIVE]))
+    session.run(f"explain harbour {town[:5]}", way_of(world, town))
+    session.run("manifest harbour ffff", "refused: no such package\n", 1)
+    session.run("explain harbour ffff", "refused: no such identity\n", 1)
+    # (no UUID begins so)
+    session.run("export harbour ffff-", "refused: uuid\n", 1)
+
+
+def bold(table):
+    """A table whose heading is bold on a terminal (ECMA-48)."""
+    heading, rest = table.split("\n", 1)
+    return f"\x1b[1m{heading}\x1b[0m\n{rest}"
+
+
+def quiet_and_bold(session):
+    """Verbs that print nothing, and tables with a bold heading."""
+    world = verbs.quietly(session)
+    session.run("status hush --color", bold(status_of(world)))
+    session.run("log hush --color --last 2", bold(log_of(world, last=2)))
+    # (an array has no heading)
+    session.run("status hush --color --json", arrays.packages_of(world, reference.sight_of))
+    session.run("audit hush", f"good {len(world.receipts)}\n")
+
+
+def as_arrays(session, world):
+    """The same for other programs."""
+    session.run("status harbour --json", arrays.packages_of(world, reference.sight_of))
+    session.run("log harbour --json", arrays.ledger_of(world))
+    session.run("log harbour --json 7900", arrays.ledger_of(world, "7900"))
+    session.run("log --json harbour --from 11 --last 3", arrays.ledger_of(world, first=11, last=3))
+    session.run("log harbour --json --last 0", arrays.ledger_of(world, last=0))
+    for identity in (nordmark.mark("light"), nordmark.medium("photo-lighthouse"), nordmark.sheet(6, 0, 0)):
+        session.run(f"explain harbour {identity.upper()} --json", arrays.steps_of(world, identity))
+        session.run(f"explain harbour --json {identity[:6]}", arrays.steps_of(world, identity))
 
 
 def exports(session):
@@ -225,21 +311,33 @@ def projects(session, oblong):
     frame = Frame.read(nordmark.FRAME)
     session.run(f"export maps {CREW.upper()} --qgis crew.gpkg", project(frame, "crew.gpkg"))
     session.run(f"export oblong {oblong.archive} --qgis=-'<a&b>;\"ä.gpkg", project(oblong.frame, "-'<a&b>;\"ä.gpkg"))
-    session.run("export maps 7900 --qgis crew.gpkg", "refused: uuid\n", 1)
+    session.run(f"export maps {CREW[:4]} --qgis crew.gpkg", project(frame, "crew.gpkg"))
+    session.run("export maps 790 --qgis crew.gpkg", "refused: uuid\n", 1)
+    session.run("export maps ffff --qgis crew.gpkg", "refused: no such package\n", 1)
     session.run(f"export maps {nordmark.BOAT} --qgis crew.gpkg", "refused: no such package\n", 1)
     session.run(f"export nowhere {CREW} --qgis crew.gpkg", "", 3)
     session.run(f"export maps {CREW} --qgis", "", 2)
 
 
+def names_read():
+    """The sample's file of names."""
+    with open(os.path.join(HERE, "names.csv"), "rb") as it:
+        return it.read()
+
+
+def names_called():
+    return {record["uuid"]: record["name"] for record in csv.DictReader(names_read().decode().splitlines())}
+
+
 def papers(session):
     """The custody page of a loan, with names and without; what is none; and the pages of folders that do not open."""
     world = rehearsed(told()[0].text().encode()).world
-    with open(os.path.join(HERE, "names.csv"), "rb") as it:
-        names = it.read()
-    called = {record["uuid"]: record["name"] for record in csv.DictReader(names.decode().splitlines())}
+    names, called = names_read(), names_called()
     session.run(f"report maps {CREW}", loan_page_of(world, {}, reference.reply_text, CREW))
     session.run(f"report maps {CREW.upper()} --names {session.name('samples/names.csv', names)}", loan_page_of(world, called, reference.reply_text, CREW))
     session.run(f"report maps {nordmark.ARCHIVE}", "refused: no such package\n", 1)
+    session.run(f"report maps {CREW[:4].upper()}", loan_page_of(world, {}, reference.reply_text, CREW))
+    session.run(f"report maps {nordmark.ARCHIVE[:5]}", "refused: no such package\n", 1)
     session.run("report maps harbour", "refused: uuid\n", 1)
     for words, named in (("", {}), (" --names samples/names.csv", called)):
         session.run(f"map maps{words}", drawing_of(world, named))
@@ -267,6 +365,10 @@ def drawings(session, oblong):
     session.run(f"init {MAKING} lending", f"archive {nordmark.ARCHIVE}\n")
     session.run("import lending " + session.name("lists/lending.csv", requests), report_of(done))
     session.run("map lending --names samples/names.csv", drawn)
+    called = names_called()
+    session.run("report lending boat --names samples/names.csv", loan_page_of(done.world, called, reference.reply_text, nordmark.BOAT))
+    session.run("report lending boat", "refused: uuid\n", 1)
+    session.run("report lending boat --names samples/nowhere.csv", "refused: names\n", 1)
 
 
 def making(check):
@@ -403,11 +505,18 @@ def worked_sessions(session):
             long_one(session, name, checks)
 
 
+def is_read(lines):
+    """Whether these lines are one array, unless they tell a refusal."""
+    text = "".join(line for line in lines if line.strip() and not line.startswith(("#", "$")))
+    return text.startswith("refused: ") or isinstance(json.loads(text), list)
+
+
 def sessions_by_hand(session):
     """Lines that begin with `$ ` are typed, those with `# ` are comments, the others are printed."""
     for path in BY_HAND:
         with open(path, encoding="utf-8") as found:
             lines = found.read().splitlines(keepends=True)
+        assert all(is_read(printed) for line, printed in by_command(lines).items() if line.endswith(" --json\n"))
         session.printed += lines
         session.typed += [line.removeprefix("$ ") for line in lines if line.startswith(("$ ", "# ")) or line == "\n"]
 

@@ -30,6 +30,7 @@ each stock_folder sqlite3 "$torture/stock_folder.sh"
 each first_version - "$torture/first_version_folder.sh" "$program"
 each export 'sqlite3 ogrinfo gdalinfo gdal_translate' "$torture/export_files.sh"
 each completions - "$torture/completions.sh"
+each verbs sqlite3 "$torture/verbs.py"
 each field_rounds sqlite3 "$torture/field_rounds.py" $((quick ? 40 : 1000))
 if /usr/bin/python3 -c 'import qgis.core' 2>/dev/null; then
   each field_qgis 'sqlite3 gdalwarp ogr2ogr' /usr/bin/python3 "$torture/field_qgis.py"

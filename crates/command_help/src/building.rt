@@ -11,14 +11,20 @@ pub(crate) enum Word {
     Last(&'static str, &'static str, &'static str),
     /// By its place; where it is left out, the fourth text stands for it.
     LastOr(&'static str, &'static str, &'static str, &'static str),
+    /// By its place; it may be left out where the option of the fourth name is given.
+    PlaceUnless(&'static str, &'static str, &'static str, &'static str),
     /// Behind `--` and its name; it has to be given.
     Needed(&'static str, &'static str, &'static str),
     /// Behind `--` and its name; it may be left out.
     Value(&'static str, &'static str, &'static str),
     /// The same, where words of these names are given too.
     ValueBeside(&'static str, &'static str, &'static str, &'static [&'static str]),
+    /// The same, where the word of the fourth name is given, and that of the fifth is not.
+    ValueInstead(&'static str, &'static str, &'static str, &'static str, &'static str),
     /// `--` and its name, with no value.
     Flag(&'static str, &'static str),
+    /// The same, or `-` and this letter.
+    ShortFlag(&'static str, char, &'static str),
     /// The same, where a word of this name is given too.
     FlagBeside(&'static str, &'static str, &'static str),
 }
@@ -84,6 +90,15 @@ fn beside<'a>(arg: Arg<'a>, names: &'static [&'static str]) -> Result<Arg<'a>, A
     Ok(arg)
 }
 
+/// A word that wants one word, and goes with no other one.
+fn instead<'a>(
+    arg: Arg<'a>,
+    name: &'static str,
+    other: &'static str,
+) -> Result<Arg<'a>, AllocError> {
+    arg.requires_arg(name)?.conflicts_with(other)
+}
+
 /// A word as `clap` takes it.
 fn arg_of<'a>(alloc: Global, word: Word) -> Result<Arg<'a>, AllocError> {
     match word {
@@ -92,12 +107,19 @@ fn arg_of<'a>(alloc: Global, word: Word) -> Result<Arg<'a>, AllocError> {
         Word::LastOr(id, value, help, usual) => {
             Ok(placed(alloc, id, value, help, false).default_value(usual))
         }
+        Word::PlaceUnless(id, value, help, name) => {
+            placed(alloc, id, value, help, false).required_unless_present(name)
+        }
         Word::Needed(id, value, help) => Ok(option(alloc, id, value, help, true)),
         Word::Value(id, value, help) => Ok(option(alloc, id, value, help, false)),
         Word::ValueBeside(id, value, help, names) => {
             beside(option(alloc, id, value, help, false), names)
         }
+        Word::ValueInstead(id, value, help, name, other) => {
+            instead(option(alloc, id, value, help, false), name, other)
+        }
         Word::Flag(id, help) => Ok(flag(alloc, id, help)),
+        Word::ShortFlag(id, letter, help) => Ok(flag(alloc, id, help).short(letter)),
         Word::FlagBeside(id, help, name) => flag(alloc, id, help).requires_arg(name),
     }
 }

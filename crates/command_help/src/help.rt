@@ -216,6 +216,31 @@ Exit status:
   3  memory, a file or a stream gave out, or the packages are not in order: standard error has the line `store: `
      and the name of the fault";
 
+/// After the words of `drop` and of `put .. tiles`.
+pub const SEVERAL_WORDS: &str =
+    "Several requests are made, and carried out in turn. Their UUIDs and those of tiles are new. One that is refused
+ends it; what was done before stands. Of a tree that was stopped the rest comes in when it is put again: a tile
+that is there with the same bytes is passed over, and so is a file whose name is no number.
+
+Examples:
+  sheetdesk drop maps 6523
+  sheetdesk put maps a000 tiles sheets
+  sheetdesk put maps a000 tiles --tms gdal2tiles
+where 6523 begins the UUID of an item, a000 that of a package, and sheets/2/3/3.png is a tile.
+
+Standard output:
+  drop        what was ended and deleted, and behind each the number and the sums of its receipt;
+              without --yes the links for which an item stays, as `linked IDENTITY IDENTITY`
+  put tiles   how many were added and passed over; behind it the refusal as JSON, if one was refused
+
+Exit status:
+  0  done
+  1  refused: by the register, with the refusal as JSON, or `refused: ` and what: place, body, linked,
+     no such package, two packages, no such item, two items
+  2  the command line is no use of the program
+  3  memory, a file or a stream gave out, or the packages are not in order: standard error has the line `store: `
+     and the name of the fault";
+
 /// After the words of `changes` and `bring`.
 pub const BRING_WORDS: &str =
     "Standard input is the list that `sqlite3` prints of an edited file by the text of `holds`. An item that was

@@ -1,10 +1,13 @@
 //! Which words each command of the program has, in the order in which the help lists them.
 use crate::building::Entry::{Many, One};
-use crate::building::Word::{Flag, FlagBeside, Last, LastOr, Needed, Place, Value, ValueBeside};
+use crate::building::Word::{
+    Flag, FlagBeside, Last, LastOr, Needed, Place, PlaceUnless, ShortFlag, Value, ValueBeside,
+    ValueInstead,
+};
 use crate::building::{Entry, Verb, Word};
 use crate::help::{
     BRING_WORDS, COMPLETIONS_WORDS, FOLDER_WORDS, HOLDS_WORDS, REHEARSE_WORDS, SESSION_WORDS,
-    VERB_WORDS,
+    SEVERAL_WORDS, VERB_WORDS,
 };
 
 /// Where a register is.
@@ -14,7 +17,7 @@ const FOLDER: Word = Place("folder", "FOLDER", "Where the packages are, as maps"
 const PACKAGE: Word = Place(
     "package",
     "PACKAGE",
-    "Identity of the package, as a0000000-0000-4000-8000-000000000000",
+    "The package, by its UUID or the first digits of it, as a000",
 );
 
 /// The frame of a new archive.
@@ -40,8 +43,27 @@ const REQUEST: Word = Value("request", "UUID", "Identity of the request; else a 
 /// Whether a verb only shows its request.
 const DRY_RUN: Word = Flag("dry-run", "Print the request as JSON, and change nothing");
 
+/// Whether a verb prints what it did.
+const QUIET: Word = ShortFlag("quiet", 'q', "Print nothing where it ends well");
+
+/// Whether a heading is bold on whatever it is printed.
+const COLOR: Word = Flag(
+    "color",
+    "Make the heading bold; else it is so on a terminal, unless NO_COLOR is set",
+);
+
+/// Whether what is looked at is told to other programs.
+const JSON: Word = Flag("json", "The same as one JSON array, an object a line");
+
 /// What is made by a verb.
 const AS: Word = Value("as", "UUID", "Identity of what is made; else a new one");
+
+/// When the requests of a verb that makes several were made.
+const SEVERAL_AT: Word = Value(
+    "at",
+    "AT",
+    "Moment of the requests, as 2024-05-01T08:00:00.000Z; else that of the clock",
+);
 
 /// What people call packages and sheets.
 const NAMES: Word = Value(
@@ -59,27 +81,45 @@ pub(crate) const PUT: Verb = Verb {
 };
 
 /// What `put` adds of tiles.
-pub(crate) const TILE_KINDS: &[Verb] = &[Verb {
-    name: "tile",
-    about: "Adds a tile at a place, from a file",
-    after: VERB_WORDS,
-    words: &[
-        AT,
-        REQUEST,
-        DRY_RUN,
-        AS,
-        Place(
-            "place",
-            "PLACE",
-            "Where it lies, as 5/0/2: zoom, column, row",
-        ),
-        Place(
-            "file",
-            "FILE",
-            "Its bytes, as sheet.png, or - for standard input",
-        ),
-    ],
-}];
+pub(crate) const TILE_KINDS: &[Verb] = &[
+    Verb {
+        name: "tile",
+        about: "Adds a tile at a place, from a file",
+        after: VERB_WORDS,
+        words: &[
+            AT,
+            REQUEST,
+            DRY_RUN,
+            QUIET,
+            AS,
+            Place(
+                "place",
+                "PLACE",
+                "Where it lies, as 5/0/2: zoom, column, row",
+            ),
+            Place(
+                "file",
+                "FILE",
+                "Its bytes, as sheet.png, or - for standard input",
+            ),
+        ],
+    },
+    Verb {
+        name: "tiles",
+        about: "Adds the tiles of a tree of files ZOOM/COLUMN/ROW.png",
+        after: SEVERAL_WORDS,
+        words: &[
+            SEVERAL_AT,
+            QUIET,
+            Flag("tms", "The rows of the files run upwards, as in a TMS"),
+            Place(
+                "directory",
+                "DIRECTORY",
+                "The tree, as gdal2tiles and QGIS write it",
+            ),
+        ],
+    },
+];
 
 /// What else it adds.
 pub(crate) const OTHER_KINDS: &[Verb] = &[
@@ -91,6 +131,7 @@ pub(crate) const OTHER_KINDS: &[Verb] = &[
             AT,
             REQUEST,
             DRY_RUN,
+            QUIET,
             AS,
             Place(
                 "file",
@@ -112,6 +153,7 @@ pub(crate) const OTHER_KINDS: &[Verb] = &[
             AT,
             REQUEST,
             DRY_RUN,
+            QUIET,
             AS,
             Place(
                 "point",
@@ -138,6 +180,7 @@ pub(crate) const MAKING: &[Entry] = &[One(Verb {
     about: "Makes a new archive in a folder that holds no packages",
     after: FOLDER_WORDS,
     words: &[
+        QUIET,
         FOLDER,
         Value(
             "archive",
@@ -163,17 +206,32 @@ pub(crate) const LENDING: &[Entry] = &[
             AT,
             REQUEST,
             DRY_RUN,
+            QUIET,
             AS,
             FOLDER,
-            Place(
+            PlaceUnless(
                 "first",
                 "FROM|AREA",
                 "The sheets, as 5/0-3/2: zoom, columns, rows; or before them the package that lends",
+                "box",
             ),
             Last(
                 "second",
                 "AREA",
                 "The sheets, where a package that lends is named; else the archive lends",
+            ),
+            ValueInstead(
+                "box",
+                "WEST,SOUTH,EAST,NORTH",
+                "In place of AREA: the least area that covers this box, in units of the reference system",
+                "zoom",
+                "second",
+            ),
+            ValueBeside(
+                "zoom",
+                "ZOOM",
+                "The zoom of the sheets that cover the box",
+                &["box"],
             ),
             Flag("follow", "Take along what belongs to other sheets too"),
         ],
@@ -186,6 +244,7 @@ pub(crate) const LENDING: &[Entry] = &[
             AT,
             REQUEST,
             DRY_RUN,
+            QUIET,
             FOLDER,
             Place("loan", "LOAN", "The loan, as c3f1"),
         ],
@@ -202,6 +261,7 @@ pub(crate) const LINKING: &[Entry] = &[
             AT,
             REQUEST,
             DRY_RUN,
+            QUIET,
             FOLDER,
             Place("first", "IDENTITY", "One item, as 6523"),
             Place("second", "IDENTITY", "The other, as 07c2"),
@@ -215,9 +275,29 @@ pub(crate) const LINKING: &[Entry] = &[
             AT,
             REQUEST,
             DRY_RUN,
+            QUIET,
             FOLDER,
             Place("first", "IDENTITY", "One item, as 6523"),
             Place("second", "IDENTITY", "The other, as 07c2"),
+        ],
+    }),
+    One(Verb {
+        name: "drop",
+        about: "Deletes an item, and with --yes its links before it",
+        after: SEVERAL_WORDS,
+        words: &[
+            SEVERAL_AT,
+            Flag(
+                "yes",
+                "End the links of the item, a request each; else an item that has links stays, and they are told",
+            ),
+            Flag(
+                "dry-run",
+                "Print the requests as JSON, a line each, and change nothing",
+            ),
+            QUIET,
+            FOLDER,
+            Place("identity", "IDENTITY", "The item, as 6523"),
         ],
     }),
 ];
@@ -243,7 +323,7 @@ pub(crate) const LOOKS: &[Entry] = &[
         name: "status",
         about: "Prints a table of the packages that live",
         after: FOLDER_WORDS,
-        words: &[FOLDER],
+        words: &[FOLDER, JSON, COLOR],
     }),
     One(Verb {
         name: "log",
@@ -258,6 +338,8 @@ pub(crate) const LOOKS: &[Entry] = &[
             ),
             Value("from", "SEQ", "From this number on"),
             Value("last", "N", "The last N of them"),
+            JSON,
+            COLOR,
         ],
     }),
     One(Verb {
@@ -287,8 +369,9 @@ pub(crate) const LOOKS: &[Entry] = &[
             Place(
                 "identity",
                 "IDENTITY",
-                "Identity of the item, as 00000000-0000-4000-8000-000000000001",
+                "The item, by its identity or the first digits of it, as 6523",
             ),
+            JSON,
         ],
     }),
     One(Verb {
@@ -379,11 +462,7 @@ pub(crate) const FIELD: &[Entry] = &[
                 "more",
                 "Delete nothing and end no link; files of other programs may come",
             ),
-            Value(
-                "at",
-                "AT",
-                "Moment of the requests, as 2024-05-01T08:00:00.000Z; else that of the clock",
-            ),
+            SEVERAL_AT,
             Flag(
                 "summary",
                 "Print how many requests there are, in place of the list",
@@ -401,11 +480,7 @@ pub(crate) const FIELD: &[Entry] = &[
                 "more",
                 "Delete nothing and end no link; files of other programs may come",
             ),
-            Value(
-                "at",
-                "AT",
-                "Moment of the requests, as 2024-05-01T08:00:00.000Z; else that of the clock",
-            ),
+            SEVERAL_AT,
             Flag("dry-run", "Print the list of requests, and change nothing"),
             FlagBeside(
                 "summary",
@@ -441,7 +516,7 @@ pub(crate) const PICTURES: &[Entry] = &[
             Last(
                 "package",
                 "LOAN",
-                "The custody page of this loan, by its whole UUID; else the page of the register",
+                "The custody page of this loan, as c3f1; else the page of the register",
             ),
             NAMES,
         ],
@@ -476,7 +551,7 @@ pub(crate) const KEEPING: &[Entry] = &[
         name: "tidy",
         about: "Removes files that the register can do without",
         after: FOLDER_WORDS,
-        words: &[FOLDER],
+        words: &[QUIET, FOLDER],
     }),
     One(Verb {
         name: "rehearse",

@@ -3,8 +3,11 @@ use Rattle.std.specs.Prelude.{◌≡◌, ℕ, ◌-◌, ◌==◌, Bool, true, fal
 use Rattle.std.specs.List.{list_any, before_first, after_first}
 use Rattle.std.specs.Option.{option_map_or}
 use Rattle.std.specs.Fmt.{signed_decimal}
+use Rattle.std.specs.Ordering.{nat_cmp}
+use Rattle.std.specs.Cmp.Lexicographic.{slice_cmp}
+use Rattle.std.specs.BTreeSet.{BTreeSet, contains}
 use Rattle.sheet_types.specs.Cut.{identities}
-use Rattle.sheet_types.specs.Matrix.{is_within, first_row}
+use Rattle.sheet_types.specs.Matrix.{first_row}
 use Rattle.sheet_types.specs.Ordered.{has}
 use Rattle.sheet_types.specs.Texts.{kind_of, kind_word}
 use Rattle.sheet_types.specs.World.{kind_is}
@@ -14,6 +17,7 @@ use Rattle.sheet_types.specs.declared.command.Item.{Item}
 use Rattle.sheet_types.specs.declared.frame.Frame.{Frame}
 use Rattle.sheet_types.specs.declared.receipt.MovedKind.{MovedKind}
 use Rattle.sheet_types.specs.declared.receipt.MovedKind.TheVariants.{MediaItem, RowItem}
+use Rattle.field_changes.specs.Keys.{sign}
 use Rattle.field_changes.specs.declared.held.BadRecord.{BadRecord}
 use Rattle.field_changes.specs.declared.held.Export.{Export}
 use Rattle.field_changes.specs.declared.held.Held.{Held}
@@ -31,9 +35,17 @@ abbrev pub is_at : ℤ → ℤ → ℤ → Content → Bool
 is_at zoom column row (Tile z c r bytes) = is_same z zoom && is_same c column && is_same r row
 is_at zoom column row content = false
 
+-- a place as a key: each number is its sign and how far it is from 0
+abbrev pub place_key : ℤ → ℤ → ℤ → List ℕ
+place_key zoom column row = sign zoom ∷ unsigned_abs zoom ∷ sign column ∷ unsigned_abs column ∷ sign row ∷ unsigned_abs row ∷ []
+
 -- a tile that could be held lies at this place
 abbrev pub is_good_at : Frame → ℤ → ℤ → ℤ → HeldItem → Bool
 is_good_at f zoom column row h = is_at zoom column row h.content && is_none (reason_of f h.content)
+
+-- a set has the places of such tiles among these, and no others
+abbrev pub HasPlaces : Frame → List HeldItem → BTreeSet (List ℕ) → Type 0
+HasPlaces f before places = (zoom column row : ℤ) → contains (slice_cmp nat_cmp) places (place_key zoom column row) ≡ list_any (is_good_at f zoom column row) before
 
 abbrev pub bytes_of : Content → List ℕ
 bytes_of (Tile zoom column row bytes) = bytes
@@ -60,10 +72,15 @@ exported_as kind items number = at_number (ids_of kind items) number
 abbrev pub is_renumbered : List Item → HeldItem → Bool
 is_renumbered items h = option_map_or (λ id. option_map_or (λ other. not (bytes_eq other id) && has (λ i. i.identity) id items) (exported_as (kind_of h.content) items h.number) false) h.identity false
 
--- those of media and rows
+-- a set has the identities of these items, and no others
+abbrev pub IsKnownIn : List Item → BTreeSet (List ℕ) → Type 0
+IsKnownIn items known = (id : List ℕ) → contains (slice_cmp nat_cmp) known id ≡ has (λ i. i.identity) id items
+
+-- those of media and rows, and all identities
 pub record AreNumbered (items : List Item) (n : Numbered) : Type 0 where
   pub media : n.media.items ≡ ids_of MediaItem items
   pub rows : n.rows.items ≡ ids_of RowItem items
+  pub known : IsKnownIn items n.known
 
 -- ---- any item
 

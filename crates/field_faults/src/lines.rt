@@ -1,11 +1,16 @@
 //! The records of a file that a package cannot hold, a line each.
-ghost use Rattle.std.specs.Prelude.{◌≡◌, ◌++◌, [], flat_map, take, IfOk, IsTrue, string_bytes};
+ghost use Rattle.std.specs.Prelude.{◌≡◌, ◌&&◌, ◌||◌, ◌∷◌, ◌++◌, [], ℕ, ℤ, List, bytes_eq, flat_map, IfOk, IsTrue, string_bytes};
 ghost use Rattle.std.specs.List.{list_any};
-ghost use Rattle.sheet_types.specs.Matrix.{is_good_frame};
-ghost use Rattle.sheet_types.specs.Ordered.{has};
+ghost use Rattle.std.specs.Ordering.{nat_cmp};
+ghost use Rattle.std.specs.Cmp.Lexicographic.{slice_cmp};
+ghost use Rattle.std.specs.BTreeSet.{contains};
+ghost use Rattle.sheet_types.specs.Matrix.{first_row, is_good_frame};
+ghost use Rattle.field_changes.specs.Keys.{sign};
+ghost use Rattle.field_changes.specs.declared.held.HeldItem.{HeldItem as ModelHeld};
 ghost use Rattle.sheet_types.specs.declared.command.Item.{Item as ModelItem};
 ghost use Rattle.sheet_types.specs.Texts.{kind_word, kind_of};
-ghost use Rattle.field_faults.specs.Lines.{bad_line, exported_as, fault_lines, ids_of, is_at, is_good_at, is_other_at, is_renumbered, item_lines, line_for, reason_among, reason_in, record_line, was_exported, at_number, AreNumbered};
+ghost use Rattle.field_faults.specs.declared.reasons.Reason.TheVariants.{Renumbered, Taken, Twice};
+ghost use Rattle.field_faults.specs.Lines.{bad_line, fault_lines, ids_of, is_at, is_good_at, is_other_at, is_renumbered, item_lines, line_for, place_key, reason_among, reason_in, record_line, was_exported, at_number, AreNumbered, HasPlaces, IsKnownIn};
 
 use crate::reasons::{Reason, reason_of};
 use field_changes::held::{BadRecord, Export, Held, HeldItem};
@@ -14,6 +19,7 @@ use sheet_types::error::OutOfMemory;
 use sheet_types::frame::Frame;
 use sheet_types::receipt::MovedKind;
 use std::alloc::Global;
+use std::collections::BTreeSet;
 use uuid::Uuid;
 
 /// A package, as a file is judged by it.
@@ -42,24 +48,62 @@ fn is_at(place: (i64, i64, i64), content: &Content) -> bool
     }
 }
 
-/// Whether a tile that could be held lies at this place.
-fn is_good_at(frame: &Frame, place: (i64, i64, i64), item: &HeldItem) -> bool
-    requires { IsTrue (is_good_frame frame.now) }
-    ensures { result ≡ is_good_at frame.now place.0 place.1 place.2 item.now }
+/// A place as a key of a set.
+fn place_key(zoom: i64, column: i64, row: i64) -> [u64; 6]
+    ensures { result ≡ place_key zoom column row }
 {
-    if is_at(place, &item.content) {
-        reason_of(frame, &item.content).is_none()
-    } else {
-        false
-    }
+    [
+        sign(zoom),
+        zoom.unsigned_abs(),
+        sign(column),
+        column.unsigned_abs(),
+        sign(row),
+        row.unsigned_abs(),
+    ]
 }
 
-/// Whether one of these is such a tile.
-fn is_there(frame: &Frame, place: (i64, i64, i64), items: &[HeldItem]) -> bool
-    requires { IsTrue (is_good_frame frame.now) }
-    ensures { result ≡ list_any (is_good_at frame.now place.0 place.1 place.2) items.now }
+/// Whether a number is below 0.
+fn sign(number: i64) -> u64
+    ensures { result ≡ sign number }
 {
-    items.iter().any(|item| is_good_at(frame, place, item))
+    if number < 0 { 1 } else { 0 }
+}
+
+/// Notes a key, where what has it fits.
+fn note_key(places: &mut BTreeSet<[u64; 6]>, key: [u64; 6], fits: bool) -> Result<(), OutOfMemory>
+    ensures { IfOk result (λ _. (q : List ℕ) → contains (slice_cmp nat_cmp) places.new q ≡ (contains (slice_cmp nat_cmp) places.old q || (bytes_eq key q && fits))) }
+{
+    if !fits {
+        return Ok(());
+    }
+    places.insert(key)?;
+    Ok(())
+}
+
+/// Notes the place of an item, where it is a tile that could be held.
+fn note_place(
+    places: &mut BTreeSet<[u64; 6]>,
+    frame: &Frame,
+    item: &HeldItem,
+) -> Result<(), OutOfMemory>
+    requires { IsTrue (is_good_frame frame.now) }
+    ensures { IfOk result (λ _. (zoom column row : ℤ) → contains (slice_cmp nat_cmp) places.new (place_key zoom column row)
+        ≡ (contains (slice_cmp nat_cmp) places.old (place_key zoom column row) || is_good_at frame.now zoom column row item.now)) }
+{
+    match &item.content {
+        Content::Tile {
+            zoom,
+            column,
+            row,
+            ..
+        } => {
+            let fits = reason_of(frame, &item.content).is_none();
+            note_key(places, place_key(*zoom, *column, *row), fits)?;
+            Ok(())
+        }
+        Content::Media { .. } => Ok(()),
+        Content::Row { .. } => Ok(()),
+    }
 }
 
 /// Whether an item is another tile at this place.
@@ -81,6 +125,37 @@ fn is_taken(place: (i64, i64, i64), bytes: &[u8], items: &[Item]) -> bool
     items.iter().any(|item| is_other_at(place, bytes, item))
 }
 
+/// The same, where nothing is to be taken away.
+fn is_taken_with(judge: &Judge<'_>, place: (i64, i64, i64), bytes: &[u8]) -> bool
+    ensures { result ≡ (judge.now.more && list_any (is_other_at place.0 place.1 place.2 bytes.now) judge.now.items.now) }
+{
+    judge.more && is_taken(place, bytes, judge.items)
+}
+
+/// The first reason of a tile.
+fn tile_reason(twice: bool, taken: bool) -> Option<Reason>
+    ensures { result ≡ first_row ((twice, Twice) ∷ (taken, Taken) ∷ []) }
+{
+    if twice {
+        Some(Reason::Twice)
+    } else if taken {
+        Some(Reason::Taken)
+    } else {
+        None
+    }
+}
+
+/// The reason of a medium or a row.
+fn number_reason(renumbered: bool) -> Option<Reason>
+    ensures { result ≡ first_row ((renumbered, Renumbered) ∷ []) }
+{
+    if renumbered {
+        Some(Reason::Renumbered)
+    } else {
+        None
+    }
+}
+
 /// The identities of the items of a kind, in the order in which an export numbers them.
 fn ids_of(alloc: Global, kind: MovedKind, items: &[Item]) -> Result<Vec<Uuid>, OutOfMemory>
     ensures { IfOk result (λ ids. ids.items ≡ ids_of kind items.now) }
@@ -94,11 +169,23 @@ fn ids_of(alloc: Global, kind: MovedKind, items: &[Item]) -> Result<Vec<Uuid>, O
     )
 }
 
-/// The identities of media and rows, in the order in which an export numbers them.
+/// All identities of some items.
+fn known_of(alloc: Global, items: &[Item]) -> Result<BTreeSet<Uuid>, OutOfMemory>
+    ensures { IfOk result (IsKnownIn items.now) }
+{
+    let mut known = BTreeSet::new(alloc);
+    for item in items {
+        known.insert(item.identity)?;
+    }
+    Ok(known)
+}
+
+/// The identities of media and rows, in the order in which an export numbers them, and all that are known.
 #[derive(Drop)]
 struct Numbered {
     media: Vec<Uuid>,
     rows: Vec<Uuid>,
+    known: BTreeSet<Uuid>,
 }
 
 /// The same of what a package holds.
@@ -107,7 +194,8 @@ fn numbers_of(alloc: Global, items: &[Item]) -> Result<Numbered, OutOfMemory>
 {
     let media = ids_of(alloc, MovedKind::MediaItem, items)?;
     let rows = ids_of(alloc, MovedKind::RowItem, items)?;
-    Ok(Numbered { media, rows })
+    let known = known_of(alloc, items)?;
+    Ok(Numbered { media, rows, known })
 }
 
 /// The identity at a number, counted from 1.
@@ -120,17 +208,10 @@ fn at_number(ids: &[Uuid], number: i64) -> Option<Uuid>
     ids.get(number.unsigned_abs() as usize - 1).copied()
 }
 
-/// Whether the package has an item of this identity.
-fn is_known(items: &[Item], id: Uuid) -> bool
-    ensures { result ≡ has (λ (i : ModelItem). i.identity) id items.now }
-{
-    items.iter().any(|known| known.identity == id)
-}
-
 /// Whether an item names one of the package, and stands under the number of another.
-fn is_renumbered(ids: &[Uuid], items: &[Item], item: &HeldItem) -> bool
-    requires { ids.now ≡ ids_of (kind_of item.now.content) items.now }
-    ensures { result ≡ is_renumbered items.now item.now }
+fn is_renumbered(ids: &[Uuid], known: &BTreeSet<Uuid>, item: &HeldItem) -> bool
+    ensures { (items : List ModelItem) → ids.now ≡ ids_of (kind_of item.now.content) items → IsKnownIn items known.now
+        → result ≡ is_renumbered items item.now }
 {
     let Some(id) = item.identity else {
         return false;
@@ -141,7 +222,15 @@ fn is_renumbered(ids: &[Uuid], items: &[Item], item: &HeldItem) -> bool
     if other == id {
         return false;
     }
-    is_known(items, id)
+    known.contains(&id)
+}
+
+/// The same of an item of an export.
+fn is_renumbered_in(exported: bool, ids: &[Uuid], known: &BTreeSet<Uuid>, item: &HeldItem) -> bool
+    ensures { (items : List ModelItem) → ids.now ≡ ids_of (kind_of item.now.content) items → IsKnownIn items known.now
+        → result ≡ (exported && is_renumbered items item.now) }
+{
+    exported && is_renumbered(ids, known, item)
 }
 
 /// The first reason beside those that lie in the item alone.
@@ -149,12 +238,12 @@ fn reason_among(
     judge: &Judge<'_>,
     numbered: &Numbered,
     exported: bool,
-    before: &[HeldItem],
+    places: &BTreeSet<[u64; 6]>,
     item: &HeldItem,
 ) -> Option<Reason>
-    requires good { IsTrue (is_good_frame judge.now.frame.now) }
-    requires numbers { AreNumbered judge.now.items.now numbered.now }
-    ensures { result ≡ reason_among judge.now.frame.now judge.now.items.now judge.now.more exported before.now item.now item.now.content }
+    requires { AreNumbered judge.now.items.now numbered.now }
+    ensures { (before : List ModelHeld) → HasPlaces judge.now.frame.now before places.now
+        → result ≡ reason_among judge.now.frame.now judge.now.items.now judge.now.more exported before item.now item.now.content }
 {
     match &item.content {
         Content::Tile {
@@ -163,28 +252,17 @@ fn reason_among(
             row,
             bytes,
         } => {
-            let place = (*zoom, *column, *row);
-            if is_there(judge.frame, place, before) {
-                Some(Reason::Twice)
-            } else if judge.more && is_taken(place, bytes.as_slice(), judge.items) {
-                Some(Reason::Taken)
-            } else {
-                None
-            }
+            let twice = places.contains(&place_key(*zoom, *column, *row));
+            let taken = is_taken_with(judge, (*zoom, *column, *row), bytes.as_slice());
+            tile_reason(twice, taken)
         }
         Content::Media { .. } => {
-            if exported && is_renumbered(numbered.media.as_slice(), judge.items, item) {
-                Some(Reason::Renumbered)
-            } else {
-                None
-            }
+            let ids = numbered.media.as_slice();
+            number_reason(is_renumbered_in(exported, ids, &numbered.known, item))
         }
         Content::Row { .. } => {
-            if exported && is_renumbered(numbered.rows.as_slice(), judge.items, item) {
-                Some(Reason::Renumbered)
-            } else {
-                None
-            }
+            let ids = numbered.rows.as_slice();
+            number_reason(is_renumbered_in(exported, ids, &numbered.known, item))
         }
     }
 }
@@ -194,16 +272,17 @@ fn reason_in(
     judge: &Judge<'_>,
     numbered: &Numbered,
     exported: bool,
-    before: &[HeldItem],
+    places: &BTreeSet<[u64; 6]>,
     item: &HeldItem,
 ) -> Option<Reason>
     requires good { IsTrue (is_good_frame judge.now.frame.now) }
     requires numbers { AreNumbered judge.now.items.now numbered.now }
-    ensures { result ≡ reason_in judge.now.frame.now judge.now.items.now judge.now.more exported before.now item.now }
+    ensures { (before : List ModelHeld) → HasPlaces judge.now.frame.now before places.now
+        → result ≡ reason_in judge.now.frame.now judge.now.items.now judge.now.more exported before item.now }
 {
     match reason_of(judge.frame, &item.content) {
         Some(reason) => Some(reason),
-        None => reason_among(judge, numbered, exported, before, item),
+        None => reason_among(judge, numbered, exported, places, item),
     }
 }
 
@@ -261,9 +340,10 @@ fn add_item_lines(
     requires numbers { AreNumbered judge.now.items.now numbered.now }
     ensures { IfOk result (λ _. string_bytes text.new ≡ string_bytes text.old ++ item_lines judge.now.frame.now judge.now.items.now judge.now.more exported [] items.now) }
 {
-    for at in 0..items.len() {
-        let item = &items[at];
-        let reason = reason_in(judge, numbered, exported, &items[..at], item);
+    let mut places = BTreeSet::new(alloc);
+    for item in items {
+        let reason = reason_in(judge, numbered, exported, &places, item);
+        note_place(&mut places, judge.frame, item)?;
         let line = line_for(alloc, item, reason)?;
         text.push_str(line.as_str())?;
     }

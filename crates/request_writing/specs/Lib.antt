@@ -1,1 +1,2 @@
 pub mod RequestTexts
+pub mod ReadBack

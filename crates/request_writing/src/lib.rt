@@ -1,4 +1,5 @@
 //! Request lists as texts.
 #![tactic(auto)]
 
+pub mod laws;
 pub mod texts;

@@ -1,4 +1,5 @@
 //! `changes` and `bring`: the list of what an edited file holds is read from standard input. What the words leave out is of the clock.
+use crate::naming::package_given;
 use crate::ordering::moment_given;
 use crate::running::{print_error, text_of};
 use crate::streams::{Input, Onlooker};
@@ -32,16 +33,17 @@ fn explain(rt: &HostRuntime, note: &str) {
     }
 }
 
-/// Carries the command out, at this moment, with the list that a reader has.
+/// Carries the command out of this package, at this moment, with the list that a reader has.
 fn bring_from<R: Read + Drop>(
     rt: &HostRuntime,
     name: &str,
     given: &ArgMatches<'_>,
+    package: &str,
     moment: &str,
     reader: R,
 ) -> Ending {
     let words = BringWords {
-        package: text_of(given, "package"),
+        package,
         at: moment,
         more: given.get_flag("more"),
     };
@@ -59,15 +61,20 @@ fn bring_from<R: Read + Drop>(
     ending
 }
 
-/// Carries the command out.
+/// Carries the command out of the package that a word names.
 pub(crate) fn brought(
     rt: &HostRuntime,
     name: &str,
     given: &ArgMatches<'_>,
+    word: &str,
     reader: &mut Input<'_>,
 ) -> Ending {
-    match moment_given(rt, given) {
-        Ok(moment) => bring_from(rt, name, given, moment.as_str(), reader),
+    let moment = match moment_given(rt, given) {
+        Ok(moment) => moment,
+        Err(ending) => return ending,
+    };
+    match package_given(rt, given, word) {
+        Ok(package) => bring_from(rt, name, given, package.as_str(), moment.as_str(), reader),
         Err(ending) => ending,
     }
 }

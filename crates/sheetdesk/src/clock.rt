@@ -1,4 +1,5 @@
 //! The moment of the clock, and new UUIDs. Nothing below the program asks for either.
+use command_plans::requests::Identities;
 use jiff_core::civil::Date;
 use std::alloc::{AllocError, Global};
 use std::io;
@@ -50,4 +51,19 @@ pub(crate) fn moment_now(rt: &HostRuntime) -> io::Result<String> {
 /// A UUID that is new.
 pub(crate) fn new_uuid(rt: &HostRuntime) -> io::Result<Uuid> {
     Uuid::try_new_v4(rt)
+}
+
+/// Identities that are new.
+#[derive(Drop)]
+pub(crate) struct NewIdentities<'r> {
+    pub(crate) rt: &'r HostRuntime,
+}
+
+impl<'r> Identities for NewIdentities<'r> {
+    fn next_identity(&mut self) -> Option<Uuid> {
+        match new_uuid(self.rt) {
+            Ok(id) => Some(id),
+            Err(_) => None,
+        }
+    }
 }

@@ -1,5 +1,6 @@
 //! What serves an edited file: the SQL that lists what it holds, for which no folder is opened, and the QGIS
 //! project of an export.
+use crate::naming::package_given;
 use crate::running::{is_printed, out_of_memory, output_failed, text_of};
 use clap::ArgMatches;
 use command_folder::endings::Ending;
@@ -43,14 +44,21 @@ pub(crate) fn listed(rt: &HostRuntime, given: &ArgMatches<'_>) -> u8 {
     }
 }
 
-/// Prints the QGIS project of an export for the file of a name, and answers how that ended; none where a command
+/// Prints the QGIS project of the export of a package for the file of a name, and answers how that ended; none where a command
 /// asks for no such project.
-pub(crate) fn projected(rt: &HostRuntime, name: &str, given: &ArgMatches<'_>) -> Option<Ending> {
+pub(crate) fn projected(
+    rt: &HostRuntime,
+    name: &str,
+    given: &ArgMatches<'_>,
+    word: &str,
+) -> Option<Ending> {
     if name != "export" {
         return None;
     }
     let file = given.get_str("qgis")?;
     let folder = text_of(given, "folder");
-    let package = text_of(given, "package");
-    Some(project_for(rt, folder, package, file, &mut io::writer(rt)))
+    Some(match package_given(rt, given, word) {
+        Ok(package) => project_for(rt, folder, package.as_str(), file, &mut io::writer(rt)),
+        Err(ending) => ending,
+    })
 }

@@ -1,17 +1,24 @@
 //! The program `sheetdesk`: the words that it is called with, and the exit status.
 #![tactic(auto)]
 
+mod boxes;
 mod bringing;
+mod called;
 mod clock;
+mod dropping;
 mod field;
 mod founding;
+mod naming;
 mod notes;
 mod ordering;
+mod outputs;
 mod reporting;
 mod running;
 mod sessions;
 mod showing;
 mod streams;
+mod tile_names;
+mod trees;
 
 use crate::running::out_of_memory;
 use crate::sessions::run;

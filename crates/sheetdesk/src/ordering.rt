@@ -1,13 +1,17 @@
 //! A verb's words become an order over the bytes of a file. What they leave out is new, or of the clock.
+use crate::called::Named;
 use crate::clock::{moment_now, new_uuid};
+use crate::naming::print_hint;
+use crate::outputs::{verb_ended, verb_output};
 use crate::running::text_of;
-use crate::streams::Input;
+use crate::streams::{Input, Output};
 use clap::ArgMatches;
 use command_folder::endings::{Ending, FAILED, NO_MEMORY};
+use command_ordering::ordering::hint_order_for;
 use command_requests::orders::Order;
 use command_verbs::verbs::{Mark, Verb};
 use command_words::statuses::{Outcome, What};
-use commands::ordering::{Purpose, order_for};
+use commands::ordering::Purpose;
 use sheet_types::command::Mode;
 use sheet_types::reading::read_uuid;
 use std::io::ErrorKind;
@@ -15,7 +19,7 @@ use std::{fs, io};
 use uuid::Uuid;
 
 /// Says on standard error what could not be had, and answers how the program ends.
-fn without(rt: &HostRuntime, what: &str, error: &io::Error, ending: Ending) -> Ending {
+pub(crate) fn without(rt: &HostRuntime, what: &str, error: &io::Error, ending: Ending) -> Ending {
     if error.kind() == ErrorKind::OutOfMemory {
         return NO_MEMORY;
     }
@@ -24,7 +28,11 @@ fn without(rt: &HostRuntime, what: &str, error: &io::Error, ending: Ending) -> E
 }
 
 /// The UUID of an option, or a new one.
-fn uuid_given(rt: &HostRuntime, given: &ArgMatches<'_>, id: &str) -> Result<Uuid, Ending> {
+pub(crate) fn uuid_given(
+    rt: &HostRuntime,
+    given: &ArgMatches<'_>,
+    id: &str,
+) -> Result<Uuid, Ending> {
     match given.get_str(id) {
         Some(word) => match read_uuid(word) {
             Some(uuid) => Ok(uuid),
@@ -68,9 +76,8 @@ pub(crate) fn moment_given(rt: &HostRuntime, given: &ArgMatches<'_>) -> Result<S
     }
 }
 
-/// What `put` adds, by the kind that its words begin with.
-fn put_verb<'m>(given: &ArgMatches<'m>, identity: Uuid) -> Option<Verb<'m>> {
-    let package = text_of(given, "package");
+/// What `put` adds to a package, by the kind that its words begin with.
+fn put_verb<'m>(given: &ArgMatches<'m>, package: &'m str, identity: Uuid) -> Option<Verb<'m>> {
     let (kind, words) = given.subcommand()?;
     match kind {
         "tile" => Some(Verb::PutTile {
@@ -95,41 +102,58 @@ fn put_verb<'m>(given: &ArgMatches<'m>, identity: Uuid) -> Option<Verb<'m>> {
     }
 }
 
-/// The loan that the words ask for. One word is the area; of two the first is the package that lends.
-fn lend_verb<'m>(given: &ArgMatches<'m>, loan: Uuid) -> Verb<'m> {
-    let first = text_of(given, "first");
-    let (from, area) = match given.get_str("second") {
-        Some(area) => (Some(first), area),
-        None => (None, first),
-    };
-    let mode = if given.get_flag("follow") {
+/// Whether a loan takes along what belongs to other sheets too.
+pub(crate) fn mode_of(given: &ArgMatches<'_>) -> Mode {
+    if given.get_flag("follow") {
         Mode::Follow
     } else {
         Mode::Strict
+    }
+}
+
+/// A word, where one of this id was given.
+pub(crate) fn if_given<'m>(given: &ArgMatches<'_>, id: &str, word: &'m str) -> Option<&'m str> {
+    if given.contains_id(id) {
+        Some(word)
+    } else {
+        None
+    }
+}
+
+/// The loan that the words ask for. One word is the area; of two the first is the package that lends.
+fn lend_verb<'m>(given: &ArgMatches<'m>, giver: &'m str, loan: Uuid) -> Verb<'m> {
+    let (from, area) = match given.get_str("second") {
+        Some(area) => (Some(giver), area),
+        None => (None, text_of(given, "first")),
     };
     Verb::Lend {
         from,
         area,
-        mode,
+        mode: mode_of(given),
         loan,
     }
 }
 
 /// The verb of a command, if it is one. What it makes gets this identity.
-fn verb_of<'m>(name: &str, given: &ArgMatches<'m>, identity: Uuid) -> Option<Verb<'m>> {
+fn verb_of<'m>(
+    name: &str,
+    given: &ArgMatches<'m>,
+    named: &'m Named,
+    identity: Uuid,
+) -> Option<Verb<'m>> {
+    let word = named.word.as_str();
+    let other = named.other.as_str();
     match name {
-        "put" => put_verb(given, identity),
-        "lend" => Some(lend_verb(given, identity)),
-        "return" => Some(Verb::Return {
-            loan: text_of(given, "loan"),
-        }),
+        "put" => put_verb(given, word, identity),
+        "lend" => Some(lend_verb(given, word, identity)),
+        "return" => Some(Verb::Return { loan: word }),
         "join" => Some(Verb::Join {
-            first: text_of(given, "first"),
-            second: text_of(given, "second"),
+            first: word,
+            second: other,
         }),
         "part" => Some(Verb::Part {
-            first: text_of(given, "first"),
-            second: text_of(given, "second"),
+            first: word,
+            second: other,
         }),
         _ => None,
     }
@@ -141,7 +165,7 @@ pub(crate) fn is_verb(name: &str) -> bool {
 }
 
 /// What becomes of the request.
-fn purpose_of(options: &ArgMatches<'_>) -> Purpose {
+pub(crate) fn purpose_of(options: &ArgMatches<'_>) -> Purpose {
     if options.get_flag("dry-run") {
         Purpose::Show
     } else {
@@ -156,8 +180,11 @@ fn done_in(
     order: &Order<'_>,
     purpose: Purpose,
     reader: &mut Input<'_>,
+    output: &mut Output<'_>,
 ) -> Ending {
-    order_for(rt, folder, order, purpose, reader, &mut io::writer(rt))
+    let (ending, hint) = hint_order_for(rt, folder, order, purpose, reader, output);
+    print_hint(rt, hint);
+    ending
 }
 
 /// The same, over the bytes of a file; of `-` those of the reader, and of no file none.
@@ -168,12 +195,13 @@ fn done_over(
     purpose: Purpose,
     file: Option<&str>,
     reader: &mut Input<'_>,
+    output: &mut Output<'_>,
 ) -> Ending {
     let Some(path) = file else {
-        return done_in(rt, folder, order, purpose, &mut Input::File(b""));
+        return done_in(rt, folder, order, purpose, &mut Input::File(b""), output);
     };
     if path == "-" {
-        return done_in(rt, folder, order, purpose, reader);
+        return done_in(rt, folder, order, purpose, reader, output);
     }
     match fs::read(rt, path) {
         Ok(bytes) => done_in(
@@ -182,6 +210,7 @@ fn done_over(
             order,
             purpose,
             &mut Input::File(bytes.as_slice()),
+            output,
         ),
         Err(error) => without(rt, path, &error, Ending::BadBody),
     }
@@ -193,6 +222,7 @@ fn ordered_by<'m>(
     name: &str,
     given: &ArgMatches<'m>,
     options: &ArgMatches<'m>,
+    named: &'m Named,
     reader: &mut Input<'_>,
 ) -> Ending {
     let id = match uuid_given(rt, options, "request") {
@@ -207,7 +237,7 @@ fn ordered_by<'m>(
         Ok(at) => at,
         Err(ending) => return ending,
     };
-    let Some(verb) = verb_of(name, given, identity) else {
+    let Some(verb) = verb_of(name, given, named, identity) else {
         return FAILED;
     };
     let order = Order {
@@ -217,7 +247,10 @@ fn ordered_by<'m>(
     };
     let folder = text_of(given, "folder");
     let purpose = purpose_of(options);
-    done_over(rt, folder, &order, purpose, options.get_str("file"), reader)
+    let file = options.get_str("file");
+    let mut output = verb_output(rt, options);
+    let ending = done_over(rt, folder, &order, purpose, file, reader, &mut output);
+    verb_ended(rt, &output, ending)
 }
 
 /// Carries out the verb of a command. Its options stand behind the kind of what is put, where there is one.
@@ -225,10 +258,11 @@ pub(crate) fn ordered(
     rt: &HostRuntime,
     name: &str,
     given: &ArgMatches<'_>,
+    named: &Named,
     reader: &mut Input<'_>,
 ) -> Ending {
     match given.subcommand() {
-        Some((_, words)) => ordered_by(rt, name, given, words, reader),
-        None => ordered_by(rt, name, given, given, reader),
+        Some((_, words)) => ordered_by(rt, name, given, words, named, reader),
+        None => ordered_by(rt, name, given, given, named, reader),
     }
 }

@@ -1,12 +1,18 @@
 //! A command, carried out: what it asks for is done in `cli`, `commands` and `views`.
+use crate::boxes::lend_box;
 use crate::bringing::{brought, is_bringing};
+use crate::called::{Named, named_words};
+use crate::dropping::dropped;
 use crate::field::{listed, projected};
 use crate::founding::founded;
+use crate::naming::named_look;
 use crate::notes::{fault_note, print_refusals, tally_for};
-use crate::ordering::{is_verb, ordered};
+use crate::ordering::{if_given, is_verb, ordered};
+use crate::outputs::{verb_ended, verb_output};
 use crate::reporting::reported;
-use crate::showing::shown;
+use crate::showing::{Wish, shown};
 use crate::streams::{Input, Onlooker};
+use crate::trees::put_tree;
 use clap::error::ErrorKind;
 use clap::{ArgMatches, Error};
 use cli::rehearse::rehearse;
@@ -22,6 +28,7 @@ use commands::working::{Asked, work_for};
 use std::alloc::AllocError;
 use std::convert::AsStr;
 use std::io;
+use view_json::forms::Form;
 use views::endings as seen;
 use views::excerpts::LogWords;
 use views::looking::Asked as AskedLook;
@@ -163,23 +170,45 @@ fn asked_work<'m>(name: &str, given: &ArgMatches<'m>) -> Option<Asked<'m>> {
     }
 }
 
-/// What a command asks to look at, if it looks at a folder.
-fn asked_look<'m>(name: &str, given: &ArgMatches<'m>) -> Option<AskedLook<'m>> {
+/// In which form a command that looks is to tell.
+pub(crate) fn asked_form(given: &ArgMatches<'_>) -> Form {
+    if given.get_flag("json") {
+        Form::Json
+    } else {
+        Form::Table
+    }
+}
+
+/// What a command asks to look at, by the word that names it, if it looks at a folder.
+fn asked_look<'m>(name: &str, given: &ArgMatches<'m>, word: &'m str) -> Option<AskedLook<'m>> {
     match name {
-        "status" => Some(AskedLook::Status),
-        "log" => Some(AskedLook::Log(LogWords {
-            package: given.get_str("package"),
-            from: given.get_str("from"),
-            last: given.get_str("last"),
-        })),
-        "get" => Some(AskedLook::Get(text_of(given, "identity"))),
-        "explain" => Some(AskedLook::Explain(text_of(given, "identity"))),
+        "status" => Some(AskedLook::Status(asked_form(given))),
+        "log" => Some(AskedLook::Log(
+            asked_form(given),
+            LogWords {
+                package: if_given(given, "package", word),
+                from: given.get_str("from"),
+                last: given.get_str("last"),
+            },
+        )),
+        "explain" => Some(AskedLook::Explain(asked_form(given), word)),
         "receipt" => Some(AskedLook::Receipt(text_of(given, "request"))),
-        "manifest" => Some(AskedLook::Manifest(text_of(given, "package"))),
-        "export" => Some(AskedLook::Export(text_of(given, "package"))),
+        "manifest" => Some(AskedLook::Manifest(word)),
+        "export" => Some(AskedLook::Export(word)),
         "map" => Some(AskedLook::Map(given.get_str("zoom"))),
         "audit" => Some(AskedLook::Audit),
         _ => None,
+    }
+}
+
+/// What a command wishes to look at, by a name or by its words, if it looks at a folder.
+fn wish_of<'m>(name: &str, given: &ArgMatches<'m>, word: &'m str) -> Option<Wish<'m>> {
+    match named_look(name, given, word) {
+        Some(asked) => Some(Wish::Named(asked)),
+        None => match asked_look(name, given, word) {
+            Some(asked) => Some(Wish::Asked(asked)),
+            None => None,
+        },
     }
 }
 
@@ -199,6 +228,78 @@ fn changed(rt: &HostRuntime, name: &str, given: &ArgMatches<'_>, reader: &mut In
     ending
 }
 
+/// Adds the tiles of a tree, or an item.
+fn put(rt: &HostRuntime, given: &ArgMatches<'_>, named: &Named, reader: &mut Input<'_>) -> Ending {
+    match given.subcommand() {
+        Some((kind, words)) if kind == "tiles" => {
+            put_tree(rt, given, words, named.word.as_str())
+        }
+        _ => ordered(rt, "put", given, named, reader),
+    }
+}
+
+/// Lends the sheets that cover a box, or those of an area.
+fn lend(rt: &HostRuntime, given: &ArgMatches<'_>, named: &Named, reader: &mut Input<'_>) -> Ending {
+    match given.get_str("box") {
+        Some(words) => lend_box(rt, given, named.word.as_str(), words),
+        None => ordered(rt, "lend", given, named, reader),
+    }
+}
+
+/// Removes what older versions and stops left in a folder.
+fn tidied(rt: &HostRuntime, given: &ArgMatches<'_>) -> Ending {
+    let mut output = verb_output(rt, given);
+    let ending = tidy(rt, text_of(given, "folder"), &mut output);
+    verb_ended(rt, &output, ending)
+}
+
+/// Carries out a command that changes something, and answers how it ended.
+fn worked(
+    rt: &HostRuntime,
+    name: &str,
+    given: &ArgMatches<'_>,
+    named: &Named,
+    reader: &mut Input<'_>,
+) -> Ending {
+    let word = named.word.as_str();
+    match name {
+        "init" => founded(rt, given),
+        "tidy" => tidied(rt, given),
+        "drop" => dropped(rt, given, word),
+        "put" => put(rt, given, named, reader),
+        "lend" => lend(rt, given, named, reader),
+        _ if is_bringing(name) => brought(rt, name, given, word, reader),
+        _ if is_verb(name) => ordered(rt, name, given, named, reader),
+        _ => changed(rt, name, given, reader),
+    }
+}
+
+/// Carries out the command of this name, whose words name these, and answers the exit status.
+fn carried_out_of(
+    rt: &HostRuntime,
+    name: &str,
+    given: &ArgMatches<'_>,
+    named: &Named,
+    reader: &mut Input<'_>,
+) -> u8 {
+    let word = named.word.as_str();
+    if let Some(ending) = projected(rt, name, given, word) {
+        return ended(rt, &ending);
+    }
+    if let Some(status) = reported(rt, name, given, word) {
+        return status;
+    }
+    if let Some(wish) = wish_of(name, given, word) {
+        return looked(rt, &shown(rt, name, given, wish));
+    }
+    let typed = reader.text();
+    let ending = worked(rt, name, given, named, reader);
+    match fault_note(rt, name, given, typed, &ending) {
+        Some(note) => ended_with(rt, &ending, Ok(note)),
+        None => ended(rt, &ending),
+    }
+}
+
 /// Carries out the command of this name, and answers the exit status.
 pub(crate) fn carried_out(
     rt: &HostRuntime,
@@ -206,35 +307,13 @@ pub(crate) fn carried_out(
     given: &ArgMatches<'_>,
     reader: &mut Input<'_>,
 ) -> u8 {
-    if name == "holds" {
-        return listed(rt, given);
-    }
-    if name == "completions" {
-        return printed(rt, BASH);
-    }
-    if let Some(ending) = projected(rt, name, given) {
-        return ended(rt, &ending);
-    }
-    if let Some(status) = reported(rt, name, given) {
-        return status;
-    }
-    if let Some(asked) = asked_look(name, given) {
-        return looked(
-            rt,
-            &shown(rt, text_of(given, "folder"), asked, given.get_str("output")),
-        );
-    }
-    let typed = reader.text();
-    let ending = match name {
-        "init" => founded(rt, given),
-        "tidy" => tidy(rt, text_of(given, "folder"), &mut io::writer(rt)),
-        _ if is_bringing(name) => brought(rt, name, given, reader),
-        _ if is_verb(name) => ordered(rt, name, given, reader),
-        _ => changed(rt, name, given, reader),
-    };
-    match fault_note(rt, name, given, typed, &ending) {
-        Some(note) => ended_with(rt, &ending, Ok(note)),
-        None => ended(rt, &ending),
+    match name {
+        "holds" => listed(rt, given),
+        "completions" => printed(rt, BASH),
+        _ => match named_words(rt, name, given) {
+            Ok(named) => carried_out_of(rt, name, given, &named, reader),
+            Err(ending) => ended(rt, &ending),
+        },
     }
 }
 

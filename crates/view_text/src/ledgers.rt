@@ -4,7 +4,7 @@ ghost use Rattle.sheet_types.specs.Texts.{uuid_text};
 ghost use Rattle.command_verbs.specs.Names.{begins};
 ghost use Rattle.command_verbs.specs.Verbs.{text_of};
 ghost use Rattle.sheet_types.specs.declared.receipt.Receipt.{Receipt};
-ghost use Rattle.view_text.specs.Ledgers.{begins_end, counts_columns, excerpt_of, headings, is_asked, ledger_line, passed, touches};
+ghost use Rattle.view_text.specs.Ledgers.{asked_of, begins_end, counts_columns, excerpt_of, headings, is_asked, ledger_line, passed, touches};
 ghost use Rattle.view_text.specs.Ways.{first_word};
 
 use crate::columns::{put, put_end, put_left, put_number};
@@ -109,6 +109,37 @@ fn passed(last: Option<usize>, count: usize) -> usize
     }
 }
 
+/// The last so many of some receipts.
+fn last_among<'r>(
+    alloc: Global,
+    found: &[&'r Receipt],
+    last: Option<usize>,
+) -> Result<Vec<&'r Receipt>, AllocError>
+    ensures { IfOk result (λ asked. asked.items ≡ drop (passed last (length found.now)) found.now) }
+{
+    let start = passed(last, found.len());
+    let mut asked = Vec::new(alloc);
+    asked.extend_from_slice(&found[start..])?;
+    Ok(asked)
+}
+
+/// The receipts of a ledger that are asked for, in their order.
+///
+/// # Errors
+///
+/// Want of memory.
+pub fn asked_of<'r>(
+    alloc: Global,
+    receipts: &'r [Receipt],
+    excerpt: &Excerpt<'_>,
+) -> Result<Vec<&'r Receipt>, AllocError>
+    ensures { IfOk result (λ asked. map (λ r. r.now) asked.items ≡ asked_of receipts.now excerpt.now) }
+{
+    let found = asked_among(alloc, receipts, excerpt)?;
+    let asked = last_among(alloc, found.as_slice(), excerpt.last)?;
+    Ok(asked)
+}
+
 /// Puts how many things moved by a receipt, and their bytes, as the end of its line.
 fn put_counts(text: &mut String, receipt: &Receipt) -> Result<(), AllocError>
     ensures { IfOk result (λ _. string_bytes text.new ≡ string_bytes text.old ++ counts_columns receipt.now) }
@@ -143,14 +174,6 @@ fn put_receipts(text: &mut String, receipts: &[&Receipt]) -> Result<(), AllocErr
     Ok(())
 }
 
-/// Puts the lines of the last so many of some receipts.
-fn put_last(text: &mut String, receipts: &[&Receipt], last: Option<usize>) -> Result<(), AllocError>
-    ensures { IfOk result (λ _. string_bytes text.new ≡ string_bytes text.old ++ flat_map (λ r. ledger_line r.now) (drop (passed last (length receipts.now)) receipts.now)) }
-{
-    let start = passed(last, receipts.len());
-    put_receipts(text, &receipts[start..])
-}
-
 /// A line of headings, and a line for each receipt of a ledger that is asked for, in their order.
 ///
 /// # Errors
@@ -163,9 +186,9 @@ pub fn excerpt_text(
 ) -> Result<String, AllocError>
     ensures { IfOk result (λ text. string_bytes text ≡ excerpt_of ledger.now excerpt.now) }
 {
-    let found = asked_among(alloc, ledger, excerpt)?;
+    let asked = asked_of(alloc, ledger, excerpt)?;
     let mut text = String::new(alloc);
     put(&mut text, headings())?;
-    put_last(&mut text, found.as_slice(), excerpt.last)?;
+    put_receipts(&mut text, asked.as_slice())?;
     Ok(text)
 }

@@ -70,8 +70,21 @@ fn naming_word(as_item: bool, as_end: bool) -> &'static str
     }
 }
 
-/// The first word of a line.
-pub(crate) fn first_word(line: &str) -> &str
+/// How a receipt names an identity: as that of an item, of an end of a link, or of both. `None` where it does not.
+pub fn named_as(receipt: &Receipt, identity: Uuid) -> Option<&'static str>
+    ensures { MatchOption result (speaks_of identity receipt.now ≡ false) (λ word. (speaks_of identity receipt.now ≡ true) × (word.now ≡ naming_word (names_identity identity receipt.now) (names_end identity receipt.now))) }
+{
+    let as_item = names_item(receipt, identity);
+    let as_end = names_end(receipt, identity);
+    if as_item || as_end {
+        Some(naming_word(as_item, as_end))
+    } else {
+        None
+    }
+}
+
+/// The first word of a line, which is the command where it is that of a receipt.
+pub fn first_word(line: &str) -> &str
     ensures { result.now ≡ first_word line.now }
 {
     match line.split_once(' ') {
@@ -152,7 +165,7 @@ fn put_place(text: &mut String, place: Option<Uuid>) -> Result<(), AllocError>
 }
 
 /// Whether a receipt names the identity.
-fn is_spoken_of(receipts: &[Receipt], identity: Uuid) -> bool
+pub fn is_spoken_of(receipts: &[Receipt], identity: Uuid) -> bool
     ensures { result ≡ list_any (speaks_of identity) receipts.now }
 {
     receipts.iter().any(|receipt| names_item(receipt, identity) || names_end(receipt, identity))

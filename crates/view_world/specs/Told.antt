@@ -1,4 +1,4 @@
--- What people are told of a world: a table of its live packages by UUID, the way of one item through them, and a kept receipt. Profile.
+-- What people are told of a world: its live packages by UUID, its ledger, the way of one item through them, and a kept receipt. Profile.
 use Rattle.std.specs.Prelude.{ℕ, List, [], ◌∷◌, ◌++◌, map, Option, option_map}
 use Rattle.std.specs.Bool.{then_some}
 use Rattle.std.specs.List.{list_any}
@@ -7,9 +7,9 @@ use Rattle.sheet_types.specs.Custody.{ticket}
 use Rattle.sheet_types.specs.World.{World, Package, receipts_of}
 use Rattle.desk_replies.specs.Bodies.{receipt_text}
 use Rattle.view_history.specs.Told.{moment_of}
-use Rattle.view_text.specs.Ledgers.{excerpt_of}
-use Rattle.view_text.specs.Packages.{status_of}
-use Rattle.view_text.specs.Ways.{speaks_of, way_of}
+use Rattle.view_json.specs.Forms.{told_excerpt, told_status, told_way}
+use Rattle.view_json.specs.declared.forms.Form.{Form}
+use Rattle.view_text.specs.Ways.{speaks_of}
 use Rattle.view_text.specs.declared.ledgers.Excerpt.{Excerpt}
 use Rattle.view_text.specs.declared.packages.PackageRow.{PackageRow}
 
@@ -23,17 +23,17 @@ package_row w p = record { uuid = p.uuid; parent = p.parent; depth = p.depth; lo
 abbrev pub package_rows : World → List PackageRow
 package_rows w = map (package_row w) w.packages
 
--- the table
-abbrev pub status_text : World → List ℕ
-status_text w = status_of (package_rows w)
+-- the packages, and so many files of none
+abbrev pub status_text : Form → World → ℕ → List ℕ
+status_text form w strays = told_status form (package_rows w) strays
 
 -- the way of an item, if a receipt names it
-abbrev pub way_answer : World → List ℕ → Option (List ℕ)
-way_answer w id = then_some (list_any (speaks_of id) (receipts_of w)) (way_of id (receipts_of w))
+abbrev pub way_answer : Form → World → List ℕ → Option (List ℕ)
+way_answer form w id = then_some (list_any (speaks_of id) (receipts_of w)) (told_way form id (receipts_of w))
 
--- the receipts that are asked for, as a table
-abbrev pub log_text : World → Excerpt → List ℕ
-log_text w e = excerpt_of (receipts_of w) e
+-- the receipts that are asked for
+abbrev pub log_text : Form → World → Excerpt → List ℕ
+log_text form w e = told_excerpt form (receipts_of w) e
 
 -- the receipt of a request as the desk has it, on a line, if one is kept
 abbrev pub receipt_line : World → List ℕ → Option (List ℕ)

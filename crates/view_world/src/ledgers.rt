@@ -1,8 +1,8 @@
-//! The ledger of the packages of a world, as a table.
+//! The ledger of the packages of a world.
 ghost use Rattle.std.specs.Prelude.{◌≡◌, length, string_bytes, Ok, OnOk};
 ghost use Rattle.view_history.specs.Stores.{AreAtRest, AsksStores};
 ghost use Rattle.view_history.specs.Told.{ledger_of};
-ghost use Rattle.view_text.specs.Ledgers.{excerpt_of};
+ghost use Rattle.view_json.specs.Forms.{told_excerpt};
 ghost use Rattle.view_world.specs.Looks.{Asks, LooksInto};
 ghost use Rattle.view_world.specs.Told.{log_text};
 
@@ -11,20 +11,22 @@ use package_tables::fault::Fault;
 use sqlite::{Alter, Connection};
 use std::alloc::Global;
 use view_history::ledgers::ledger_of;
-use view_text::ledgers::{Excerpt, excerpt_text};
+use view_json::forms::{Form, told_excerpt};
+use view_text::ledgers::Excerpt;
 use world::world::World;
 
-/// The table of the receipts of the packages of these stores.
+/// What is told of the receipts of the packages of these stores.
 fn log_by<S: Alter + Drop>(
     stores: &mut Vec<Connection<S>>,
     alloc: Global,
+    form: Form,
     excerpt: &Excerpt<'_>,
 ) -> Result<String, Fault>
     requires { AreAtRest S.Store stores.old.items }
-    ensures { AsksStores S.Store (λ packages text. string_bytes text ≡ excerpt_of (ledger_of packages) excerpt.now) stores.old.items stores.new.items result }
+    ensures { AsksStores S.Store (λ packages text. string_bytes text ≡ told_excerpt form (ledger_of packages) excerpt.now) stores.old.items stores.new.items result }
 {
     let ledger = ledger_of(stores, alloc)?;
-    let text = excerpt_text(alloc, &ledger, excerpt)?;
+    let text = told_excerpt(alloc, form, &ledger, excerpt)?;
     Ok(text)
 }
 
@@ -33,20 +35,21 @@ fn log_in<S: Alter + Drop>(
     count: Result<usize, Fault>,
     stores: &mut Vec<Connection<S>>,
     alloc: Global,
+    form: Form,
     excerpt: &Excerpt<'_>,
 ) -> Result<String, Fault>
     ensures counted { OnOk result (count ≡ Ok (length stores.old.items)) }
-    ensures asked { Asks S.Store (λ packages text. string_bytes text ≡ excerpt_of (ledger_of packages) excerpt.now) stores.old.items stores.new.items result }
+    ensures asked { Asks S.Store (λ packages text. string_bytes text ≡ told_excerpt form (ledger_of packages) excerpt.now) stores.old.items stores.new.items result }
 {
     let count = count?;
     if !are_ready(stores, count) {
         return Err(Fault::StoreFault);
     }
-    let text = log_by(stores, alloc, excerpt)?;
+    let text = log_by(stores, alloc, form, excerpt)?;
     Ok(text)
 }
 
-/// The receipts of a world that are asked for, as a table by number. All receipts are in memory at once, as they are while a world is opened. The world ends with it; its stores are handed on.
+/// The receipts of a world that are asked for, by number. All receipts are in memory at once, as they are while a world is opened. The world ends with it; its stores are handed on.
 ///
 /// # Errors
 ///
@@ -54,12 +57,13 @@ fn log_in<S: Alter + Drop>(
 pub fn log_of<S: Alter + Drop>(
     alloc: Global,
     world: World<S>,
+    form: Form,
     excerpt: &Excerpt<'_>,
 ) -> (Result<String, Fault>, Vec<Connection<S>>)
-    ensures { LooksInto S.Store (λ w text. string_bytes text ≡ log_text w excerpt.now) world result.1.items result.0 }
+    ensures { LooksInto S.Store (λ w text. string_bytes text ≡ log_text form w excerpt.now) world result.1.items result.0 }
 {
     let count = count_of(alloc, &world);
     let mut stores = world.into_stores();
-    let text = log_in(count, &mut stores, alloc, excerpt);
+    let text = log_in(count, &mut stores, alloc, form, excerpt);
     (text, stores)
 }

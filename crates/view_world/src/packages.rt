@@ -1,4 +1,4 @@
-//! A table of the live packages of a world.
+//! The live packages of a world.
 ghost use Rattle.std.specs.Prelude.{◌≡◌, length, map, string_bytes, IfOk, MatchResult, OnOk, Some};
 ghost use Rattle.sheet_types.specs.World.{World as ModelWorld};
 ghost use Rattle.sheet_types.specs.Answers.{sums_of};
@@ -17,7 +17,8 @@ use sqlite::{Alter, Connection};
 use std::alloc::{AllocError, Global};
 use view_history::loans::loans_of;
 use view_history::moments::moments_of;
-use view_text::packages::{PackageRow, status_text};
+use view_json::forms::{Form, told_status};
+use view_text::packages::PackageRow;
 use world::reading::PackageSight;
 use world::world::World;
 
@@ -111,20 +112,22 @@ fn rows_of(
     Ok(rows)
 }
 
-/// The table of the packages of these stores.
+/// What is told of the packages of these stores.
 fn table_by<S: Alter + Drop>(
     kept: &Kept,
     stores: &mut Vec<Connection<S>>,
     alloc: Global,
+    form: Form,
+    strays: u64,
 ) -> Result<String, Fault>
     requires { AreAtRest S.Store stores.old.items }
-    ensures { AsksStores S.Store (λ packages text. (w : ModelWorld) → packages ≡ w.packages → AreKept w kept.now.sights.items kept.now.sums.items → string_bytes text ≡ status_text w) stores.old.items stores.new.items result }
+    ensures { AsksStores S.Store (λ packages text. (w : ModelWorld) → packages ≡ w.packages → AreKept w kept.now.sights.items kept.now.sums.items → string_bytes text ≡ status_text form w strays) stores.old.items stores.new.items result }
 {
     let loans = loans_of(stores, alloc)?;
     let tickets = tickets_of(alloc, &kept.sights)?;
     let moments = moments_of(stores, alloc, &tickets)?;
     let rows = rows_of(alloc, &kept.sights, &kept.sums, &loans, &moments)?;
-    let text = status_text(alloc, &rows)?;
+    let text = told_status(alloc, form, &rows, strays)?;
     Ok(text)
 }
 
@@ -133,19 +136,21 @@ fn table_of<S: Alter + Drop>(
     kept: Result<Kept, Fault>,
     stores: &mut Vec<Connection<S>>,
     alloc: Global,
+    form: Form,
+    strays: u64,
 ) -> Result<String, Fault>
     ensures counted { OnOk result (MatchResult kept (λ k. length k.sights.items ≡ length stores.old.items) (λ fault. ⊥)) }
-    ensures asked { Asks S.Store (λ packages text. (w : ModelWorld) → packages ≡ w.packages → IfOk kept (λ k. AreKept w k.sights.items k.sums.items) → string_bytes text ≡ status_text w) stores.old.items stores.new.items result }
+    ensures asked { Asks S.Store (λ packages text. (w : ModelWorld) → packages ≡ w.packages → IfOk kept (λ k. AreKept w k.sights.items k.sums.items) → string_bytes text ≡ status_text form w strays) stores.old.items stores.new.items result }
 {
     let kept = kept?;
     if !are_ready(stores, kept.sights.len()) {
         return Err(Fault::StoreFault);
     }
-    let text = table_by(&kept, stores, alloc)?;
+    let text = table_by(&kept, stores, alloc, form, strays)?;
     Ok(text)
 }
 
-/// A line of headings, and a line for each live package by UUID. The world ends with it; its stores are handed on.
+/// Each live package by UUID, on a line; and how many files are of none. The world ends with it; its stores are handed on.
 ///
 /// # Errors
 ///
@@ -153,11 +158,13 @@ fn table_of<S: Alter + Drop>(
 pub fn status_of<S: Alter + Drop>(
     alloc: Global,
     world: World<S>,
+    form: Form,
+    strays: u64,
 ) -> (Result<String, Fault>, Vec<Connection<S>>)
-    ensures { LooksInto S.Store (λ w text. string_bytes text ≡ status_text w) world result.1.items result.0 }
+    ensures { LooksInto S.Store (λ w text. string_bytes text ≡ status_text form w strays) world result.1.items result.0 }
 {
     let kept = kept_of(alloc, &world);
     let mut stores = world.into_stores();
-    let text = table_of(kept, &mut stores, alloc);
+    let text = table_of(kept, &mut stores, alloc, form, strays);
     (text, stores)
 }

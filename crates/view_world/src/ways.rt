@@ -4,7 +4,8 @@ ghost use Rattle.std.specs.Bool.{then_some};
 ghost use Rattle.std.specs.List.{list_any};
 ghost use Rattle.view_history.specs.Stores.{AreAtRest, AsksStores};
 ghost use Rattle.view_history.specs.Told.{ledger_of};
-ghost use Rattle.view_text.specs.Ways.{speaks_of, way_of};
+ghost use Rattle.view_json.specs.Forms.{told_way};
+ghost use Rattle.view_text.specs.Ways.{speaks_of};
 ghost use Rattle.view_world.specs.Looks.{Asks, LooksInto};
 ghost use Rattle.view_world.specs.Told.{way_answer};
 
@@ -14,20 +15,21 @@ use sqlite::{Alter, Connection};
 use std::alloc::Global;
 use uuid::Uuid;
 use view_history::ledgers::ledger_of;
-use view_text::ways::way_text;
+use view_json::forms::{Form, told_way};
 use world::world::World;
 
 /// The way of an item by the receipts of the packages of these stores.
 fn way_by<S: Alter + Drop>(
     stores: &mut Vec<Connection<S>>,
     alloc: Global,
+    form: Form,
     identity: Uuid,
 ) -> Result<Option<String>, Fault>
     requires { AreAtRest S.Store stores.old.items }
-    ensures { AsksStores S.Store (λ packages found. option_map string_bytes found ≡ then_some (list_any (speaks_of identity) (ledger_of packages)) (way_of identity (ledger_of packages))) stores.old.items stores.new.items result }
+    ensures { AsksStores S.Store (λ packages found. option_map string_bytes found ≡ then_some (list_any (speaks_of identity) (ledger_of packages)) (told_way form identity (ledger_of packages))) stores.old.items stores.new.items result }
 {
     let ledger = ledger_of(stores, alloc)?;
-    let found = way_text(alloc, &ledger, identity)?;
+    let found = told_way(alloc, form, &ledger, identity)?;
     Ok(found)
 }
 
@@ -36,16 +38,17 @@ fn way_in<S: Alter + Drop>(
     count: Result<usize, Fault>,
     stores: &mut Vec<Connection<S>>,
     alloc: Global,
+    form: Form,
     identity: Uuid,
 ) -> Result<Option<String>, Fault>
     ensures counted { OnOk result (count ≡ Ok (length stores.old.items)) }
-    ensures asked { Asks S.Store (λ packages found. option_map string_bytes found ≡ then_some (list_any (speaks_of identity) (ledger_of packages)) (way_of identity (ledger_of packages))) stores.old.items stores.new.items result }
+    ensures asked { Asks S.Store (λ packages found. option_map string_bytes found ≡ then_some (list_any (speaks_of identity) (ledger_of packages)) (told_way form identity (ledger_of packages))) stores.old.items stores.new.items result }
 {
     let count = count?;
     if !are_ready(stores, count) {
         return Err(Fault::StoreFault);
     }
-    let found = way_by(stores, alloc, identity)?;
+    let found = way_by(stores, alloc, form, identity)?;
     Ok(found)
 }
 
@@ -57,12 +60,13 @@ fn way_in<S: Alter + Drop>(
 pub fn way_of<S: Alter + Drop>(
     alloc: Global,
     world: World<S>,
+    form: Form,
     identity: Uuid,
 ) -> (Result<Option<String>, Fault>, Vec<Connection<S>>)
-    ensures { LooksInto S.Store (λ w found. option_map string_bytes found ≡ way_answer w identity) world result.1.items result.0 }
+    ensures { LooksInto S.Store (λ w found. option_map string_bytes found ≡ way_answer form w identity) world result.1.items result.0 }
 {
     let count = count_of(alloc, &world);
     let mut stores = world.into_stores();
-    let found = way_in(count, &mut stores, alloc, identity);
+    let found = way_in(count, &mut stores, alloc, form, identity);
     (found, stores)
 }

@@ -28,12 +28,12 @@ use Rattle.views.specs.declared.looking.Look.TheVariants.{Status, Log, Get, Expl
 
 -- ---- the words
 
--- What the words ask to look at: a UUID with hyphens, or a zoom in plain decimal.
+-- What the words ask to look at: a UUID with hyphens, or a zoom in plain decimal; and in which form it is told.
 abbrev pub Asks : Asked → Look → Type 0
-Asks asked.Status Status = Unit {0}
-Asks (asked.Log words) (Log excerpt) = AsksExcerpt words excerpt
+Asks (asked.Status form) (Status as_form) = as_form ≡ form
+Asks (asked.Log form words) (Log as_form excerpt) = AsksExcerpt words excerpt × (as_form ≡ form)
 Asks (asked.Get word) (Get text) = text.now ≡ word.now
-Asks (asked.Explain word) (Explain id) = parsed_hyphenated word.now ≡ Some id
+Asks (asked.Explain form word) (Explain as_form id) = (parsed_hyphenated word.now ≡ Some id) × (as_form ≡ form)
 Asks (asked.Receipt word) (Receipt id) = parsed_hyphenated word.now ≡ Some id
 Asks (asked.Manifest word) (Manifest p) = parsed_hyphenated word.now ≡ Some p
 Asks (asked.Export word) (Export p) = parsed_hyphenated word.now ≡ Some p
@@ -47,10 +47,10 @@ IsNoUuid text what = (parsed_hyphenated text ≡ None) × (what ≡ BadUuid)
 
 -- why the words ask for nothing
 abbrev pub IsUnread : Asked → What → Type 0
-IsUnread asked.Status what = ⊥
-IsUnread (asked.Log words) what = ((excerpt : Excerpt) → ¬ AsksExcerpt words excerpt) × (what ≡ BadNumber)
+IsUnread (asked.Status form) what = ⊥
+IsUnread (asked.Log form words) what = ((excerpt : Excerpt) → ¬ AsksExcerpt words excerpt) × (what ≡ BadNumber)
 IsUnread (asked.Get word) what = ⊥
-IsUnread (asked.Explain word) what = IsNoUuid word.now what
+IsUnread (asked.Explain form word) what = IsNoUuid word.now what
 IsUnread (asked.Receipt word) what = IsNoUuid word.now what
 IsUnread (asked.Manifest word) what = IsNoUuid word.now what
 IsUnread (asked.Export word) what = IsNoUuid word.now what
@@ -64,12 +64,12 @@ module _ {S : Type 0} (g : Ghosts S) {W : Type 0} (strays : ℕ) (old : Seen S) 
     (writer writer' : W) (before after : Option (List ℕ)) where
   -- What is looked at was printed, the program ends so, and these stores are left of the world. So many are beside it.
   abbrev pub Looked : Look → Ending → Type 0
-  Looked Status ending = ShowsStatus g strays old stores writer writer' before after ending
-  Looked (Log excerpt) ending = ShowsLog g excerpt old stores writer writer' before after ending
+  Looked (Status form) ending = ShowsStatus g form strays old stores writer writer' before after ending
+  Looked (Log form excerpt) ending = ShowsLog g form excerpt old stores writer writer' before after ending
   Looked (Get word) ending =
       (new : Seen S) × (stores ≡ held g new)
       × Gets g word.now old new writer writer' before after ending
-  Looked (Explain id) ending = ShowsWay g id old stores writer writer' before after ending
+  Looked (Explain form id) ending = ShowsWay g form id old stores writer writer' before after ending
   Looked (Receipt id) ending =
       (new : Seen S) × (stores ≡ held g new)
       × ShowsReceipt g id old new writer writer' before after ending

@@ -1,11 +1,11 @@
 -- What the subcommands that look print of a world, and how they end. Profile.
-use Rattle.std.specs.Prelude.{◌≡◌, ◌++◌, ℕ, List, Option, Result}
+use Rattle.std.specs.Prelude.{◌≡◌, ℕ, List, Option, Result}
 use Rattle.sqlite.specs.Held.{Held}
 use Rattle.sqlite.specs.Store.{Ghosts}
 use Rattle.package_tables.specs.declared.fault.Fault.{Fault}
 use Rattle.world.specs.Worlds.{IsRead, Seen, TellsOf}
-use Rattle.view_text.specs.Packages.{strays_line}
 use Rattle.view_world.specs.Looks.{LooksInto}
+use Rattle.view_json.specs.declared.forms.Form.{Form}
 use Rattle.view_text.specs.declared.ledgers.Excerpt.{Excerpt}
 use Rattle.view_world.specs.Told.{log_text, receipt_line, status_text, way_answer}
 use Rattle.views.specs.Showing.{Shows, ShowsText}
@@ -13,22 +13,22 @@ use Rattle.views.specs.declared.endings.Ending.{Ending}
 use Rattle.views.specs.declared.endings.Ending.TheVariants.{NoSuchRequest, NoSuchIdentity}
 
 module _ {S : Type 0} (g : Ghosts S) where
-  -- The table of the packages was printed, and so many stores beside it; the stores of the world were only read.
-  pub record ShowsStatus {W : Type 0} (strays : ℕ) (seen : Seen S) (stores : List (Held S)) (writer writer' : W) (before after : Option (List ℕ)) (ending : Ending) : Type 0 where
+  -- The packages were printed in this form, and so many stores beside them; the stores of the world were only read.
+  pub record ShowsStatus {W : Type 0} (form : Form) (strays : ℕ) (seen : Seen S) (stores : List (Held S)) (writer writer' : W) (before after : Option (List ℕ)) (ending : Ending) : Type 0 where
     pub found : Result (List ℕ) Fault
-    pub looked : LooksInto g (λ w text. text ≡ status_text w ++ strays_line strays) seen stores found
+    pub looked : LooksInto g (λ w text. text ≡ status_text form w strays) seen stores found
     pub shown : ShowsText found writer writer' before after ending
 
   -- The receipts that are asked for were printed; the stores were only read.
-  pub record ShowsLog {W : Type 0} (excerpt : Excerpt) (seen : Seen S) (stores : List (Held S)) (writer writer' : W) (before after : Option (List ℕ)) (ending : Ending) : Type 0 where
+  pub record ShowsLog {W : Type 0} (form : Form) (excerpt : Excerpt) (seen : Seen S) (stores : List (Held S)) (writer writer' : W) (before after : Option (List ℕ)) (ending : Ending) : Type 0 where
     pub found : Result (List ℕ) Fault
-    pub looked : LooksInto g (λ w text. text ≡ log_text w excerpt) seen stores found
+    pub looked : LooksInto g (λ w text. text ≡ log_text form w excerpt) seen stores found
     pub shown : ShowsText found writer writer' before after ending
 
   -- The way of an item was printed; the stores were only read.
-  pub record ShowsWay {W : Type 0} (id : List ℕ) (seen : Seen S) (stores : List (Held S)) (writer writer' : W) (before after : Option (List ℕ)) (ending : Ending) : Type 0 where
+  pub record ShowsWay {W : Type 0} (form : Form) (id : List ℕ) (seen : Seen S) (stores : List (Held S)) (writer writer' : W) (before after : Option (List ℕ)) (ending : Ending) : Type 0 where
     pub found : Result (Option (List ℕ)) Fault
-    pub looked : LooksInto g (λ w text. text ≡ way_answer w id) seen stores found
+    pub looked : LooksInto g (λ w text. text ≡ way_answer form w id) seen stores found
     pub shown : Shows found NoSuchIdentity writer writer' before after ending
 
   -- The receipt of a request was printed; the world was only read.

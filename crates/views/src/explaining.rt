@@ -7,6 +7,7 @@ use sqlite::{Alter, Connection};
 use std::alloc::Global;
 use std::io::Write;
 use uuid::Uuid;
+use view_json::forms::Form;
 use view_world::ways::way_of;
 use world::world::World;
 
@@ -14,12 +15,13 @@ use world::world::World;
 pub fn explain_in<S: Alter + Drop, W: Write>(
     alloc: Global,
     world: World<S>,
+    form: Form,
     identity: Uuid,
     writer: &mut W,
 ) -> (Ending, Vec<Connection<S>>)
-    ensures { ShowsWay S.Store identity world result.1.items writer.old writer.new (W.contents writer.old) (W.contents writer.new) result.0 }
+    ensures { ShowsWay S.Store form identity world result.1.items writer.old writer.new (W.contents writer.old) (W.contents writer.new) result.0 }
 {
-    let (found, stores) = way_of(alloc, world, identity);
+    let (found, stores) = way_of(alloc, world, form, identity);
     let ending = show_found(writer, found, Ending::NoSuchIdentity);
     (ending, stores)
 }

@@ -6,6 +6,7 @@ use crate::showing::show;
 use sqlite::{Alter, Connection};
 use std::alloc::Global;
 use std::io::Write;
+use view_json::forms::Form;
 use view_text::ledgers::Excerpt;
 use view_world::ledgers::log_of;
 use world::world::World;
@@ -14,12 +15,13 @@ use world::world::World;
 pub fn log_in<S: Alter + Drop, W: Write>(
     alloc: Global,
     world: World<S>,
+    form: Form,
     excerpt: &Excerpt<'_>,
     writer: &mut W,
 ) -> (Ending, Vec<Connection<S>>)
-    ensures { ShowsLog S.Store excerpt.now world result.1.items writer.old writer.new (W.contents writer.old) (W.contents writer.new) result.0 }
+    ensures { ShowsLog S.Store form excerpt.now world result.1.items writer.old writer.new (W.contents writer.old) (W.contents writer.new) result.0 }
 {
-    let (text, stores) = log_of(alloc, world, excerpt);
+    let (text, stores) = log_of(alloc, world, form, excerpt);
     let ending = show(writer, text);
     (ending, stores)
 }

@@ -27,20 +27,21 @@ use std::io::Write;
 use store_folder::opening::close_stores;
 use store_folder::start::FolderStore;
 use uuid::Uuid;
+use view_json::forms::Form;
 use view_text::ledgers::Excerpt;
 use world::world::World;
 
 /// What is looked at, by its words as they were typed.
 #[derive(Clone, Copy)]
 pub enum Asked<'t> {
-    /// A line of headings, and a line for each live package, by UUID.
-    Status,
-    /// A line of headings, and a line for each receipt that is asked for, by number.
-    Log(LogWords<'t>),
+    /// A line for each live package, by UUID.
+    Status(Form),
+    /// A line for each receipt that is asked for, by number.
+    Log(Form, LogWords<'t>),
     /// What stands in the item of this name.
     Get(&'t str),
     /// A line for each receipt that names this identity, by number, and where the item stands now.
-    Explain(&'t str),
+    Explain(Form, &'t str),
     /// The kept receipt of this request, as the desk has it, on a line.
     Receipt(&'t str),
     /// The manifest of this package.
@@ -56,10 +57,10 @@ pub enum Asked<'t> {
 /// The same, the words read.
 #[derive(Clone, Copy)]
 pub enum Look<'t> {
-    Status,
-    Log(Excerpt<'t>),
+    Status(Form),
+    Log(Form, Excerpt<'t>),
     Get(&'t str),
-    Explain(Uuid),
+    Explain(Form, Uuid),
     Receipt(Uuid),
     Manifest(Uuid),
     Export(Uuid),
@@ -83,13 +84,13 @@ fn read_asked(asked: Asked<'_>) -> Result<Look<'_>, What>
     ensures { MatchResult result (Asks asked.entry) (IsUnread asked.entry) }
 {
     match asked {
-        Asked::Status => Ok(Look::Status),
-        Asked::Log(words) => match asked_excerpt(&words) {
-            Some(excerpt) => Ok(Look::Log(excerpt)),
+        Asked::Status(form) => Ok(Look::Status(form)),
+        Asked::Log(form, words) => match asked_excerpt(&words) {
+            Some(excerpt) => Ok(Look::Log(form, excerpt)),
             None => Err(What::BadNumber),
         },
         Asked::Get(identity) => Ok(Look::Get(identity)),
-        Asked::Explain(identity) => Ok(Look::Explain(uuid_of(identity)?)),
+        Asked::Explain(form, identity) => Ok(Look::Explain(form, uuid_of(identity)?)),
         Asked::Receipt(request) => Ok(Look::Receipt(uuid_of(request)?)),
         Asked::Manifest(package) => Ok(Look::Manifest(uuid_of(package)?)),
         Asked::Export(package) => Ok(Look::Export(uuid_of(package)?)),
@@ -113,13 +114,13 @@ pub fn look_in<S: Alter + Drop, W: Write>(
         writer.old writer.new (W.contents writer.old) (W.contents writer.new) look.now result.0 }
 {
     match look {
-        Look::Status => status_in(alloc, world, strays, writer),
-        Look::Log(excerpt) => log_in(alloc, world, excerpt, writer),
+        Look::Status(form) => status_in(alloc, world, *form, strays, writer),
+        Look::Log(form, excerpt) => log_in(alloc, world, *form, excerpt, writer),
         Look::Get(identity) => {
             let ending = get_in(alloc, &mut world, *identity, writer);
             (ending, world.into_stores())
         }
-        Look::Explain(identity) => explain_in(alloc, world, *identity, writer),
+        Look::Explain(form, identity) => explain_in(alloc, world, *form, *identity, writer),
         Look::Receipt(request) => {
             let ending = receipt_in(alloc, &mut world, *request, writer);
             (ending, world.into_stores())

@@ -3,7 +3,7 @@ use Rattle.std.proofs.Common.{◌≡◌, ◌∙◌, ap, map, refl, sym, subst}
 use Rattle.view_history.specs.Told.{ledger_of, moment_of}
 use Rattle.view_history.proofs.Asked.{asks_both, asks_cut, asks_lost}
 use Rattle.sheet_types.specs.World.{Package}
-use Rattle.view_text.specs.Packages.{status_of}
+use Rattle.view_json.specs.Forms.{told_status}
 use Rattle.world.specs.declared.reading.PackageSight.{PackageSight}
 use Rattle.view_world.specs.Kept.{AreAsked, AreKept}
 use Rattle.view_world.proofs.Rows.{asked_of}
@@ -37,5 +37,5 @@ returns g c =
     subst (λ xs. AreKept w xs c.deref-4.result.now) (sym c.deref-3.ensures.value) (subst (λ xs. AreKept w c.args.kept.now.sights.items xs) (sym c.deref-4.ensures.value) kept) in
     let asked_here : AreAsked w c.deref-5.result.now c.deref-6.result.now =
     subst (λ xs. AreAsked w xs c.deref-6.result.now) (sym c.deref-5.ensures.value) (subst (λ xs. AreAsked w c.in_ok-loans.loans.items xs) (sym c.deref-6.ensures.value) asked) in
-    c.in_ok-text.ensures ∙ ap status_of (c.deref-7.ensures.value ∙ c.in_ok-rows.ensures w kept_here asked_here))
+    c.in_ok-text.ensures ∙ ap (λ rows. told_status c.args.form rows c.args.strays) (c.deref-7.ensures.value ∙ c.in_ok-rows.ensures w kept_here asked_here))
     c.loans_of.ensures c.moments_of.ensures

@@ -5,7 +5,8 @@ use Rattle.std.specs.Bool.{then_some}
 use Rattle.std.specs.List.{list_any}
 use Rattle.view_history.specs.Told.{ledger_of}
 use Rattle.view_history.proofs.Asked.{asks_then, asks_lost}
-use Rattle.view_text.specs.Ways.{speaks_of, way_of}
+use Rattle.view_json.specs.Forms.{told_way}
+use Rattle.view_text.specs.Ways.{speaks_of}
 use Rattle.view_world.proofs.Answers.{text_or_none}
 use Rattle.view_world.proofs.ways.way_by.Goals as goal
 
@@ -18,5 +19,5 @@ returns-in_err-found g c = asks_lost g.S.Store _ c.from_residual-in_err-found.re
 pub returns : goal.returns
 returns g c =
     asks_then g.S.Store (λ packages ledger. ledger.items ≡ ledger_of packages) c.in_ok-ledger.was
-    (λ packages e. subst (λ l. option_map (λ t. string_bytes t) c.in_ok-found.found ≡ then_some (list_any (speaks_of c.args.identity) l) (way_of c.args.identity l)) (c.deref.ensures.value ∙ e)
-    (text_or_none (λ t. string_bytes t) c.in_ok-found.found (list_any (speaks_of c.args.identity) c.deref.result.now) (way_of c.args.identity c.deref.result.now) c.in_ok-found.ensures)) c.ledger_of.ensures
+    (λ packages e. subst (λ l. option_map (λ t. string_bytes t) c.in_ok-found.found ≡ then_some (list_any (speaks_of c.args.identity) l) (told_way c.args.form c.args.identity l)) (c.deref.ensures.value ∙ e)
+    (text_or_none (λ t. string_bytes t) c.in_ok-found.found (list_any (speaks_of c.args.identity) c.deref.result.now) (told_way c.args.form c.args.identity c.deref.result.now) c.in_ok-found.ensures)) c.ledger_of.ensures

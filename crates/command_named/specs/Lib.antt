@@ -1,0 +1,5 @@
+pub mod Items
+pub mod Looking
+pub mod Packages
+pub mod Telling
+pub mod Ways

@@ -1,0 +1,7 @@
+pub mod Boxes
+pub mod Dropping
+pub mod Folders
+pub mod Naming
+pub mod Ordering
+pub mod Putting
+pub mod Telling

@@ -1,0 +1,146 @@
+//! Words by which people call packages and items: the UUID that goes by a name stands in its place.
+use crate::running::{is_printed, text_of};
+use clap::ArgMatches;
+use command_folder::endings::{Ending, FAILED, NO_MEMORY};
+use command_names::hints::Whose;
+use command_verbs::faults::verb_line;
+use command_verbs::names::NameFault;
+use command_verbs::verbs::VerbFault;
+use sheet_types::reading::read_uuid;
+use std::fmt::Display;
+use std::fs;
+use std::io::ErrorKind;
+use uuid::Uuid;
+use view_names::lists::{ListFault, read_names};
+use view_report::registers::Name;
+
+/// The words of a command that name a package or items: as they were typed, or the UUIDs that go by these names.
+#[derive(Drop)]
+pub(crate) struct Named {
+    pub(crate) word: String,
+    pub(crate) other: String,
+}
+
+/// Says why there are no names, and answers how the program ends.
+fn unnamed<E: Display>(rt: &HostRuntime, path: &str, why: &E) -> Ending {
+    if !is_printed(rt, "refused: names\n") {
+        return FAILED;
+    }
+    let _printed = eprintln!(rt; "names: {path}: {why}");
+    Ending::NoRequest
+}
+
+/// The names in a file. One that nobody asked for need not be there.
+fn names_in(rt: &HostRuntime, path: &str, is_asked: bool) -> Result<Vec<Name>, Ending> {
+    match fs::read(rt, path) {
+        Ok(bytes) => match read_names(rt.alloc(), bytes.as_slice()) {
+            Ok(names) => Ok(names),
+            Err(ListFault::Memory) => Err(NO_MEMORY),
+            Err(fault) => Err(unnamed(rt, path, &fault)),
+        },
+        Err(error) => {
+            let is_absent = matches!(error.kind(), ErrorKind::NotFound | ErrorKind::NotADirectory);
+            if is_absent && !is_asked {
+                return Ok(Vec::new(rt.alloc()));
+            }
+            Err(unnamed(rt, path, &error))
+        }
+    }
+}
+
+/// The names for a command: of the file that is asked for, or of the folder's.
+pub(crate) fn names_for(rt: &HostRuntime, given: &ArgMatches<'_>) -> Result<Vec<Name>, Ending> {
+    if let Some(path) = given.get_str("names") {
+        return names_in(rt, path, true);
+    }
+    let folder = text_of(given, "folder");
+    match format!(in rt.alloc(); "{folder}/names.csv") {
+        Ok(path) => names_in(rt, path.as_str(), false),
+        Err(_) => Err(NO_MEMORY),
+    }
+}
+
+/// What goes by a name, if anything does; a fault where two do.
+fn find_called(names: &[Name], word: &str) -> Result<Option<Uuid>, NameFault> {
+    let mut found: Option<Uuid> = None;
+    for name in names {
+        if name.name.is_text(word) {
+            match found {
+                Some(uuid) if uuid != name.uuid => return Err(NameFault::Two(uuid, name.uuid)),
+                _ => found = Some(name.uuid),
+            }
+        }
+    }
+    Ok(found)
+}
+
+/// Says that two go by a name, and answers how the program ends.
+fn tell_two(rt: &HostRuntime, whose: Whose, two: NameFault) -> Ending {
+    let fault = match whose {
+        Whose::Package => VerbFault::Unnamed(two),
+        Whose::Item => VerbFault::Unfound(two),
+    };
+    match verb_line(rt.alloc(), &fault) {
+        Ok(line) if is_printed(rt, line.as_str()) => Ending::NoRequest,
+        Ok(_) => FAILED,
+        Err(_) => NO_MEMORY,
+    }
+}
+
+/// A word as it was typed, or the UUID that goes by this name. A whole UUID is no name.
+fn word_or_uuid(
+    rt: &HostRuntime,
+    given: &ArgMatches<'_>,
+    whose: Whose,
+    word: &str,
+) -> Result<String, Ending> {
+    let mut found = None;
+    if !word.is_empty() && read_uuid(word).is_none() {
+        let names = names_for(rt, given)?;
+        match find_called(names.as_slice(), word) {
+            Ok(called) => found = called,
+            Err(two) => return Err(tell_two(rt, whose, two)),
+        }
+    }
+    let text = match found {
+        Some(uuid) => format!(in rt.alloc(); "{uuid}"),
+        None => String::from_str(rt.alloc(), word),
+    };
+    match text {
+        Ok(text) => Ok(text),
+        Err(_) => Err(NO_MEMORY),
+    }
+}
+
+/// The word by which a command names a package or an item; of another command none. The first word of `lend` is an area
+/// where no second one stands behind it, nor a box.
+fn naming_word<'m>(name: &str, given: &ArgMatches<'m>) -> (Whose, &'m str) {
+    match name {
+        "put" | "manifest" | "export" | "log" | "changes" | "bring" | "report" => {
+            (Whose::Package, text_of(given, "package"))
+        }
+        "return" => (Whose::Package, text_of(given, "loan")),
+        "lend" if given.contains_id("second") || given.contains_id("box") => {
+            (Whose::Package, text_of(given, "first"))
+        }
+        "join" | "part" => (Whose::Item, text_of(given, "first")),
+        "drop" | "get" | "explain" => (Whose::Item, text_of(given, "identity")),
+        _ => (Whose::Package, ""),
+    }
+}
+
+/// The words of a command that name a package or items.
+pub(crate) fn named_words(
+    rt: &HostRuntime,
+    name: &str,
+    given: &ArgMatches<'_>,
+) -> Result<Named, Ending> {
+    let (whose, first) = naming_word(name, given);
+    let second = match name {
+        "join" | "part" => text_of(given, "second"),
+        _ => "",
+    };
+    let word = word_or_uuid(rt, given, whose, first)?;
+    let other = word_or_uuid(rt, given, whose, second)?;
+    Ok(Named { word, other })
+}

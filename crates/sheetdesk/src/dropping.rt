@@ -1,0 +1,34 @@
+//! An item is dropped: the identities of the requests are new, and their moment is that of the clock, unless it is given.
+use crate::clock::NewIdentities;
+use crate::naming::print_hint;
+use crate::ordering::moment_given;
+use crate::outputs::{verb_ended, verb_output};
+use crate::running::text_of;
+use clap::ArgMatches;
+use command_folder::endings::Ending;
+use command_naming::drops::Dropping;
+use command_ordering::dropping::drop_for;
+
+/// Drops the item of a folder's packages that a word names.
+pub(crate) fn dropped(rt: &HostRuntime, given: &ArgMatches<'_>, word: &str) -> Ending {
+    let at = match moment_given(rt, given) {
+        Ok(at) => at,
+        Err(ending) => return ending,
+    };
+    let dropping = Dropping {
+        word,
+        at: at.as_str(),
+        ends_links: given.get_flag("yes"),
+        is_shown: given.get_flag("dry-run"),
+    };
+    let mut output = verb_output(rt, given);
+    let (ending, hint) = drop_for(
+        rt,
+        text_of(given, "folder"),
+        &dropping,
+        &mut NewIdentities { rt },
+        &mut output,
+    );
+    print_hint(rt, hint);
+    verb_ended(rt, &output, ending)
+}

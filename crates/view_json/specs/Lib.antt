@@ -1,0 +1,5 @@
+pub mod Arrays
+pub mod Forms
+pub mod Ledgers
+pub mod Packages
+pub mod Ways
