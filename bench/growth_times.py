@@ -126,6 +126,7 @@ def main():
                 for work, things, took in CASES[name](place, count):
                     print(f"{work:14} {things:8} {took.clock:9.2f} {took.memory / 1024:7.0f}  {grown(before.get(work), took, things)}", flush=True)
                     before[work] = things, took.clock
+    print("no request was refused")
 
 
 if __name__ == "__main__":

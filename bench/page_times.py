@@ -8,7 +8,7 @@ With --links each row is linked to a tile as well, so that there are as many lin
 and came home, so that there are three receipts an item. With --names each tile has a name.
 
 In each round the two take turns. Times are by the clock, in seconds: the median of the rounds with the least and the greatest. The page
-may take a second longer than the audit; status 1 where it takes more than that.
+may take a second longer than the audit. The last line says whether it did; status 1 where it took more than that.
 """
 
 import argparse
@@ -104,6 +104,7 @@ def main():
     words.add_argument("counts", nargs="*", type=int, default=[10000, 100000])
     said = words.parse_args()
     kept = [measure(count, said) for count in said.counts or [10000, 100000]]
+    print("kept: each page took at most a second longer than the audit" if all(kept) else "NOT KEPT: a page took more than a second longer than the audit")
     sys.exit(not all(kept))
 
 

@@ -95,6 +95,8 @@ def refusals(desk):
 
 
 def main():
+    if "--help" in sys.argv:
+        sys.exit(print(__doc__))
     with open(f"{TOP}/samples/first.csv", "rb") as list_file:
         list_bytes = list_file.read()
     world = rehearse(ARCHIVE, FRAME, list_bytes).world

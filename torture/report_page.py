@@ -8,7 +8,7 @@ fault, and two hostile ones; and two drawings, the sample's and a hostile one. T
 up to the same time, and prints the same: the register's page, the loan's and the map with the names of samples/names.csv, as FILE and as
 the folder's own, and the page of the fault once a mark was altered behind its back; and the page of a register with more receipts than
 have rows, which is compared alone. They must be the second machine's to the byte. With --only-machine the program is left out. The program is the one that
-SHEETDESK names, or else the proved one.
+SHEETDESK names, or else the proved one. The last line says whether all held; status 1 where something did not.
 
 Of each page: tidy finds no error; every link leads to a place of the page; no request leaves it; what a browser makes of it has no
 script, image or frame; no page is wider than its window, at 1280, 768 and 390, light and dark; printed it is A4. The hostile pages have
@@ -42,6 +42,8 @@ WIDTHS = [1280, 768, 390]
 MACHINE = ["middle", "loan", "fault", "odd", "odd-loan", "many"]
 DRAWN = ["odd-map"]
 RECORDS = 58
+# What the sample's page may have, in bytes.
+GREATEST = 150_000
 
 
 def chromium(folder, page, *words):
@@ -196,6 +198,8 @@ def same_bytes(one, other):
 
 def main():
     words = sys.argv[1:]
+    if "--help" in words:
+        sys.exit(print(__doc__))
     pages = [os.path.abspath(word) for word in words if not word.startswith("--")]
     with tempfile.TemporaryDirectory() as folder:
         made, faults = machine_pages(folder), []
@@ -206,11 +210,14 @@ def main():
                 own = own_pages(folder)
                 faults += [f"the program's {name} is another" for name, page in own if not same_bytes(page, made[name])]
                 pages += [page for name, page in own if name != "many" and not os.path.splitext(page)[0].endswith("-2")]
+            size = os.path.getsize(os.path.join(SAMPLES, "report.html"))
+            faults += [f"the sample's page has {size} bytes"] if size > GREATEST else []
         print("".join(f"{fault}\n" for fault in faults), end="")
         faults += [fault for page in pages for fault in (look_at_drawing if page.endswith(".svg") else look_at)(folder, page)]
         if "--pictures" in words:
             for name, page, width, height, more in PICTURES:
                 chromium(folder, made[page], "--force-device-scale-factor=0.5", f"--window-size={width},{height}", f"--screenshot={os.path.join(SAMPLES, name)}", *more)
+    print(f"{len(faults)} faults" if faults else "no fault: each page and drawing is as it must be")
     sys.exit(bool(faults))
 
 
