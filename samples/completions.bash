@@ -4,13 +4,16 @@ _sheetdesk_verbs='init put lend return join part drop apply import status log ge
 # The options of a verb.
 _sheetdesk_options() {
     case $1 in
-        init|rehearse) echo --archive --at --frame ;;
-        lend) echo --box --zoom --follow --as --at --request --dry-run ;;
-        return|join|part) echo --at --request --dry-run ;;
-        put) echo --type --tms --as --at --request --dry-run ;;
-        drop) echo --yes --at --dry-run ;;
-        status|explain) echo --json ;;
-        log) echo --from --last --json ;;
+        init) echo --archive --at --frame --quiet ;;
+        rehearse) echo --archive --at --frame ;;
+        lend) echo --box --zoom --follow --as --at --request --dry-run --quiet ;;
+        return|join|part) echo --at --request --dry-run --quiet ;;
+        put) echo --type --tms --as --at --request --dry-run --quiet ;;
+        drop) echo --yes --at --dry-run --quiet ;;
+        tidy) echo --quiet ;;
+        status) echo --json --color ;;
+        explain) echo --json ;;
+        log) echo --from --last --json --color ;;
         export) echo --qgis ;;
         holds) echo --tiles --points --geometry --code --label ;;
         changes) echo --more --at --summary ;;

@@ -223,6 +223,9 @@ def verb_sessions(session):
     world = verbs.trees_and_boxes(session)
     session.run("status tree", status_of(world))
     session.run("audit tree", f"good {len(world.receipts)}\n")
+    session.show("")
+    session.show("# Verbs that print nothing where they end well, and bold headings.")
+    quiet_and_bold(session)
     return shown
 
 
@@ -260,6 +263,22 @@ def short_names(session, world):
     session.run("explain harbour ffff", "refused: no such identity\n", 1)
     # (no UUID begins so)
     session.run("export harbour ffff-", "refused: uuid\n", 1)
+
+
+def bold(table):
+    """A table whose heading is bold on a terminal (ECMA-48)."""
+    heading, rest = table.split("\n", 1)
+    return f"\x1b[1m{heading}\x1b[0m\n{rest}"
+
+
+def quiet_and_bold(session):
+    """Verbs that print nothing, and tables with a bold heading."""
+    world = verbs.quietly(session)
+    session.run("status hush --color", bold(status_of(world)))
+    session.run("log hush --color --last 2", bold(log_of(world, last=2)))
+    # (an array has no heading)
+    session.run("status hush --color --json", arrays.packages_of(world, reference.sight_of))
+    session.run("audit hush", f"good {len(world.receipts)}\n")
 
 
 def as_arrays(session, world):

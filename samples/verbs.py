@@ -61,8 +61,8 @@ def names_text(names):
 class Verbs:
     """Verbs over a folder, and the world that they lead to."""
 
-    def __init__(self, session, folder, is_shown, names=None):
-        self.session, self.folder = session, folder
+    def __init__(self, session, folder, is_shown, names=None, quiet=""):
+        self.session, self.folder, self.quiet = session, folder, quiet
         self.unshown = {*FIELDS, ("merge", None)} if is_shown else set()
         self.world = World(nordmark.ARCHIVE, Frame.read(nordmark.FRAME))
         self.number = 0
@@ -71,7 +71,11 @@ class Verbs:
         else:
             session.name(f"{folder}/names.csv", names_text(names))
         words = f"init {folder} --archive {nordmark.ARCHIVE} --at {nordmark.CREATED} --frame {nordmark.FRAME}"
-        session.run(words, f"archive {nordmark.ARCHIVE}\n")
+        self.say(words, f"archive {nordmark.ARCHIVE}\n")
+
+    def say(self, words, text, status=0):
+        """Types a verb. Where it is to be quiet, it prints nothing if it ends well."""
+        self.session.run(words + self.quiet, text if status or not self.quiet else "", status)
 
     def given(self, made):
         """The moment, the request and what it makes, and the options that give them."""
@@ -92,9 +96,9 @@ class Verbs:
             self.unshown.remove(kind)
             self.session.run(words + " --dry-run", request_text(request))
         if isinstance(reply, Receipt):
-            self.session.run(words, deed_of(request) + counts_of(reply))
+            self.say(words, deed_of(request) + counts_of(reply))
         else:
-            self.session.run(words, reference.reply_text(reply) + "\n", 1)
+            self.say(words, reference.reply_text(reply) + "\n", 1)
         return words, request, reply
 
     def refused(self, verb, rest, why):
@@ -136,14 +140,14 @@ class Verbs:
         words = f"drop {self.folder} {word}{option} --at {given['at']}"
         if links and not option:
             told = "".join(f"linked {base} {other}\n" for _, base, other in links)
-            return self.session.run(words, told + "refused: linked\n", 1)
+            return self.say(words, told + "refused: linked\n", 1)
         ends = [{"command": "unlink", "kind": mapping, "identity": base, "other": other} for mapping, base, other in links]
         text = ""
         for number, request in enumerate([*ends, {"command": "delete", "identity": identity}]):
             # (the program makes the UUIDs of these requests itself, and prints none)
             request = {**given, "request": nordmark.name_uuid("drop", f"{words} {number}"), "package": package, **request}
             text += deed_of(request) + counts_of(apply(self.world, request))
-        return self.session.run(words, text)
+        return self.say(words, text)
 
     def delete(self, identity):
         """An item is deleted by a request as JSON, whose UUID is given."""
@@ -174,7 +178,7 @@ class Verbs:
                 told = reference.reply_text(reply) + "\n"
                 break
             added += 1
-        self.session.run(words, f"added {added}, passed over {passed}\n" + told, 1 if told else 0)
+        self.say(words, f"added {added}, passed over {passed}\n" + told, 1 if told else 0)
 
     def lend_box(self, box, zoom, loan, giver="", **more):
         """What a box meets is lent: each sheet of which more than an edge lies in it."""
@@ -341,4 +345,26 @@ def trees_and_boxes(session):
     verbs.session.run(f"lend tree {nordmark.ARCHIVE} 5/0/0 --box 500000,5951200,510240,5961440 --zoom 5", "", 2)
     verbs.session.run("lend tree --box 500000,5951200,510240,5961440", "", 2)
     verbs.session.run("lend tree", "", 2)
+    return verbs.world
+
+
+def quietly(session):
+    """Verbs that print nothing where they end well, and as ever where they do not."""
+    verbs = Verbs(session, "hush", False, quiet=" -q")
+    archive, crew = nordmark.ARCHIVE, nordmark.HARBOUR
+    book, town = nordmark.medium("level-book"), nordmark.sheet(*TOWN)
+    verbs.tree("samples/tree", [(4, 0, 0), (5, 0, 0), (5, 1, 0), (5, 3, 5), (6, 0, 0), (6, 0, 4)])
+    verbs.tree("samples/beside", [(4, 1, 0), (6, 8, 0), (6, 9, 0)])
+    verbs.medium(archive, "samples/levels.txt", "level-book", b"levels along the sound\n", "text/plain")
+    verbs.quiet = " --quiet"
+    verbs.lend("6/0/4", crew, (6, 0, 0, 4, 4))
+    verbs.lend("6/0/4", nordmark.BOAT, (6, 0, 0, 4, 4))
+    verbs.refused("return", "ffff -q", "no such package")
+    verbs.bring_home(crew, archive)
+    verbs.drop(book, book)
+    session.run("tidy hush --quiet", "")
+    # (a request that is only shown is shown)
+    given, options = verbs.given(town)
+    members = {"command": "add", "package": archive, "identity": town, "kind": "media", "text": "text/plain", "data": b"levels along the sound\n"}
+    session.run(f"put hush {archive} media samples/levels.txt{options} --dry-run -q", request_text({**given, **members}))
     return verbs.world

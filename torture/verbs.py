@@ -20,7 +20,7 @@ sys.dont_write_bytecode = True
 
 from program import program
 
-FRAME = "25832,0,0,4096,4096,256,256,0,3,1,1"
+FRAME = "25832,0,0,4096,4096,256,256,0,4,1,1"
 UUID = "[0-9a-f]{8}-[0-9a-f]{4}-[0-9a-f]{4}-[0-9a-f]{4}-[0-9a-f]{12}"
 PROGRAM = program()
 COUNT = 0
@@ -178,7 +178,7 @@ def drops(archive, tile):
 with tempfile.TemporaryDirectory() as room:
     os.chdir(room)
     os.mkdir("maps")
-    (home,) = run(f"init maps --frame {FRAME}", 0, f"archive ({UUID})\n")
+    (home,) = run(f"init maps --frame {FRAME}", 0, f"archive ({UUID})\n", "made at .*\n")
     trees(home)
     crew = boxes(home)
     sheet = whole_names(home, crew)

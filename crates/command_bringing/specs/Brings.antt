@@ -6,7 +6,7 @@ use Rattle.sheet_types.specs.declared.command.Request.{Request}
 use Rattle.package_tables.specs.declared.fault.Fault.{Fault}
 use Rattle.world_members.specs.Members.{AllClean}
 use Rattle.world.specs.Worlds.{Seen, StandsFor}
-use Rattle.manifest_csv.specs.Imports.{Imports, IsListOf}
+use Rattle.manifest_csv.specs.Imports.{Imports, IsCarried, IsListOf}
 use Rattle.manifest_csv.specs.declared.importing.ImportFault.{ImportFault}
 use Rattle.request_writing.specs.RequestTexts.{list_text}
 use Rattle.command_requests.specs.Listing.{IsUntouched}
@@ -37,10 +37,10 @@ module _ {W : Type 0} (writer writer' : W) (before after : Option (List ℕ)) wh
 
 module _ {S : Type 0} (g : Ghosts S) where
   module _ {W : Type 0} (writer writer' : W) (before after : Option (List ℕ)) where
-    -- Requests are carried out: as an import does it of each text whose list they are.
+    -- Requests are carried out, as an import does it; so it is one of each text whose list they are.
     abbrev pub IsBroughtHome : List Request → Seen S → Seen S → ℕ → ℕ → Ending → Type 0
     IsBroughtHome requests old new failed fails ending =
-        (r : Result (Unit {0}) ImportFault) × (ending ≡ import_ending r)
+        (r : Result (Unit {0}) ImportFault) × (ending ≡ import_ending r) × IsCarried g requests old new failed fails before after r
         × IsListOf requests (λ text. Imports g text old new failed fails writer writer' before after r)
 
     -- They are shown as a list or in short, and the world stays; or they are carried out.

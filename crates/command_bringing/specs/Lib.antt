@@ -1,3 +1,4 @@
 pub mod Telling
 pub mod Brings
 pub mod Opens
+pub mod Homecoming

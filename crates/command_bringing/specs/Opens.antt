@@ -14,6 +14,7 @@ use Rattle.command_folder.specs.declared.endings.Ending.TheVariants.{Unopened, U
 use Rattle.command_folder.specs.declared.endings.OpenFault.{OpenFault}
 use Rattle.command_field.specs.declared.asking.Ask.{Ask}
 use Rattle.command_bringing.specs.Brings.{Brings}
+use Rattle.command_bringing.specs.Homecoming.{ComesHome}
 use Rattle.command_bringing.specs.declared.bringing.Purpose.{Purpose}
 use Rattle.command_bringing.specs.declared.folders.BringWords.{BringWords}
 
@@ -31,11 +32,12 @@ IsUnread words what =
     ⊎ ((what ≡ BadMoment) × (is_moment words.at.now ≡ false))
 
 module _ {S : Type 0} (g : Ghosts S) {W : Type 0} (writer writer' : W) (before after : Option (List ℕ)) where
-  -- of a world that ended with it, and of which these stores are left
+  -- of a world that ended with it, and of which these stores are left; what was carried out is held
   abbrev pub EndsBring : Ask → Option (List ℕ) → Purpose → Seen S → List (Held S) → Ending → Type 0
   EndsBring a text purpose old stores ending =
       (new : Seen S) × (failed fails : ℕ) × (stores ≡ held g new)
       × Brings g writer writer' before after a text purpose old new failed fails ending
+      × ComesHome g a text purpose old new ending
 
   -- The folder was not opened, and nothing was written; or its world was, and this was made of it.
   abbrev pub OpensBring : Ask → Option (List ℕ) → Purpose → Ending → Type 0

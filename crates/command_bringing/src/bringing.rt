@@ -4,6 +4,7 @@ ghost use Rattle.command_folder.specs.Endings.{done};
 ghost use Rattle.command_folder.specs.Printing.{Prints};
 ghost use Rattle.request_writing.specs.RequestTexts.{list_text};
 ghost use Rattle.command_bringing.specs.Brings.{Brings, EndsAnswer, IsBroughtHome, PrintsText, Serves};
+ghost use Rattle.command_bringing.specs.Homecoming.{ComesHome};
 ghost use Rattle.command_bringing.specs.Telling.{refusal_text, summary_text};
 ghost use Rattle.command_folder.specs.declared.endings.Ending.TheVariants.{NoRequest};
 
@@ -157,8 +158,9 @@ pub fn bring_in<S: Alter + Drop, H: Shelf<S>, R: Read + Drop, W: Write, T: Telle
     writer: &mut W,
     teller: &mut T,
 ) -> (Ending, &'static str)
-    ensures { Brings S.Store writer.old writer.new (W.contents writer.old) (W.contents writer.new)
+    ensures brings { Brings S.Store writer.old writer.new (W.contents writer.old) (W.contents writer.new)
         ask.now (R.remaining reader) purpose world.old world.new (H.failures_of shelf.old) (H.failures_of shelf.new) result.0 }
+    ensures home { ComesHome S.Store ask.now (R.remaining reader) purpose world.old world.new result.0 }
 {
     match answer_of(alloc, world, ask, reader) {
         Ok(answer) => {

@@ -23,6 +23,8 @@ pub(crate) enum Word {
     ValueInstead(&'static str, &'static str, &'static str, &'static str, &'static str),
     /// `--` and its name, with no value.
     Flag(&'static str, &'static str),
+    /// The same, or `-` and this letter.
+    ShortFlag(&'static str, char, &'static str),
     /// The same, where a word of this name is given too.
     FlagBeside(&'static str, &'static str, &'static str),
 }
@@ -117,6 +119,7 @@ fn arg_of<'a>(alloc: Global, word: Word) -> Result<Arg<'a>, AllocError> {
             instead(option(alloc, id, value, help, false), name, other)
         }
         Word::Flag(id, help) => Ok(flag(alloc, id, help)),
+        Word::ShortFlag(id, letter, help) => Ok(flag(alloc, id, help).short(letter)),
         Word::FlagBeside(id, help, name) => flag(alloc, id, help).requires_arg(name),
     }
 }

@@ -1,7 +1,8 @@
 //! Which words each command of the program has, in the order in which the help lists them.
 use crate::building::Entry::{Many, One};
 use crate::building::Word::{
-    Flag, FlagBeside, Last, LastOr, Needed, Place, PlaceUnless, Value, ValueBeside, ValueInstead,
+    Flag, FlagBeside, Last, LastOr, Needed, Place, PlaceUnless, ShortFlag, Value, ValueBeside,
+    ValueInstead,
 };
 use crate::building::{Entry, Verb, Word};
 use crate::help::{
@@ -42,6 +43,15 @@ const REQUEST: Word = Value("request", "UUID", "Identity of the request; else a 
 /// Whether a verb only shows its request.
 const DRY_RUN: Word = Flag("dry-run", "Print the request as JSON, and change nothing");
 
+/// Whether a verb prints what it did.
+const QUIET: Word = ShortFlag("quiet", 'q', "Print nothing where it ends well");
+
+/// Whether a heading is bold on whatever it is printed.
+const COLOR: Word = Flag(
+    "color",
+    "Make the heading bold; else it is so on a terminal, unless NO_COLOR is set",
+);
+
 /// Whether what is looked at is told to other programs.
 const JSON: Word = Flag("json", "The same as one JSON array, an object a line");
 
@@ -80,6 +90,7 @@ pub(crate) const TILE_KINDS: &[Verb] = &[
             AT,
             REQUEST,
             DRY_RUN,
+            QUIET,
             AS,
             Place(
                 "place",
@@ -99,6 +110,7 @@ pub(crate) const TILE_KINDS: &[Verb] = &[
         after: SEVERAL_WORDS,
         words: &[
             SEVERAL_AT,
+            QUIET,
             Flag("tms", "The rows of the files run upwards, as in a TMS"),
             Place(
                 "directory",
@@ -119,6 +131,7 @@ pub(crate) const OTHER_KINDS: &[Verb] = &[
             AT,
             REQUEST,
             DRY_RUN,
+            QUIET,
             AS,
             Place(
                 "file",
@@ -140,6 +153,7 @@ pub(crate) const OTHER_KINDS: &[Verb] = &[
             AT,
             REQUEST,
             DRY_RUN,
+            QUIET,
             AS,
             Place(
                 "point",
@@ -166,6 +180,7 @@ pub(crate) const MAKING: &[Entry] = &[One(Verb {
     about: "Makes a new archive in a folder that holds no packages",
     after: FOLDER_WORDS,
     words: &[
+        QUIET,
         FOLDER,
         Value(
             "archive",
@@ -191,6 +206,7 @@ pub(crate) const LENDING: &[Entry] = &[
             AT,
             REQUEST,
             DRY_RUN,
+            QUIET,
             AS,
             FOLDER,
             PlaceUnless(
@@ -228,6 +244,7 @@ pub(crate) const LENDING: &[Entry] = &[
             AT,
             REQUEST,
             DRY_RUN,
+            QUIET,
             FOLDER,
             Place("loan", "LOAN", "The loan, as c3f1"),
         ],
@@ -244,6 +261,7 @@ pub(crate) const LINKING: &[Entry] = &[
             AT,
             REQUEST,
             DRY_RUN,
+            QUIET,
             FOLDER,
             Place("first", "IDENTITY", "One item, as 6523"),
             Place("second", "IDENTITY", "The other, as 07c2"),
@@ -257,6 +275,7 @@ pub(crate) const LINKING: &[Entry] = &[
             AT,
             REQUEST,
             DRY_RUN,
+            QUIET,
             FOLDER,
             Place("first", "IDENTITY", "One item, as 6523"),
             Place("second", "IDENTITY", "The other, as 07c2"),
@@ -276,6 +295,7 @@ pub(crate) const LINKING: &[Entry] = &[
                 "dry-run",
                 "Print the requests as JSON, a line each, and change nothing",
             ),
+            QUIET,
             FOLDER,
             Place("identity", "IDENTITY", "The item, as 6523"),
         ],
@@ -303,7 +323,7 @@ pub(crate) const LOOKS: &[Entry] = &[
         name: "status",
         about: "Prints a table of the packages that live",
         after: FOLDER_WORDS,
-        words: &[FOLDER, JSON],
+        words: &[FOLDER, JSON, COLOR],
     }),
     One(Verb {
         name: "log",
@@ -319,6 +339,7 @@ pub(crate) const LOOKS: &[Entry] = &[
             Value("from", "SEQ", "From this number on"),
             Value("last", "N", "The last N of them"),
             JSON,
+            COLOR,
         ],
     }),
     One(Verb {
@@ -530,7 +551,7 @@ pub(crate) const KEEPING: &[Entry] = &[
         name: "tidy",
         about: "Removes files that the register can do without",
         after: FOLDER_WORDS,
-        words: &[FOLDER],
+        words: &[QUIET, FOLDER],
     }),
     One(Verb {
         name: "rehearse",

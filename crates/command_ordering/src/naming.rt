@@ -1,4 +1,5 @@
 //! The package of a folder that a word names by its first digits.
+ghost use Rattle.std.specs.Prelude.{Ok};
 ghost use Rattle.command_ordering.specs.Naming.{NamesFor, NamesPackage, TellsName};
 
 use crate::telling::{stopped, tell_fault};
@@ -20,7 +21,31 @@ use store_folder::start::FolderStore;
 use uuid::Uuid;
 use world::world::World;
 
-/// The package that was found for a word; or how the program ends without one. Of two both are told.
+/// The package that is found; or how the program ends without one. Of two both are told.
+fn tell_found<'t, W: Write>(
+    alloc: Global,
+    word: &'t str,
+    found: Found,
+    writer: &mut W,
+) -> (Result<Uuid, Ending>, Option<Hint<'t>>)
+    ensures { TellsName writer.old writer.new (W.contents writer.old) (W.contents writer.new)
+        word.entry (Ok found) result.0 result.1 }
+{
+    match found {
+        Found::One(id) => (Ok(id), None),
+        Found::Two(first, second) => {
+            let fault = VerbFault::Unnamed(NameFault::Two(first, second));
+            let ending = tell_fault(alloc, &fault, writer);
+            (Err(ending), None)
+        }
+        Found::Nearest(_) => {
+            let hint = hint_of(Whose::Package, word, found);
+            (Err(Ending::NoSuchPackage), hint)
+        }
+    }
+}
+
+/// The package that was found for a word; or how the program ends without one.
 fn tell_name<'t, W: Write>(
     alloc: Global,
     word: &'t str,
@@ -31,15 +56,7 @@ fn tell_name<'t, W: Write>(
         word.entry search.now result.0 result.1 }
 {
     match search {
-        Ok(Found::One(id)) => (Ok(*id), None),
-        Ok(Found::Two(first, second)) => {
-            let fault = VerbFault::Unnamed(NameFault::Two(*first, *second));
-            (Err(tell_fault(alloc, &fault, writer)), None)
-        }
-        Ok(Found::Nearest(nearest)) => {
-            let hint = hint_of(Whose::Package, word, Found::Nearest(*nearest));
-            (Err(Ending::NoSuchPackage), hint)
-        }
+        Ok(found) => tell_found(alloc, word, *found, writer),
         Err(fault) => (Err(stopped(*fault)), None),
     }
 }

@@ -1,10 +1,9 @@
 -- One request, and what a crash leaves after it.
-use Rattle.std.specs.Prelude.{◌≡◌, ◌⊎◌, ◌↔◌, Bool, true, false, List, [], ◌++◌, map, refl, Result, Ok, Err, IsTrue, IsErr}
-use Rattle.std.proofs.Common.{sym, ap, subst, ◌∙◌, inl, inr}
+use Rattle.std.specs.Prelude.{◌≡◌, ℕ, ◌↔◌, Bool, true, false, List, [], ◌++◌, map, refl, Ok, Err, IsTrue}
+use Rattle.std.proofs.Common.{sym, subst, ◌∙◌, inl, inr}
 use Rattle.std.proofs.lemmas.List.{append-nil}
 use Rattle.std.proofs.lemmas.List.Sorted.{IsPermutation-refl}
 use Rattle.std.specs.List.Sorted.{IsPermutation}
-use Rattle.sqlite.specs.Held.{Held}
 use Rattle.sqlite.specs.Store.{Ghosts}
 use Rattle.sqlite.specs.Tree.{Trees}
 use Rattle.sheet_types.specs.Step.{Step, IsFault, outcome, carried_out, receipt_of}
@@ -14,7 +13,6 @@ use Rattle.sheet_laws.proofs.Accepting.{keeps}
 use Rattle.sheet_types.specs.World.{World}
 use Rattle.sheet_types.specs.declared.command.Request.{Request}
 use Rattle.sheet_types.specs.declared.receipt.Receipt.{Receipt}
-use Rattle.sheet_types.specs.declared.refusal.Refusal.{Refusal}
 use Rattle.sheet_kept_laws.specs.Laws.{Reply}
 use Rattle.store_sql.specs.Stores.{EachLeaves}
 use Rattle.store_sql.proofs.StoreLemmas.{same_world}
@@ -23,11 +21,14 @@ use Rattle.world_changes.proofs.HeldStores.{held_clean, members_left}
 use Rattle.world_members.specs.Members.{AllClean, AllOpen}
 use Rattle.world_members.specs.Turning.{LeftAs}
 use Rattle.world_members.specs.declared.members.Member.{Member}
+use Rattle.world.specs.Asked.{IsStepWith}
 use Rattle.world.specs.Worlds.{Seen, StandsFor, IsHeld, IsStep, LeavesNoTrace, LeftAsItStands, held}
 use Rattle.promises.specs.Calls.{AreOf, AreLeft, Asks}
+use Rattle.promises.proofs.Given.{given_by_step}
 
 -- a step that gave a receipt came to what the request makes
-receipt_makes : (w : World) (q : Request) (receipt : Receipt) (next : World) → Step w q (Ok receipt) next → next ≡ (outcome w q).1
+receipt_makes : (w : World) (q : Request) (receipt : Receipt) (next : World) → Step w q (Ok receipt) next
+    → next ≡ (outcome w q).1
 receipt_makes w q receipt next step =
     elim step [
       | inl done ↦ done.1
@@ -49,22 +50,31 @@ same_frame w q = keeps (λ v. v.frame ≡ w.frame) w q refl (λ _ _. frame_carri
 not_a_fault : (receipt : Receipt) → ¬ IsFault (Ok receipt)
 not_a_fault receipt fault = elim fault [ inl memory ↦ (let e = memory in cc) | inr store ↦ (let e = store in cc) ]
 
-module _ {S : Type 0} (g : Ghosts S) (law : LeftAsItStands g) (q : Request) (old new : Seen S) (is_held : IsHeld g new) where
+module _ {S : Type 0} (g : Ghosts S) (law : LeftAsItStands g) (q : Request) (old new : Seen S)
+    (is_held : IsHeld g new) where
   -- a world that can be used leaves the packages of the world that its members leave
-  whole : (w : World) → EachLeaves g (λ m. m.conn) (LeftAs w.frame) new.members w.packages → new.has_failed ≡ false → (contents : List Trees) → MayBeLeft g (held g new) contents → AreOf w contents
+  whole : (w : World) → EachLeaves g (λ m. m.conn) (LeftAs w.frame) new.members w.packages → new.has_failed ≡ false
+      → (contents : List Trees) → MayBeLeft g (held g new) contents → AreOf w contents
   whole w each usable contents may =
-      let bare : MayBeLeft g (map (λ (m : Member S). m.conn) new.members) contents = subst (λ ss. MayBeLeft g (ss ++ map (λ (m : Member S). m.conn) new.members) contents) (is_held.none usable) may in
+      let bare : MayBeLeft g (map (λ (m : Member S). m.conn) new.members) contents =
+      subst (λ ss. MayBeLeft g (ss ++ map (λ (m : Member S). m.conn) new.members) contents)
+      (is_held.none usable) may in
       record {
         read = contents;
         rest = [];
         all = subst (IsPermutation contents) (sym (append-nil contents)) (IsPermutation-refl contents);
-        each = same_world g (λ (m : Member S). m.conn) (LeftAs w.frame) new.members w.packages contents each (members_left g new.members contents bare);
+        each = same_world g (λ (m : Member S). m.conn) (LeftAs w.frame) new.members w.packages contents each
+            (members_left g new.members contents bare);
         beside = tt;
       }
 
-  left_by : (reply : Reply) (failed : Bool) → new.has_failed ≡ failed → LeavesNoTrace g old reply new → (¬ IsFault reply → new.has_failed ≡ old.has_failed) → (is_fault : Bool) → IsTrue is_fault ↔ IsFault reply
-      → (step : IsStep g q old reply new) → AreClean g (held g new) → AreClean g step.gone → (w : World) → StandsFor g old w → AllOpen g old.members → old.has_failed ≡ false → (contents : List Trees) → MayBeLeft g (held g new) contents → AreLeft w q reply failed contents
-  left_by (Ok receipt) failed is no_trace usable is_fault faults step clean gone w stands opened was_usable contents may =
+  left_by : (reply : Reply) (failed : Bool) → new.has_failed ≡ failed → LeavesNoTrace g old reply new
+      → (¬ IsFault reply → new.has_failed ≡ old.has_failed) → (is_fault : Bool) → IsTrue is_fault ↔ IsFault reply
+      → (step : IsStep g q old reply new) → AreClean g (held g new) → AreClean g step.gone → (w : World)
+      → StandsFor g old w → AllOpen g old.members → old.has_failed ≡ false → (contents : List Trees)
+      → MayBeLeft g (held g new) contents → AreLeft w q reply failed contents
+  left_by (Ok receipt) failed is no_trace usable is_fault faults step clean gone w stands opened was_usable contents
+      may =
       let disks : AllClean g new.members = held_clean g new.strays new.members clean in
       let next = step.step disks gone w stands in
       let made : next.0 ≡ (outcome w q).1 = receipt_makes w q receipt next.0 next.1 in
@@ -82,12 +92,24 @@ module _ {S : Type 0} (g : Ghosts S) (law : LeftAsItStands g) (q : Request) (old
     where
       by_test : (b : Bool) → is_fault ≡ b → IsFault (Err why)
       by_test true e = faults.0 e
-      by_test false e = absurd (let both : true ≡ false = sym is ∙ usable (λ fault. (let yes = faults.1 fault in let both : true ≡ false = sym yes ∙ e in cc)) ∙ was_usable in cc)
+      by_test false e = absurd (let both : true ≡ false = sym is
+          ∙ usable (λ fault. (let yes = faults.1 fault in let both : true ≡ false = sym yes ∙ e in cc))
+          ∙ was_usable in cc)
 
-  pub asks : (reply : Reply) → IsStep g q old reply new → LeavesNoTrace g old reply new → (¬ IsFault reply → new.has_failed ≡ old.has_failed) → (is_fault : Bool) → IsTrue is_fault ↔ IsFault reply → Asks g q old new reply
-  asks reply step no_trace usable is_fault faults = record {
-    gone = step.gone;
-    clean = step.clean;
-    step = step.step;
-    left = λ clean gone w stands opened was_usable contents may. left_by reply new.has_failed refl no_trace usable is_fault faults step clean gone w stands opened was_usable contents may;
-  }
+module _ {S : Type 0} (g : Ghosts S) (law : LeftAsItStands g) {H : Type 0} (Asked : List ℕ → H → H → Type 0)
+    (Taken : List ℕ → S → H → H → Type 0) (q : Request) (old new : Seen S) (before after : H)
+    (is_held : IsHeld g new) where
+  pub asks : (reply : Reply) → IsStepWith g Asked Taken q old reply new before after → LeavesNoTrace g old reply new
+      → (¬ IsFault reply → new.has_failed ≡ old.has_failed) → (is_fault : Bool) → IsTrue is_fault ↔ IsFault reply
+      → Asks g Asked Taken q old new before after reply
+  asks reply it no_trace usable is_fault faults =
+      let shelf = given_by_step g Asked Taken q old reply new before after it in
+      record {
+        stores = shelf.0;
+        given = shelf.1;
+        clean = λ clean disks. it.step.clean clean (shelf.2 disks);
+        step = λ clean disks. it.step.step clean (shelf.2 disks);
+        left = λ clean disks w stands opened was_usable contents may.
+            left_by g law q old new is_held reply new.has_failed refl no_trace usable is_fault faults it.step clean
+            (shelf.2 disks) w stands opened was_usable contents may;
+      }

@@ -14,8 +14,11 @@ module _ {S : Type 0} (g : Ghosts S) where
   Cleanly h = HasCleanDisk (state g h)
 
   pub both_clean : (xs ys : List (Held S)) → AreClean g xs → AreClean g ys → AreClean g (xs ++ ys)
-  both_clean xs ys one two = All-from_recursion Cleanly (xs ++ ys) (All-append Cleanly xs ys (recursion_from_All Cleanly xs one) (recursion_from_All Cleanly ys two))
+  both_clean xs ys one two = All-from_recursion Cleanly (xs ++ ys)
+      (All-append Cleanly xs ys (recursion_from_All Cleanly xs one) (recursion_from_All Cleanly ys two))
 
   pub stores_clean : (members : List (Member S)) → AllClean g members → AreClean g (map (λ m. m.conn) members)
   stores_clean members clean =
-      All-from_recursion Cleanly (map (λ (m : Member S). m.conn) members) (All-map Cleanly (λ (m : Member S). m.conn) members (recursion_from_All (λ (m : Member S). Cleanly m.conn) members clean))
+      All-from_recursion Cleanly (map (λ (m : Member S). m.conn) members)
+      (All-map Cleanly (λ (m : Member S). m.conn) members (recursion_from_All (λ (m : Member S). Cleanly m.conn)
+      members clean))

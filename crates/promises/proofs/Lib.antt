@@ -1,4 +1,5 @@
 pub mod Disks
+pub mod Given
 pub mod Begun
 pub mod Shown
 pub mod Twice

@@ -1,7 +1,6 @@
 -- What the calls of which a promise is made come to, each by itself. Profile.
-use Rattle.std.specs.Prelude.{◌≡◌, ◌⊎◌, ℕ, true, false, Bool, List, map, option_map, Result, Ok, Err}
+use Rattle.std.specs.Prelude.{◌≡◌, ◌⊎◌, ℕ, true, false, Bool, List, [], ◌∷◌, ◌++◌, map, option_map, Ok, Err}
 use Rattle.std.specs.List.{AllByRecursion}
-use Rattle.sqlite.specs.Held.{Held}
 use Rattle.sqlite.specs.Store.{Ghosts}
 use Rattle.sqlite.specs.Tree.{Trees}
 use Rattle.sheet_types.specs.Answers.{package_sights, sums_of, holdings_answer}
@@ -16,7 +15,7 @@ use Rattle.world_changes.specs.Leaving.{AreClean, MayBeLeft, StandsAmong}
 use Rattle.world_members.specs.Members.{AllClean, AllOpen}
 use Rattle.world.specs.Reading.{sight_of}
 use Rattle.world.specs.Worlds.{Seen, StandsFor, RunsOverRegisters, held}
-use Rattle.promises.specs.Clean.{WhereClean}
+use Rattle.promises.specs.Clean.{IsGivenBy, IsGivenByEach, IsGivenFromNew, HaveCleanDisks, WhereClean}
 use Rattle.promises.specs.declared.running.Begun.{Begun}
 use Rattle.promises.specs.declared.running.Told.{Told}
 use Rattle.promises.specs.declared.repeating.Replies.{Replies}
@@ -63,10 +62,6 @@ module _ {S : Type 0} (g : Ghosts S) where
     pub opens : AreAnswers replies → AllOpen g seen.members
     pub usable : AreAnswers replies → seen.has_failed ≡ false
 
-  abbrev pub IsBegun : List ℕ → Frame → List Request → Begun S → Type 0
-  IsBegun archive frame requests begun =
-      WhereClean g begun.world (StandsAfter archive frame requests begun.replies.items begun.world)
-
   -- the world was only read, and what is told is the model's answer
   pub record Looks (p : List ℕ) (old new : Seen S) (told : Told) : Type 0 where
     pub strays : new.strays ≡ old.strays
@@ -84,17 +79,27 @@ module _ {S : Type 0} (g : Ghosts S) where
     pub again : Step last q replies.again next
     pub stands : StandsFor g new next
 
-  -- From any world that it stood for.
-  abbrev pub Repeats : Request → List Request → Seen S → Seen S → Replies → Type 0
-  Repeats q others old new replies = (gone : List (Held S)) × (AllClean g new.members → AreClean g gone →
-      AllClean g old.members × ((w : World) → StandsFor g old w → RunsTwice w q others replies new))
+  -- With a shelf between these states.
+  module _ {H : Type 0} (Asked : List ℕ → H → H → Type 0) (Taken : List ℕ → S → H → H → Type 0) where
+    abbrev pub IsBegun : List ℕ → Frame → List Request → H → H → Begun S → Type 0
+    IsBegun archive frame requests before after begun =
+        WhereClean g (IsGivenFromNew Asked Taken archive requests before after) begun.world
+        (StandsAfter archive frame requests begun.replies.items begun.world)
 
-  -- One request: a step of the machine, and what a crash leaves of stores that were open, of a world that could be used.
-  pub record Asks (q : Request) (old new : Seen S) (reply : Reply) : Type 0 where
-    pub gone : List (Held S)
-    pub clean : AllClean g new.members → AreClean g gone → AllClean g old.members
-    pub step : AllClean g new.members → AreClean g gone → (w : World) → StandsFor g old w →
-        (next : World) × Step w q reply next × StandsFor g new next
-    pub left : AreClean g (held g new) → AreClean g gone → (w : World) → StandsFor g old w → AllOpen g old.members →
-        old.has_failed ≡ false → (contents : List Trees) → MayBeLeft g (held g new) contents →
-        AreLeft w q reply new.has_failed contents
+    -- From any world that it stood for.
+    abbrev pub Repeats : Request → List Request → Seen S → Seen S → H → H → Replies → Type 0
+    Repeats q others old new before after replies =
+        WhereClean g (IsGivenByEach Asked Taken (q ∷ (others ++ q ∷ [])) before after) new
+        (AllClean g old.members × ((w : World) → StandsFor g old w → RunsTwice w q others replies new))
+
+    -- One request: a step of the machine, and what a crash leaves of stores that were open, of a world that could be
+    -- used.
+    pub record Asks (q : Request) (old new : Seen S) (before after : H) (reply : Reply) : Type 0 where
+      pub stores : List S
+      pub given : IsGivenBy Asked Taken q before after stores
+      pub clean : AllClean g new.members → HaveCleanDisks g stores → AllClean g old.members
+      pub step : AllClean g new.members → HaveCleanDisks g stores → (w : World) → StandsFor g old w →
+          (next : World) × Step w q reply next × StandsFor g new next
+      pub left : AreClean g (held g new) → HaveCleanDisks g stores → (w : World) → StandsFor g old w →
+          AllOpen g old.members → old.has_failed ≡ false → (contents : List Trees) → MayBeLeft g (held g new) contents →
+          AreLeft w q reply new.has_failed contents

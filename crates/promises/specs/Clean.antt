@@ -1,14 +1,52 @@
 -- The one premise on stores: they gave back what was written to them. Profile.
-use Rattle.std.specs.Prelude.{List}
-use Rattle.sqlite.specs.Held.{Held}
+use Rattle.std.specs.Prelude.{◌≡◌, ℕ, ⊤, List, [], ◌∷◌, ◌++◌, Some}
+use Rattle.std.specs.List.{AllByRecursion}
 use Rattle.sqlite.specs.Store.{Ghosts}
-use Rattle.world_changes.specs.Leaving.{AreClean}
+use Rattle.sqlite_trees.specs.View.{IsClean}
+use Rattle.sheet_types.specs.declared.command.Request.{Request}
+use Rattle.world_decisions.specs.Deciding.{child_asked}
 use Rattle.world_members.specs.Members.{AllClean}
+use Rattle.world.specs.Asked.{AsksFor, child_returned}
 use Rattle.world.specs.Worlds.{Seen}
 
+-- Each shelf says what it is to be asked for a package's store between two states, and to be given one back.
+module _ {S : Type 0} {H : Type 0} (Asked : List ℕ → H → H → Type 0) (Taken : List ℕ → S → H → H → Type 0) where
+  -- These stores a shelf was given in the turn of a request: none, and it was asked for none but that of the package
+  -- which a split asks to be made; or one, as that of the package which a merge takes home, and it was asked for none.
+  -- No other store leaves a world, but that of a child which was not made.
+  abbrev pub IsGivenBy : Request → H → H → List S → Type 0
+  IsGivenBy q before after [] = AsksFor Asked (child_asked q.command) (λ child. ⊤) before after
+  IsGivenBy q before after (store ∷ others) = (others ≡ []) × (uuid : List ℕ)
+      × (child_returned q.command ≡ Some uuid) × Taken uuid store before after
+
+  -- Those of each request, in turn; and it was used for nothing else.
+  abbrev pub IsGivenByEach : List Request → H → H → List S → Type 0
+  IsGivenByEach [] before after stores = (stores ≡ []) × (after ≡ before)
+  IsGivenByEach (q ∷ qs) before after stores = (between : H) × (first : List S) × (later : List S)
+      × (stores ≡ first ++ later) × IsGivenBy q before between first × IsGivenByEach qs between after later
+
+  -- The same behind a new world, for whose archive it was asked once.
+  abbrev pub IsGivenFromNew : List ℕ → List Request → H → H → List S → Type 0
+  IsGivenFromNew archive qs before after stores = (made : H) × Asked archive before made
+      × IsGivenByEach qs made after stores
+
+  -- The stores that it was given stand in whatever record it keeps of them: so they are no others.
+  abbrev pub IsRecorded : Type 0
+  IsRecorded = (record_of : H → List S)
+      → ((uuid : List ℕ) (before after : H) → Asked uuid before after → record_of after ≡ record_of before)
+      → ((uuid : List ℕ) (store : S) (before after : H) → Taken uuid store before after
+      → record_of after ≡ record_of before ++ store ∷ [])
+      → (qs : List Request) (before after : H) (stores : List S) → IsGivenByEach qs before after stores
+      → record_of after ≡ record_of before ++ stores
+
 module _ {S : Type 0} (g : Ghosts S) where
-  -- So it is where the stores gave back what was written to them: those of the world's packages, and those that it let
-  -- go, as that of a loan that came home.
-  pub record WhereClean (seen : Seen S) (Fact : Type 0) : Type 0 where
-    pub let_go : List (Held S)
-    pub so : AllClean g seen.members → AreClean g let_go → Fact
+  -- the disk of each has given back what was written
+  abbrev pub HaveCleanDisks : List S → Type 0
+  HaveCleanDisks stores = AllByRecursion (λ store. IsClean (g.view store)) stores
+
+  -- So it is where the stores gave back what was written to them: those of the world's packages, which the caller has in
+  -- hand, and those that its shelf was given. Which these are the shelf's own relation says.
+  pub record WhereClean (IsGiven : List S → Type 0) (seen : Seen S) (Fact : Type 0) : Type 0 where
+    pub stores : List S
+    pub given : IsGiven stores
+    pub so : AllClean g seen.members → HaveCleanDisks stores → Fact

@@ -1,5 +1,5 @@
 -- What a register keeps when it is opened: the fifth promise, in three statements. Profile.
-use Rattle.std.specs.Prelude.{List, ◌++◌, map}
+use Rattle.std.specs.Prelude.{ℕ, List, ◌++◌, map}
 use Rattle.sqlite.specs.Held.{Held}
 use Rattle.sqlite.specs.Store.{Ghosts}
 use Rattle.sqlite.specs.Tree.{Trees}
@@ -14,9 +14,9 @@ use Rattle.opening_stores.specs.Judged.{AreViewsOf, IsFaultAt}
 use Rattle.opening.specs.declared.recovering.Recovered.{Recovered}
 use Rattle.opening.specs.declared.recovering.Unopened.{Unopened}
 use Rattle.opening_laws.specs.Stores.{AreReopened, AreWithStrays}
-use Rattle.promises.specs.Clean.{WhereClean}
+use Rattle.promises.specs.Clean.{IsGivenByEach, WhereClean}
 use Rattle.promises.specs.Calls.{IsKeptWorld, AreOf}
-use Rattle.promises.specs.declared.running.Begun.{Begun}
+use Rattle.promises.specs.declared.reopening.Resumed.{Resumed}
 
 module _ {S : Type 0} (g : Ghosts S) where
   -- 5. What opens is certified. A world is opened only where the stores, rightly seen, stand for it: it is a register,
@@ -33,9 +33,12 @@ module _ {S : Type 0} (g : Ghosts S) where
       IsFaultAt g stores refused.fault × AreStillOrPackages g stores refused.stores.items
 
   -- What a crash left of a world opens as that world, with whatever strays beside it, and the machine goes on from
-  -- there.
-  abbrev pub OpensAgain : List (Held S) → List Request → Begun S → Type 0
-  OpensAgain stores requests begun = (w : World) (contents : List Trees) (again : List (Held S)) → IsKeptWorld w →
-      AreOf w contents → AreReopened g again contents → AreWithStrays g w again stores → WhereClean g begun.world (
-      (next : World) × RunsOverRegisters w requests begun.replies.items next × IsKeptWorld next
-      × StandsFor g begun.world next)
+  -- there. The stores that were not of the world are in hand too: they were read.
+  abbrev pub OpensAgain : {H : Type 0} → (List ℕ → H → H → Type 0) → (List ℕ → S → H → H → Type 0) → List (Held S)
+      → List Request → H → H → Resumed S → Type 0
+  OpensAgain Asked Taken stores requests before after resumed =
+      (w : World) (contents : List Trees) (again : List (Held S)) → IsKeptWorld w →
+      AreOf w contents → AreReopened g again contents → AreWithStrays g w again stores →
+      WhereClean g (IsGivenByEach Asked Taken requests before after) resumed.world (AreClean g resumed.strays.items →
+      (next : World) × RunsOverRegisters w requests resumed.replies.items next × IsKeptWorld next
+      × StandsFor g resumed.world next)

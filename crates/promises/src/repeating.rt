@@ -37,7 +37,8 @@ pub fn repeat<S: Alter + Drop, H: Shelf<S>>(
     others: &[Request],
     shelf: &mut H,
 ) -> Option<Replies>
-    ensures { IfSome result (Repeats S.Store request.now others.now world.old world.new) }
+    ensures { IfSome result (Repeats S.Store H.asks H.takes request.now others.now
+        world.old world.new shelf.old shelf.new) }
 {
     let first = world.apply(alloc, request, shelf);
     match world.run(alloc, others, shelf) {
@@ -60,7 +61,8 @@ pub fn run_and_repeat<S: Alter + Drop, H: Shelf<S>>(
     others: &[Request],
     shelf: &mut H,
 ) -> Option<Repeated<S>>
-    ensures { IfSome result (OnceForGood S.Store archive frame.now before.now request.now others.now) }
+    ensures { IfSome result (OnceForGood S.Store H.asks H.takes archive frame.now before.now request.now others.now
+        shelf.old shelf.new) }
 {
     have_types(before);
     has_types(&request.command);

@@ -50,7 +50,8 @@ pub fn begin<S: Alter + Drop, H: Shelf<S>>(
     frame: &Frame,
     shelf: &mut H,
 ) -> Option<World<S>>
-    ensures { IfSome result (IsNew S.Store archive frame.now) }
+    ensures new { IfSome result (IsNew S.Store archive frame.now) }
+    ensures asked { IfSome result (λ world. H.asks archive shelf.old shelf.new) }
 {
     let Ok(conn) = shelf.blank(archive) else {
         return None;
@@ -70,7 +71,8 @@ pub fn begin_and_run<S: Alter + Drop, H: Shelf<S>>(
     requests: &[Request],
     shelf: &mut H,
 ) -> Option<Begun<S>>
-    ensures { IfSome result (IsBegun S.Store archive frame.now requests.now) }
+    ensures { IfSome result (IsBegun S.Store H.asks H.takes archive frame.now requests.now
+        shelf.old shelf.new) }
 {
     let Some(mut world) = begin::<S, H>(alloc, archive, at, frame, shelf) else {
         return None;
@@ -109,8 +111,10 @@ pub fn run_and_look<S: Alter + Drop, H: Shelf<S>>(
     package: Uuid,
     shelf: &mut H,
 ) -> Option<Shown<S>>
-    ensures one_world { IfSome result (OneWorld S.Store archive frame.now requests.now «package») }
-    ensures as_if_unasked { IfSome result (AsIfUnasked S.Store archive frame.now requests.now «package») }
+    ensures one_world { IfSome result (OneWorld S.Store H.asks H.takes archive frame.now requests.now «package»
+        shelf.old shelf.new) }
+    ensures as_if_unasked { IfSome result (AsIfUnasked S.Store H.asks H.takes archive frame.now requests.now «package»
+        shelf.old shelf.new) }
 {
     let Some(begun) = begin_and_run::<S, H>(alloc, archive, at, frame, requests, shelf) else {
         return None;

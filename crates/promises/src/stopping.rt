@@ -42,7 +42,7 @@ pub fn ask<S: Alter + Drop, H: Shelf<S>>(
     request: &Request,
     shelf: &mut H,
 ) -> Result<Receipt, Refusal>
-    ensures { Asks S.Store request.now world.old world.new result }
+    ensures { Asks S.Store H.asks H.takes request.now world.old world.new shelf.old shelf.new result }
 {
     let reply = world.apply(alloc, request, shelf);
     world.has_failed();
@@ -61,7 +61,8 @@ pub fn run_and_stop<S: Alter + Drop, H: Shelf<S>>(
     request: &Request,
     shelf: &mut H,
 ) -> Option<Stopped<S>>
-    ensures { IfSome result (StopsWhole S.Store archive frame.now before.now request.now) }
+    ensures { IfSome result (StopsWhole S.Store H.asks H.takes archive frame.now before.now request.now
+        shelf.old shelf.new) }
 {
     have_types(before);
     has_types(&request.command);

@@ -3,8 +3,7 @@ ghost use Rattle.std.specs.Prelude.{IfSome};
 ghost use Rattle.opening_stores.specs.Stores.{AreAllKeyed};
 ghost use Rattle.promises.specs.Survivals.{SurvivesStop};
 
-use crate::reopening::open_and_run;
-use crate::running::Begun;
+use crate::reopening::{Resumed, open_and_run};
 use crate::stopping::{Stopped, run_and_stop};
 use crate::typing::{has_types, have_types};
 use opening_stores::watching::Watcher;
@@ -20,11 +19,12 @@ use uuid::Uuid;
 pub struct Survived<S: Alter + Drop> {
     pub stopped: Stopped<S>,
     /// The replies are those to the list that was sent again.
-    pub begun: Begun<S>,
+    pub resumed: Resumed<S>,
 }
 
 /// A new world, a list of requests, and one behind them, after which all stops. Then stores are opened, and
-/// that request is sent again, with others behind it. None where no world was made or opened, or there was no room for the replies.
+/// that request is sent again, with others behind it, over a shelf that was made since. None where no world was made or
+/// opened, or there was no room for the replies.
 pub fn run_stop_and_go_on<S: Alter + Drop, H: Shelf<S>, W: Watcher>(
     alloc: Global,
     archive: Uuid,
@@ -35,9 +35,11 @@ pub fn run_stop_and_go_on<S: Alter + Drop, H: Shelf<S>, W: Watcher>(
     stores: Vec<Connection<S>>,
     watcher: &mut W,
     shelf: &mut H,
+    next_shelf: &mut H,
 ) -> Option<Survived<S>>
     requires { AreAllKeyed S.Store stores.items }
-    ensures { IfSome result (SurvivesStop S.Store archive frame.now before.now again.now stores.items) }
+    ensures { IfSome result (SurvivesStop S.Store H.asks H.takes archive frame.now before.now again.now stores.items
+        shelf.old shelf.new next_shelf.old next_shelf.new) }
 {
     let Some(request) = again.first() else {
         return None;
@@ -48,8 +50,8 @@ pub fn run_stop_and_go_on<S: Alter + Drop, H: Shelf<S>, W: Watcher>(
     else {
         return None;
     };
-    match open_and_run(alloc, stores, again, watcher, shelf) {
-        Some(begun) => Some(Survived { stopped, begun }),
+    match open_and_run(alloc, stores, again, watcher, next_shelf) {
+        Some(resumed) => Some(Survived { stopped, resumed }),
         None => None,
     }
 }

@@ -1,6 +1,7 @@
 //! A loan of the sheets that cover a box, as a person asks for it.
 use crate::naming::print_hint;
 use crate::ordering::{if_given, mode_of, moment_given, purpose_of, uuid_given};
+use crate::outputs::{verb_ended, verb_output};
 use crate::running::text_of;
 use clap::ArgMatches;
 use command_folder::endings::Ending;
@@ -9,7 +10,6 @@ use command_verbs::points::read_box;
 use command_words::statuses::{Outcome, What};
 use sheet_types::frame::Ground;
 use sheet_types::reading::read_number;
-use std::io;
 use uuid::Uuid;
 
 /// The box and the zoom of the words; `None` where one of their numbers is none.
@@ -51,7 +51,8 @@ pub(crate) fn lend_box(
         loan,
     };
     let folder = text_of(given, "folder");
-    let (ending, hint) = lend_box_for(rt, folder, &boxed, purpose_of(given), &mut io::writer(rt));
+    let mut output = verb_output(rt, given);
+    let (ending, hint) = lend_box_for(rt, folder, &boxed, purpose_of(given), &mut output);
     print_hint(rt, hint);
-    ending
+    verb_ended(rt, &output, ending)
 }

@@ -2,12 +2,12 @@
 use crate::clock::NewIdentities;
 use crate::naming::print_hint;
 use crate::ordering::moment_given;
+use crate::outputs::{verb_ended, verb_output};
 use crate::running::text_of;
 use clap::ArgMatches;
 use command_folder::endings::Ending;
 use command_naming::drops::Dropping;
 use command_ordering::dropping::drop_for;
-use std::io;
 
 /// Drops the item of a folder's packages that a word names.
 pub(crate) fn dropped(rt: &HostRuntime, given: &ArgMatches<'_>, word: &str) -> Ending {
@@ -21,13 +21,14 @@ pub(crate) fn dropped(rt: &HostRuntime, given: &ArgMatches<'_>, word: &str) -> E
         ends_links: given.get_flag("yes"),
         is_shown: given.get_flag("dry-run"),
     };
+    let mut output = verb_output(rt, given);
     let (ending, hint) = drop_for(
         rt,
         text_of(given, "folder"),
         &dropping,
         &mut NewIdentities { rt },
-        &mut io::writer(rt),
+        &mut output,
     );
     print_hint(rt, hint);
-    ending
+    verb_ended(rt, &output, ending)
 }

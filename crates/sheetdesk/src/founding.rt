@@ -1,11 +1,11 @@
 //! A new archive's words: its UUID and its moment are made where they are not given.
 use crate::ordering::{moment_given, uuid_text_given};
+use crate::outputs::{verb_ended, verb_output};
 use crate::running::text_of;
 use clap::ArgMatches;
 use command_folder::endings::{DONE, Ending};
 use command_words::arguments::Words;
 use commands::init::init;
-use std::io;
 
 /// Tells standard error at which moment an archive is made, where no word gives one.
 fn tell_moment(rt: &HostRuntime, given: &ArgMatches<'_>, at: &str) {
@@ -29,9 +29,10 @@ pub(crate) fn founded(rt: &HostRuntime, given: &ArgMatches<'_>) -> Ending {
         at: at.as_str(),
         frame: text_of(given, "frame"),
     };
-    let ending = init(rt, &words, text_of(given, "folder"), &mut io::writer(rt));
-    if ending == DONE {
+    let mut output = verb_output(rt, given);
+    let ending = init(rt, &words, text_of(given, "folder"), &mut output);
+    if ending == DONE && !given.get_flag("quiet") {
         tell_moment(rt, given, at.as_str());
     }
-    ending
+    verb_ended(rt, &output, ending)
 }

@@ -11,6 +11,7 @@ mod founding;
 mod naming;
 mod notes;
 mod ordering;
+mod outputs;
 mod reporting;
 mod running;
 mod sessions;

@@ -2,8 +2,9 @@
 use crate::called::Named;
 use crate::clock::{moment_now, new_uuid};
 use crate::naming::print_hint;
+use crate::outputs::{verb_ended, verb_output};
 use crate::running::text_of;
-use crate::streams::Input;
+use crate::streams::{Input, Output};
 use clap::ArgMatches;
 use command_folder::endings::{Ending, FAILED, NO_MEMORY};
 use command_ordering::ordering::hint_order_for;
@@ -179,8 +180,9 @@ fn done_in(
     order: &Order<'_>,
     purpose: Purpose,
     reader: &mut Input<'_>,
+    output: &mut Output<'_>,
 ) -> Ending {
-    let (ending, hint) = hint_order_for(rt, folder, order, purpose, reader, &mut io::writer(rt));
+    let (ending, hint) = hint_order_for(rt, folder, order, purpose, reader, output);
     print_hint(rt, hint);
     ending
 }
@@ -193,12 +195,13 @@ fn done_over(
     purpose: Purpose,
     file: Option<&str>,
     reader: &mut Input<'_>,
+    output: &mut Output<'_>,
 ) -> Ending {
     let Some(path) = file else {
-        return done_in(rt, folder, order, purpose, &mut Input::File(b""));
+        return done_in(rt, folder, order, purpose, &mut Input::File(b""), output);
     };
     if path == "-" {
-        return done_in(rt, folder, order, purpose, reader);
+        return done_in(rt, folder, order, purpose, reader, output);
     }
     match fs::read(rt, path) {
         Ok(bytes) => done_in(
@@ -207,6 +210,7 @@ fn done_over(
             order,
             purpose,
             &mut Input::File(bytes.as_slice()),
+            output,
         ),
         Err(error) => without(rt, path, &error, Ending::BadBody),
     }
@@ -243,7 +247,10 @@ fn ordered_by<'m>(
     };
     let folder = text_of(given, "folder");
     let purpose = purpose_of(options);
-    done_over(rt, folder, &order, purpose, options.get_str("file"), reader)
+    let file = options.get_str("file");
+    let mut output = verb_output(rt, options);
+    let ending = done_over(rt, folder, &order, purpose, file, reader, &mut output);
+    verb_ended(rt, &output, ending)
 }
 
 /// Carries out the verb of a command. Its options stand behind the kind of what is put, where there is one.

@@ -8,6 +8,7 @@ use crate::founding::founded;
 use crate::naming::named_look;
 use crate::notes::{fault_note, print_refusals, tally_for};
 use crate::ordering::{if_given, is_verb, ordered};
+use crate::outputs::{verb_ended, verb_output};
 use crate::reporting::reported;
 use crate::showing::{Wish, shown};
 use crate::streams::{Input, Onlooker};
@@ -245,6 +246,13 @@ fn lend(rt: &HostRuntime, given: &ArgMatches<'_>, named: &Named, reader: &mut In
     }
 }
 
+/// Removes what older versions and stops left in a folder.
+fn tidied(rt: &HostRuntime, given: &ArgMatches<'_>) -> Ending {
+    let mut output = verb_output(rt, given);
+    let ending = tidy(rt, text_of(given, "folder"), &mut output);
+    verb_ended(rt, &output, ending)
+}
+
 /// Carries out a command that changes something, and answers how it ended.
 fn worked(
     rt: &HostRuntime,
@@ -256,7 +264,7 @@ fn worked(
     let word = named.word.as_str();
     match name {
         "init" => founded(rt, given),
-        "tidy" => tidy(rt, text_of(given, "folder"), &mut io::writer(rt)),
+        "tidy" => tidied(rt, given),
         "drop" => dropped(rt, given, word),
         "put" => put(rt, given, named, reader),
         "lend" => lend(rt, given, named, reader),
@@ -282,10 +290,7 @@ fn carried_out_of(
         return status;
     }
     if let Some(wish) = wish_of(name, given, word) {
-        return looked(
-            rt,
-            &shown(rt, text_of(given, "folder"), wish, given.get_str("output")),
-        );
+        return looked(rt, &shown(rt, name, given, wish));
     }
     let typed = reader.text();
     let ending = worked(rt, name, given, named, reader);

@@ -1,6 +1,9 @@
 //! What a command that looks prints, or keeps in a file.
 use crate::naming::print_hint;
+use crate::outputs::look_output;
+use crate::running::text_of;
 use crate::streams::Output;
+use clap::ArgMatches;
 use command_folder::endings::{DONE, FAILED};
 use command_named::looking::{NamedLook, named_look_for};
 use std::io::Write;
@@ -55,9 +58,15 @@ fn shown_in(rt: &HostRuntime, folder: &str, wish: Wish<'_>, path: &str) -> Endin
 }
 
 /// Looks at a folder, and prints what was found, or keeps it in a file.
-pub(crate) fn shown(rt: &HostRuntime, folder: &str, wish: Wish<'_>, path: Option<&str>) -> Ending {
-    match path {
+pub(crate) fn shown(
+    rt: &HostRuntime,
+    name: &str,
+    given: &ArgMatches<'_>,
+    wish: Wish<'_>,
+) -> Ending {
+    let folder = text_of(given, "folder");
+    match given.get_str("output") {
         Some(path) => shown_in(rt, folder, wish, path),
-        None => looked_at(rt, folder, wish, &mut Output::Standard(io::writer(rt))),
+        None => looked_at(rt, folder, wish, &mut look_output(rt, name, given)),
     }
 }

@@ -2,6 +2,7 @@
 ghost use Rattle.std.specs.Prelude.{None};
 
 use crate::clock::moment_now;
+use crate::outputs::Headed;
 use command_words::desk_lines::{exchange_line, listening_line};
 use command_words::progress::{Progress, Teller};
 use desk_http::telling::DeskTeller;
@@ -35,11 +36,13 @@ impl<'a> Read for Input<'a> {
     }
 }
 
-/// Where a command that looks writes.
+/// Where a command writes.
 #[derive(Drop)]
 pub(crate) enum Output<'a> {
     /// Standard output.
     Standard(Printer<'a, HostRuntime>),
+    /// Standard output with a bold heading.
+    Headed(Headed<'a>),
     /// Memory.
     Kept(Vec<u8>),
 }
@@ -48,6 +51,7 @@ impl<'a> Write for Output<'a> {
     fn write(&mut self, buf: &[u8]) -> Result<usize> {
         match self {
             Output::Standard(writer) => writer.write(buf),
+            Output::Headed(writer) => writer.write(buf),
             Output::Kept(bytes) => bytes.write(buf),
         }
     }
@@ -55,6 +59,7 @@ impl<'a> Write for Output<'a> {
     fn flush(&mut self) -> Result<()> {
         match self {
             Output::Standard(writer) => writer.flush(),
+            Output::Headed(writer) => writer.flush(),
             Output::Kept(bytes) => bytes.flush(),
         }
     }

@@ -2,6 +2,7 @@
 use crate::clock::NewIdentities;
 use crate::naming::print_hint;
 use crate::ordering::{moment_given, without};
+use crate::outputs::{verb_ended, verb_output};
 use crate::running::text_of;
 use crate::streams::Onlooker;
 use crate::tile_names::numbers_in;
@@ -110,6 +111,7 @@ pub(crate) fn put_tree(
         Ok(places) => places,
         Err(error) => return without(rt, directory, &error, Ending::BadBody),
     };
+    let mut output = verb_output(rt, words);
     let (ending, hint) = put_tree_for(
         rt,
         text_of(given, "folder"),
@@ -127,8 +129,8 @@ pub(crate) fn put_tree(
             all: places.len() as u64,
         },
         &mut NewIdentities { rt },
-        &mut io::writer(rt),
+        &mut output,
     );
     print_hint(rt, hint);
-    ending
+    verb_ended(rt, &output, ending)
 }

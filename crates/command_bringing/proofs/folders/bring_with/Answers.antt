@@ -6,5 +6,6 @@ returns g c = (
   g.H.Shelf.failures_of c.args.shelf.now,
   g.H.Shelf.failures_of c.bring_in-ending.new.shelf,
   c.into_stores.ensures,
-  c.bring_in-ending.ensures,
+  c.bring_in-ending.ensures.brings,
+  c.bring_in-ending.ensures.home,
 )

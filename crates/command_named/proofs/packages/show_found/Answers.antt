@@ -9,4 +9,5 @@ pub returns-in-Two : goal.returns-in-Two
 returns-in-Two g c = rw c.in-Two.is (c.tell_fault-ending.ensures, c.into_stores.ensures, refl)
 
 pub returns-in-Nearest : goal.returns-in-Nearest
-returns-in-Nearest g c = rw c.in-Nearest.is (refl, refl, c.into_stores.ensures, c.hint_of-hint.ensures)
+returns-in-Nearest g c = rw c.in-Nearest.is
+    (refl, refl, c.into_stores-in-Nearest.ensures, rw c.in-Nearest.is at c.hint_of-hint.ensures)

@@ -1,5 +1,11 @@
--- The world was made of the store.
+-- The world was made of the store that the shelf was asked for.
 use Rattle.promises.proofs.running.begin.Goals as goal
 
-pub returns-in-Ok-create : goal.returns-in-Ok-create
-returns-in-Ok-create g c = record { stands = c.in-Ok-create.ensures.made; opens = c.in-Ok-create.ensures.opens; usable = c.in-Ok-create.ensures.usable }
+pub returns-in-Ok-create-clause-new : goal.returns-in-Ok-create-clause-new
+returns-in-Ok-create-clause-new g c =
+    record {
+      stands = c.in-Ok-create.ensures.made;
+      opens = c.in-Ok-create.ensures.opens;
+      usable =
+          c.in-Ok-create.ensures.usable;
+    }
