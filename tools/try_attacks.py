@@ -1,43 +1,70 @@
 #!/usr/bin/env python3
-"""Tries the edits of attacks/ on all processors, and notes what each came to in attacks/RESULTS.csv.
+"""Tries the edits of attacks/ crate after crate, and adds a line for each to attacks/RESULTS.csv as soon as it is known.
 
-    tools/try_attacks.py [CRATE ..]      those of these crates, or of all
-    tools/try_attacks.py --open          lists the edits that no result speaks of, and those that were not refused
+    tools/try_attacks.py [--sample N] [--until HH:MM] [--aside] [--lanes N] CRATE ..   tries what is not known; with no CRATE, of all crates
+    tools/try_attacks.py --open      proves nothing: lists the edits that no result speaks of, and those that were not refused
+    tools/try_attacks.py --table     proves nothing: prints the table of docs/ATTACKS.md, and puts RESULTS.csv in order
 
-The crates are copied to a folder of their own, with their edits of attacks/ beside those of the gate, and `rt must-fail` tries them there. It keeps
-each result by the checksums of all that it read: a later run tries only what changed. A crate that was not proved on this machine is proved first.
+A line of RESULTS.csv is crate, edit, outcome, date, commit, the sum of all that was read (the crate's sources, specs and proofs, the edit, the
+libraries below, the toolchain), and why. The last line of an edit counts. An edit whose sum is known is not tried again, so a later run tries only
+what changed, and a run that is stopped loses nothing. The libraries below a crate must be built (rt ci or rt check builds them): a crate
+that lacks one is passed over.
 
-The outcomes:
+An edit inside the bodies of functions is checked by `rt check --only` of these functions: every other function knows them by their contracts
+alone. Any other edit needs a check of the whole crate (--whole). An edit is tried only where the right bodies are proved: where the crate was
+built from the same text, or else by a check of these functions first.
 
-    refused        the prover refuses: at a clause, or at an answer that was written for the right body. Which one, its line tells; only the
-                   first says that a clause is false
-    by a name      a proof file names what the edit took away: this says little of the clauses
-    at a limit     the prover gave no verdict in its limits
-    let through    the crate is still proved: a clause is missing
-    not applied    the edit does not fit the sources
-    not tried      memory or the disk gave out: run it again
+The outcomes, and how the two kinds of refusal are told apart:
+
+    refused                     a clause is false or stays open. The prover found values at which a clause (or a callee's premise) is false;
+                                or a goal stays open that has no answer beside it, so that the search alone closes it for the right body
+    refused by a proof alone    no more was seen than that an answer, a proof or an invariant beside the function does not fit the wrong body:
+                                it names a fact that the edit took away, or its terms have another type. The clauses may be right or too weak
+    let through                 the functions are still proved: a clause is missing, or the edit changes nothing that matters
+    does not apply              the edit does not fit the sources, or what it makes does not compile
+    no verdict                  the prover met a limit, or memory or the given time ran out: said again by a later run
+
+With --aside an edit that was refused by a proof alone is tried once more with the answers of its functions set aside, and so are the right
+bodies. It counts as refused where the prover then finds values, or where a goal is open that is closed for the right bodies in the same state.
+This is dear (each goal is searched), so it has its own limit, --aside-seconds. What still is not told apart needs a person, who says which
+clause the edit breaks: the line `looked: CLAUSE` as why.
 """
 import argparse
+import concurrent.futures
+import contextlib
 import csv
 import datetime
+import hashlib
 import os
 import re
 import shutil
+import signal
 import subprocess
 import sys
 import tempfile
+import threading
+import time
+from importlib.machinery import SourceFileLoader
+from importlib.util import module_from_spec, spec_from_loader
 
 ROOT = os.path.dirname(os.path.dirname(os.path.abspath(__file__)))
 RESULTS = f"{ROOT}/attacks/RESULTS.csv"
-HEAD = ["crate", "edit", "outcome", "date", "commit"]
-LINE = re.compile(r"rt: must-fail (\w+)/([\w.-]+)\.edit: (.*)")
-OUTCOMES = (
-    ("refused, as it must be (only because a proof file", "by a name"),
-    ("refused, as it must be (only by a limit", "at a limit"),
-    ("refused, as it must be", "refused"),
-    ("NOT REFUSED", "let through"),
-    ("BAD EDIT", "not applied"),
-)
+HEAD = ["crate", "edit", "outcome", "date", "commit", "sum", "why"]
+REFUSED, ALONE, THROUGH, NOT, NONE = "refused", "refused by a proof alone", "let through", "does not apply", "no verdict"
+ORDER = (REFUSED, ALONE, THROUGH, NOT, NONE)
+FALSE = "the facts known there allow values at which"
+# a proof file that names what the edit took away, and what cites that proof
+NAMES = re.compile(r"(has no field|is not in scope|has no `|was not admitted)")
+APPENDS = threading.Lock()
+
+
+def toolchain():
+    """The command `rt` as a module: its own reading of an edit and of the prover's words is used."""
+    loader = SourceFileLoader("rt", os.path.realpath(shutil.which("rt")))
+    made = module_from_spec(spec_from_loader("rt", loader))
+    sys.modules["rt"] = made
+    loader.exec_module(made)
+    return made
 
 
 def edits():
@@ -53,46 +80,339 @@ def edits():
 
 
 def read_results():
+    """Returns the last line of each edit."""
     if not os.path.exists(RESULTS):
         return {}
     with open(RESULTS, encoding="utf-8", newline="") as it:
-        return {(row["crate"], row["edit"]): row for row in csv.DictReader(it)}
+        return {(row["crate"], row["edit"]): {name: row.get(name) or "" for name in HEAD} for row in csv.DictReader(it)}
 
 
 def write_results(rows, there):
-    """Writes the results of the edits that still are there."""
-    kept = [rows[key] for key in sorted(rows) if key[1] in there.get(key[0], ())]
-    with open(RESULTS, "w", encoding="utf-8", newline="") as it:
+    """Writes the last line of each edit that still is there, in order."""
+    with open(f"{RESULTS}.new", "w", encoding="utf-8", newline="") as it:
         out = csv.DictWriter(it, HEAD, lineterminator="\n")
         out.writeheader()
-        out.writerows(kept)
+        out.writerows(rows[key] for key in sorted(rows) if key[1] in there.get(key[0], ()))
+    os.replace(f"{RESULTS}.new", RESULTS)
 
 
-def copied(room, crates):
-    """Copies what a proof reads, and puts the edits of these crates where `rt must-fail` looks for them."""
-    for name in ("crates.txt", "HANDLES"):
-        shutil.copy(f"{ROOT}/{name}", room)
-    shutil.copytree(f"{ROOT}/crates", f"{room}/crates", ignore=shutil.ignore_patterns("out", "data"))
-    for crate in crates:
-        shutil.rmtree(f"{room}/crates/{crate}/must-fail", ignore_errors=True)
-        shutil.copytree(f"{ROOT}/attacks/{crate}", f"{room}/crates/{crate}/must-fail", ignore=shutil.ignore_patterns("*.md"))
+def append(row):
+    with APPENDS, open(RESULTS, "a", encoding="utf-8", newline="") as it:
+        csv.DictWriter(it, HEAD, lineterminator="\n").writerow(row)
+        it.flush()
+        os.fsync(it.fileno())
 
 
-def outcome_of(text):
-    return next((outcome for start, outcome in OUTCOMES if text.startswith(start)), "not tried")
+def pairs_of(path):
+    """Returns the file and the old text of each pair of an edit."""
+    file, found = "", []
+    with open(path, encoding="utf-8") as it:
+        for line in it.read().split("\n"):
+            if line.startswith("file:"):
+                file = line[len("file:") :].strip()
+            elif line.startswith("old:"):
+                found.append((file, line[len("old:") :].removeprefix(" ")))
+    return found
 
 
-def tried(crates):
-    """Tries the edits of these crates, and yields crate, edit and outcome of each."""
-    jobs = {**os.environ, "RT_JOBS": os.environ.get("RT_JOBS", str(os.cpu_count()))}
-    with tempfile.TemporaryDirectory(prefix="attacks-") as room:
-        copied(room, crates)
-        with subprocess.Popen(["rt", "must-fail", *crates], cwd=room, env=jobs, stdout=subprocess.PIPE, stderr=subprocess.STDOUT, text=True) as run:
-            for line in run.stdout:
-                print(line, end="", flush=True)
-                found = LINE.match(line)
-                if found:
-                    yield found[1], found[2], outcome_of(found[3])
+def function_at(text, at, file):
+    """Returns the path of the function whose body has that place of a file of src/, or None where it is in no body."""
+    module = re.sub(r"^src/|(/mod)?\.rt$", "", file).replace("/", "::")
+    module = "" if module in ("lib", "main") else f"{module}::"
+    lines, place = text.split("\n"), text.count("\n", 0, at)
+    begin = next((it for it in range(place, -1, -1) if re.match(r"( {4})?(pub(\([^)]*\))? )?((const|unsafe) )*fn \w+", lines[it])), None)
+    if begin is None:
+        return None
+    indent = re.match(r" *", lines[begin])[0]
+    end = next((it for it in range(begin, len(lines)) if lines[it] == f"{indent}}}" or it == begin and lines[it].endswith(("}", ";"))), len(lines))
+    opened = next((it for it in range(begin, end + 1) if it < len(lines) and (lines[it] == f"{indent}{{" or re.match(r"[^{]*(\)|\w|>|\]) \{$", lines[it]) and not re.match(r" *(ensures|requires|ghost)", lines[it]))), end)
+    if not opened <= place < max(end, begin + 1):
+        return None
+    name = re.search(r"fn (\w+)", lines[begin])[1]
+    if indent:
+        head = next((lines[it] for it in range(begin, -1, -1) if re.match(r"(pub(\([^)]*\))? )?(unsafe )?(impl|trait)\b", lines[it])), "")
+        head = re.sub(r"<[^<>]*>", "", re.sub(r"<[^<>]*>", "", re.sub(r"<[^<>]*>", "", head)))
+        trait = re.match(r"(?:pub(?:\([^)]*\))? )?trait (\w+)", head)
+        of = re.match(r"(?:unsafe )?impl (?:([\w:]+) for )?&?(?:'\w+ )?(?:mut )?([\w:]+)", head)
+        if not trait and not of:
+            return None
+        owner = trait[1] if trait else of[2].split("::")[-1] + (of[1] or "").split("::")[-1]
+        name = f"{owner}::{name}"
+    return module + name
+
+
+def functions_of(crate, path):
+    """Returns the functions whose bodies an edit changes, or None where it changes something else."""
+    found = set()
+    for file, old in pairs_of(path):
+        if re.match(r"(pub )?use ", old):
+            # (what it brings in is named in a body)
+            continue
+        with open(f"{crate.folder}/{file}", encoding="utf-8") as it:
+            text = it.read()
+        at = text.find(old)
+        name = file.startswith("src/") and at >= 0 and function_at(text, at + len(old) - len(old.lstrip()), file)
+        if not name:
+            return None
+        found.add(name)
+    return sorted(found)
+
+
+class Ran:
+    """What a check said."""
+
+    def __init__(self, status, text, why=""):
+        self.status, self.text, self.why = status, text, why
+        self.lines = text.rstrip("\n").split("\n")
+
+    def is_proved(self):
+        return self.status == 0
+
+    def values(self):
+        """Returns the first line that tells of values at which a goal is false."""
+        return next((it for it in self.lines if FALSE in it), "")
+
+    def failed(self):
+        """Returns the functions that are not proved themselves, whatever they call."""
+        told = [re.match(r"fn ([\w:+]+): (no proof|not proved|could not tell)(.*)", it) for it in self.lines]
+        return [it[1] for it in told if it and "it calls" not in it[3]]
+
+    def open_goals(self):
+        """Returns the goals, by function, that the search left open."""
+        found = set()
+        for line in self.lines:
+            told = re.match(r"fn ([\w:+]+): (?:no proof|not proved).*`search` did not prove (.*)", line)
+            for goal in re.findall(r"`([^`]+)`", told[2]) if told else ():
+                found.add((told[1], goal))
+        return found
+
+
+class Room:
+    """A copy of a crate in which its edits are checked one after the other, over one folder of kept work."""
+
+    def __init__(self, rt, crate, said):
+        self.rt, self.crate, self.said, self.guard = rt, crate, said, rt.rtlib.guarded()
+        self.at = tempfile.mkdtemp(prefix=f"attacks-{crate.name}-")
+        os.mkdir(f"{self.at}/kept")
+        os.mkdir(f"{self.at}/crate")
+        self.fill()
+
+    def fill(self):
+        for part in self.rt.rtlib.PARTS:
+            if os.path.isdir(f"{self.crate.folder}/{part}"):
+                shutil.rmtree(f"{self.at}/crate/{part}", ignore_errors=True)
+                shutil.copytree(f"{self.crate.folder}/{part}", f"{self.at}/crate/{part}")
+
+    def close(self):
+        shutil.rmtree(self.at, ignore_errors=True)
+
+    def check(self, texts, functions, more=(), aside=False, seconds=None):
+        """Checks the crate with these texts in place of its own: these functions, or all."""
+        self.fill()
+        for path, text in texts.items():
+            with open(f"{self.at}/crate/{path}", "w", encoding="utf-8") as it:
+                it.write(text)
+        for name in functions if aside else ():
+            for file in self.answers(name):
+                os.remove(file)
+        words = [self.rt.rtlib.RATTLE, "check", *self.crate.words(["--jobs", "1"], keeps=False), "--incremental", f"{self.at}/kept"]
+        words += [it for name in functions or () for it in ("--only", name)] + list(more)
+        return self.run(words, seconds or self.said.seconds)
+
+    def answers(self, name):
+        """Returns the file of answers of a function, where it has one."""
+        at = f"{self.at}/crate/proofs/{name.replace('::', '/')}/Answers.antt"
+        return [at] if os.path.isfile(at) else []
+
+    def run(self, words, seconds):
+        """Runs a check within its time and memory. Its words go to a file."""
+        why, begun = "", time.time()
+        with open(f"{self.at}/said", "wb") as out:
+            how = {"cwd": f"{self.at}/crate", "stdin": subprocess.DEVNULL, "stdout": out, "stderr": subprocess.STDOUT}
+            with subprocess.Popen([*self.guard, *words], **how) as run:
+                while True:
+                    try:
+                        run.wait(1)
+                        break
+                    except subprocess.TimeoutExpired:
+                        late, great = time.time() - begun > seconds, held(run.pid) > self.said.memory * 2**20
+                        if late or great:
+                            why = f"stopped after {seconds} seconds" if late else f"stopped at {self.said.memory} GB"
+                            for it in [run.pid, *copies_of(run.pid)]:
+                                with contextlib.suppress(OSError):
+                                    os.kill(it, signal.SIGKILL)
+        with open(f"{self.at}/said", encoding="utf-8", errors="replace") as it:
+            return Ran(run.returncode, it.read(), why)
+
+
+def copies_of(pid):
+    """Returns the processes that a check forked."""
+    found = []
+    with contextlib.suppress(OSError):
+        for it in os.listdir(f"/proc/{pid}/task"):
+            with open(f"/proc/{pid}/task/{it}/children", encoding="ascii") as file:
+                found += [int(one) for one in file.read().split()]
+    return found
+
+
+def held(pid):
+    """Returns what a process holds, in KiB."""
+    try:
+        with open(f"/proc/{pid}/status", encoding="ascii", errors="replace") as it:
+            return int((re.search(r"VmRSS:\s+(\d+)", it.read()) or [0, 0])[1])
+    except OSError:
+        return 0
+
+
+def short(line):
+    return re.sub(r"\s+", " ", line.replace("./", "", 1) if line.startswith("./") else line)[:180]
+
+
+def outcome_of(rt, ran, texts):
+    """Returns what the check of an edit came to, and why."""
+    if ran.why:
+        return NONE, ran.why
+    bad = next((it for it in ran.lines if rt.unread(it, texts)), "")
+    if bad and ran.status == 1:
+        return NOT, f"cannot be read: {short(bad)}"
+    if ran.is_proved():
+        return THROUGH, ""
+    if ran.status == 1 and any(re.search(r"\berror\[[\w-]+\]", it) for it in ran.lines) and not re.match(r"logic=|only=", ran.lines[-1]):
+        return NOT, "does not compile: " + short(next(it for it in ran.lines if re.search(r"\berror\[", it)))
+    if ran.status == 3 or not re.match(r"logic=not-proved|only=", ran.lines[-1]):
+        limit = next((it for it in ran.lines if rt.LIMITS.search(it)), ran.lines[-1])
+        return NONE, f"status {ran.status}: {short(limit)}"
+    if ran.values():
+        return REFUSED, f"values: {short(ran.values())}"
+    goals = sorted(ran.open_goals())
+    if goals:
+        return REFUSED, f"open: {' '.join('`'.join(['', goal, '']) + ' of ' + name for name, goal in goals)[:160]}"
+    told = [it for it in ran.lines if re.match(r"(note: )?\S+:\d+:\d+:", it)]
+    told = [it for it in told if ": error" in it] or told or ran.lines
+    other = next((it for it in told if not NAMES.search(it)), "")
+    return ALONE, f"{'type' if other else 'name'}: {short(other or told[0])}"
+
+
+def told_apart(room, honest, texts, functions):
+    """Tries an edit that was refused by a proof alone with the answers set aside."""
+    if not functions or not any(room.answers(it) for it in functions):
+        return ALONE, "no answer to set aside"
+    key, limit = tuple(functions), room.said.aside_seconds
+    if key not in honest:
+        honest[key] = room.check({}, functions, ["--allow-holes"], True, limit)
+    ran = room.check(texts, functions, ["--allow-holes"], True, limit)
+    if ran.why:
+        return ALONE, f"answers aside: {ran.why}"
+    if ran.values():
+        return REFUSED, f"answers aside, values: {short(ran.values())}"
+    more = ran.open_goals() - honest[key].open_goals() if not honest[key].why else set()
+    if more:
+        return REFUSED, "answers aside, open: " + " ".join(f"`{goal}` of {name}" for name, goal in sorted(more))[:160]
+    return ALONE, "answers aside: no goal more is open than for the right body"
+
+
+def sum_of(rt, crate, name, seen):
+    with open(f"{ROOT}/attacks/{crate.name}/{name}.edit", "rb") as it:
+        return hashlib.sha256(repr((rt.stamp_of(crate, seen), name, it.read())).encode()).hexdigest()[:16]
+
+
+def chosen(names, count):
+    """Returns so many of the names, from all over the list."""
+    return names if not count or len(names) <= count else [names[it * len(names) // count] for it in range(count)]
+
+
+class Work:
+    def __init__(self, rt, said):
+        self.rt, self.said, self.rows, self.seen = rt, said, read_results(), {}
+        self.day = datetime.date.today().isoformat()
+        self.commit = subprocess.run(["git", "-C", ROOT, "rev-parse", "--short=8", "HEAD"], capture_output=True, text=True).stdout.strip()
+        self.worst = 0
+
+    def is_late(self):
+        return bool(self.said.until) and datetime.datetime.now().strftime("%H:%M") >= self.said.until
+
+    def note(self, crate, name, sum, outcome, why, begun):
+        row = dict(zip(HEAD, (crate.name, name, outcome, self.day, self.commit, sum, why)))
+        append(row)
+        self.rows[crate.name, name] = row
+        self.worst |= outcome != REFUSED
+        print(f"{datetime.datetime.now():%H:%M:%S} {time.time() - begun:4.0f} s  {crate.name} {name}: {outcome}: {why}", flush=True)
+
+    def open_of(self, crate, names):
+        """Returns the edits of the crate of which nothing is known, with their sums. What was not told apart is tried again where answers are set aside."""
+        found = []
+        for name in names:
+            sum, row = sum_of(self.rt, crate, name, self.seen), self.rows.get((crate.name, name), {})
+            again = row.get("outcome") == NONE or self.said.aside and row.get("outcome") == ALONE and "aside" not in row["why"]
+            if row.get("sum") != sum or again:
+                found.append((name, sum))
+        return found
+
+    def crate(self, crate, names):
+        """Tries the edits of a crate."""
+        if self.is_late():
+            return
+        left = self.open_of(crate, chosen(names, self.said.sample))
+        lacking = [it.name for it in crate.below() if not it.is_built()]
+        if lacking and left:
+            print(f"{crate.name}: passed over, since these libraries are not built here: {' '.join(lacking[:6])}", flush=True)
+            return
+        tries = []
+        for name, sum in left:
+            path = f"{ROOT}/attacks/{crate.name}/{name}.edit"
+            texts, why = self.rt.read_edit(path, crate.folder)
+            if why:
+                self.note(crate, name, sum, NOT, short(why), time.time())
+            else:
+                tries.append((name, sum, texts, functions_of(crate, path)))
+        if tries:
+            room = Room(self.rt, crate, self.said)
+            try:
+                self.room(room, crate, tries)
+            finally:
+                room.close()
+
+    def are_right(self, room, crate, tries):
+        """Returns whether the right bodies are proved: where the crate itself is built, the run that built it saw that."""
+        if crate.is_built():
+            return True
+        begun, known = time.time(), sorted({it for one in tries for it in one[3] or ()})
+        ran = room.check({}, known, seconds=self.said.first_seconds)
+        print(f"{crate.name}: the right bodies: {time.time() - begun:.0f} s, {ran.why or short(ran.lines[-1])}", flush=True)
+        if not ran.is_proved():
+            print("\n".join(f"    {it[:220]}" for it in ran.lines[:12]), flush=True)
+        return ran.is_proved()
+
+    def room(self, room, crate, tries):
+        if not self.said.whole:
+            tries = [it for it in tries if it[3]]
+        if not tries or not self.are_right(room, crate, tries):
+            return
+        honest = {}
+        # those of one function one after the other; those that need the whole crate last
+        for name, sum, texts, functions in sorted(tries, key=lambda it: (it[3] is None, it[3] or [])):
+            if self.is_late():
+                return
+            begun, row = time.time(), self.rows.get((crate.name, name), {})
+            if self.said.aside and row.get("sum") == sum and row.get("outcome") == ALONE:
+                outcome, why = ALONE, row["why"]
+            else:
+                ran = room.check(texts, functions)
+                if ran.status == 2 and functions and not ran.why:
+                    # (the function has another name than is read here: its module stands for it)
+                    functions = sorted({re.sub(r"(::[A-Z]\w*)?::\w+$", "", it) for it in functions})
+                    ran = room.check(texts, functions)
+                outcome, why = outcome_of(self.rt, ran, texts)
+                if self.said.show:
+                    print("\n".join(f"    {it[:220]}" for it in ran.lines[:60]), flush=True)
+                lost = [it for it in ran.failed() if functions and not any(it.partition("::")[2].startswith(one) for one in functions)]
+                if lost and outcome in (REFUSED, ALONE):
+                    outcome, why = NONE, f"another function is not proved either: {lost[0]}"
+            if outcome == ALONE and self.said.aside:
+                first = why
+                outcome, why = told_apart(room, honest, texts, functions)
+                why = why if outcome == REFUSED else f"{why}; {first}"
+            self.note(crate, name, sum, outcome, why, begun)
 
 
 def show_open(rows, there):
@@ -101,32 +421,62 @@ def show_open(rows, there):
     for crate, names in there.items():
         for name in names:
             outcome = rows.get((crate, name), {}).get("outcome", "untried")
-            if outcome not in ("refused", "at a limit"):
+            if outcome != REFUSED:
                 print(f"{crate} {name}: {outcome}")
                 count += 1
     print(f"{sum(map(len, there.values()))} edits, {count} not seen refused")
     return count
 
 
+def show_table(rows, there):
+    print("| Crate | Edits | Tried | Refused | By a proof alone | Let through | Do not apply | No verdict |\n|---|---|---|---|---|---|---|---|")
+    total = [0] * 7
+    for crate, names in there.items():
+        told = [rows[crate, it]["outcome"] for it in names if (crate, it) in rows]
+        row = [len(names), len(told), *[told.count(it) for it in ORDER]]
+        total = [one + other for one, other in zip(total, row)]
+        if told:
+            print(f"| `{crate}` | {' | '.join(str(it or '') for it in row)} |")
+    print(f"| all | {' | '.join(map(str, total))} |")
+
+
 def main():
     words = argparse.ArgumentParser(description=__doc__, formatter_class=argparse.RawDescriptionHelpFormatter)
     words.add_argument("--open", action="store_true", help="list what no run has seen refused")
+    words.add_argument("--table", action="store_true", help="print the table by crate")
+    words.add_argument("--sample", type=int, default=0, help="at most so many of each crate, from all over its list")
+    words.add_argument("--edit", action="append", help="these edits alone")
+    words.add_argument("--until", default="", help="begin no check after this time of day, HH:MM")
+    words.add_argument("--whole", action="store_true", help="also those edits that need a check of the whole crate")
+    words.add_argument("--aside", action="store_true", help="set answers aside where a proof alone refused")
+    words.add_argument("--lanes", type=int, default=1, help="so many crates side by side")
+    words.add_argument("--seconds", type=int, default=420, help="the most that a try may take")
+    words.add_argument("--first-seconds", type=int, default=1500, help="the most that the right bodies may take")
+    words.add_argument("--aside-seconds", type=int, default=240, help="the most that a try without answers may take")
+    words.add_argument("--memory", type=int, default=4, help="the most that a check may hold, in GB")
+    words.add_argument("--show", action="store_true", help="print what the prover says")
     words.add_argument("crates", nargs="*")
     said = words.parse_args()
     there, rows = edits(), read_results()
     if said.open:
         return 1 if show_open(rows, there) else 0
+    if said.table:
+        write_results(rows, there)
+        show_table(rows, there)
+        return 0
     lacking = [it for it in said.crates if it not in there]
     if lacking:
         sys.exit(f"attacks/ has no edits of {' '.join(lacking)}")
-    day = datetime.date.today().isoformat()
-    commit = subprocess.run(["git", "-C", ROOT, "rev-parse", "--short", "HEAD"], capture_output=True, text=True).stdout.strip()
-    worst = 0
-    for crate, edit, outcome in tried(said.crates or list(there)):
-        rows[crate, edit] = dict(zip(HEAD, (crate, edit, outcome, day, commit)))
-        worst |= outcome not in ("refused", "by a name", "at a limit")
-    write_results(rows, there)
-    return worst
+    rt = toolchain()
+    os.chdir(ROOT)
+    os.environ.pop(rt.rtlib.ALLOW_C, None)
+    rt.rtlib.guarded()
+    crates = {it.name: it for it in rt.rtlib.crates_below(ROOT)}
+    work = Work(rt, said)
+    with concurrent.futures.ThreadPoolExecutor(said.lanes) as lanes:
+        for it in [lanes.submit(work.crate, crates[name], [it for it in there[name] if not said.edit or it in said.edit]) for name in said.crates or there]:
+            it.result()
+    return work.worst
 
 
 if __name__ == "__main__":
