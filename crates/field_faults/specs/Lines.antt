@@ -37,7 +37,8 @@ is_at zoom column row content = false
 
 -- a place as a key: each number is its sign and how far it is from 0
 abbrev pub place_key : ℤ → ℤ → ℤ → List ℕ
-place_key zoom column row = sign zoom ∷ unsigned_abs zoom ∷ sign column ∷ unsigned_abs column ∷ sign row ∷ unsigned_abs row ∷ []
+place_key zoom column row = sign zoom ∷ unsigned_abs zoom ∷ sign column ∷ unsigned_abs column
+    ∷ sign row ∷ unsigned_abs row ∷ []
 
 -- a tile that could be held lies at this place
 abbrev pub is_good_at : Frame → ℤ → ℤ → ℤ → HeldItem → Bool
@@ -45,7 +46,9 @@ is_good_at f zoom column row h = is_at zoom column row h.content && is_none (rea
 
 -- a set has the places of such tiles among these, and no others
 abbrev pub HasPlaces : Frame → List HeldItem → BTreeSet (List ℕ) → Type 0
-HasPlaces f before places = (zoom column row : ℤ) → contains (slice_cmp nat_cmp) places (place_key zoom column row) ≡ list_any (is_good_at f zoom column row) before
+HasPlaces f before places = (zoom column row : ℤ)
+    → contains (slice_cmp nat_cmp) places (place_key zoom column row)
+    ≡ list_any (is_good_at f zoom column row) before
 
 abbrev pub bytes_of : Content → List ℕ
 bytes_of (Tile zoom column row bytes) = bytes

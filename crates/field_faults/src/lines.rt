@@ -1,5 +1,20 @@
 //! The records of a file that a package cannot hold, a line each.
-ghost use Rattle.std.specs.Prelude.{◌≡◌, ◌&&◌, ◌||◌, ◌∷◌, ◌++◌, [], ℕ, ℤ, List, bytes_eq, flat_map, IfOk, IsTrue, string_bytes};
+ghost use Rattle.std.specs.Prelude.{
+  ◌≡◌,
+  ◌&&◌,
+  ◌||◌,
+  ◌∷◌,
+  ◌++◌,
+  [],
+  ℕ,
+  ℤ,
+  List,
+  bytes_eq,
+  flat_map,
+  IfOk,
+  IsTrue,
+  string_bytes,
+};
 ghost use Rattle.std.specs.List.{list_any};
 ghost use Rattle.std.specs.Ordering.{nat_cmp};
 ghost use Rattle.std.specs.Cmp.Lexicographic.{slice_cmp};
@@ -10,7 +25,26 @@ ghost use Rattle.field_changes.specs.declared.held.HeldItem.{HeldItem as ModelHe
 ghost use Rattle.sheet_types.specs.declared.command.Item.{Item as ModelItem};
 ghost use Rattle.sheet_types.specs.Texts.{kind_word, kind_of};
 ghost use Rattle.field_faults.specs.declared.reasons.Reason.TheVariants.{Renumbered, Taken, Twice};
-ghost use Rattle.field_faults.specs.Lines.{bad_line, fault_lines, ids_of, is_at, is_good_at, is_other_at, is_renumbered, item_lines, line_for, place_key, reason_among, reason_in, record_line, was_exported, at_number, AreNumbered, HasPlaces, IsKnownIn};
+ghost use Rattle.field_faults.specs.Lines.{
+  bad_line,
+  fault_lines,
+  ids_of,
+  is_at,
+  is_good_at,
+  is_other_at,
+  is_renumbered,
+  item_lines,
+  line_for,
+  place_key,
+  reason_among,
+  reason_in,
+  record_line,
+  was_exported,
+  at_number,
+  AreNumbered,
+  HasPlaces,
+  IsKnownIn,
+};
 
 use crate::reasons::{Reason, reason_of};
 use field_changes::held::{BadRecord, Export, Held, HeldItem};
@@ -71,7 +105,8 @@ fn sign(number: i64) -> u64
 
 /// Notes a key, where what has it fits.
 fn note_key(places: &mut BTreeSet<[u64; 6]>, key: [u64; 6], fits: bool) -> Result<(), OutOfMemory>
-    ensures { IfOk result (λ _. (q : List ℕ) → contains (slice_cmp nat_cmp) places.new q ≡ (contains (slice_cmp nat_cmp) places.old q || (bytes_eq key q && fits))) }
+    ensures { IfOk result (λ _. (q : List ℕ) → contains (slice_cmp nat_cmp) places.new q
+        ≡ (contains (slice_cmp nat_cmp) places.old q || (bytes_eq key q && fits))) }
 {
     if !fits {
         return Ok(());
@@ -87,8 +122,10 @@ fn note_place(
     item: &HeldItem,
 ) -> Result<(), OutOfMemory>
     requires { IsTrue (is_good_frame frame.now) }
-    ensures { IfOk result (λ _. (zoom column row : ℤ) → contains (slice_cmp nat_cmp) places.new (place_key zoom column row)
-        ≡ (contains (slice_cmp nat_cmp) places.old (place_key zoom column row) || is_good_at frame.now zoom column row item.now)) }
+    ensures { IfOk result (λ _. (zoom column row : ℤ)
+        → contains (slice_cmp nat_cmp) places.new (place_key zoom column row)
+        ≡ (contains (slice_cmp nat_cmp) places.old (place_key zoom column row)
+        || is_good_at frame.now zoom column row item.now)) }
 {
     match &item.content {
         Content::Tile {
@@ -127,7 +164,8 @@ fn is_taken(place: (i64, i64, i64), bytes: &[u8], items: &[Item]) -> bool
 
 /// The same, where nothing is to be taken away.
 fn is_taken_with(judge: &Judge<'_>, place: (i64, i64, i64), bytes: &[u8]) -> bool
-    ensures { result ≡ (judge.now.more && list_any (is_other_at place.0 place.1 place.2 bytes.now) judge.now.items.now) }
+    ensures { result ≡ (judge.now.more
+        && list_any (is_other_at place.0 place.1 place.2 bytes.now) judge.now.items.now) }
 {
     judge.more && is_taken(place, bytes, judge.items)
 }
@@ -243,7 +281,8 @@ fn reason_among(
 ) -> Option<Reason>
     requires { AreNumbered judge.now.items.now numbered.now }
     ensures { (before : List ModelHeld) → HasPlaces judge.now.frame.now before places.now
-        → result ≡ reason_among judge.now.frame.now judge.now.items.now judge.now.more exported before item.now item.now.content }
+        → result ≡ reason_among judge.now.frame.now judge.now.items.now judge.now.more exported
+        before item.now item.now.content }
 {
     match &item.content {
         Content::Tile {

@@ -9,5 +9,7 @@ use Rattle.field_faults.proofs.lines.known_of.Goals as goal
 
 pub loop-item-preserved : goal.loop-item-preserved
 loop-item-preserved c =
-    any_more (λ q x. bytes_eq ((λ (i : Item). i.identity) x) q) (contains (slice_cmp nat_cmp) c.loop-item.known) (contains (slice_cmp nat_cmp) c.insert.new.self) c.args.items.now c.loop-item.item-index c.item-item.result c.loop-item-test.true c.item-item.is c.loop-item.invariant
+    any_more (λ q x. bytes_eq ((λ (i : Item). i.identity) x) q) (contains (slice_cmp nat_cmp) c.loop-item.known)
+    (contains (slice_cmp nat_cmp) c.insert.new.self) c.args.items.now c.loop-item.item-index c.item-item.result
+    c.loop-item-test.true c.item-item.is c.loop-item.invariant
     (λ q. put_in c.loop-item.known c.insert.new.self c.item-item.result.identity c.in_ok-insert.ensures.updates q)

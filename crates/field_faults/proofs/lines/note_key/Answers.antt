@@ -11,4 +11,6 @@ use Rattle.field_faults.proofs.lines.note_key.Goals as goal
 pub returns : goal.returns
 returns c = λ q.
     let fit : c.args.fits ≡ true = search rules in
-    put_in c.args.places.now c.insert.new.self c.args.key c.in_ok-insert.ensures.updates q ∙ ap (λ b. contains (slice_cmp nat_cmp) c.args.places.now q || b) (where_fit (bytes_eq c.args.key q) c.args.fits fit)
+    put_in c.args.places.now c.insert.new.self c.args.key c.in_ok-insert.ensures.updates q
+    ∙ ap (λ b. contains (slice_cmp nat_cmp) c.args.places.now q || b)
+    (where_fit (bytes_eq c.args.key q) c.args.fits fit)

@@ -20,10 +20,13 @@ returns-in_ok-note_key-in-Tile c =
     let key = simp (to_z-of_z, zoom, column, row) at c.place_key.ensures in
     let fit : c.is_none-fits.result ≡ is_none (reason_of c.args.frame.now c.args.item.now.content) = search rules in
     noted c.args.frame.now c.args.item.now c.in-Tile.zoom c.in-Tile.column c.in-Tile.row c.in-Tile.bytes c.in-Tile.is
-    c.args.places.now c.note_key.new.places c.place_key.result c.is_none-fits.result key fit c.in_ok-note_key-in-Tile.ensures
+    c.args.places.now c.note_key.new.places c.place_key.result c.is_none-fits.result key fit
+    c.in_ok-note_key-in-Tile.ensures
 
 pub returns-in-Media : goal.returns-in-Media
-returns-in-Media c = λ zoom column row. no_tile c.args.frame.now c.args.item.now _ c.in-Media.is (λ z k r. refl) (contains (slice_cmp nat_cmp) c.args.places.now (place_key zoom column row)) zoom column row
+returns-in-Media c = λ zoom column row. no_tile c.args.frame.now c.args.item.now _ c.in-Media.is (λ z k r. refl)
+    (contains (slice_cmp nat_cmp) c.args.places.now (place_key zoom column row)) zoom column row
 
 pub returns-in-Row : goal.returns-in-Row
-returns-in-Row c = λ zoom column row. no_tile c.args.frame.now c.args.item.now _ c.in-Row.is (λ z k r. refl) (contains (slice_cmp nat_cmp) c.args.places.now (place_key zoom column row)) zoom column row
+returns-in-Row c = λ zoom column row. no_tile c.args.frame.now c.args.item.now _ c.in-Row.is (λ z k r. refl)
+    (contains (slice_cmp nat_cmp) c.args.places.now (place_key zoom column row)) zoom column row

@@ -20,8 +20,11 @@ returns-in-Tile c = λ before has.
     let with = simp (to_z-of_z, zoom, column, row) at (rw c.as_slice.ensures at c.is_taken_with-taken.ensures) in
     let judge = c.args.judge.now in
     c.tile_reason.ensures
-    ∙ of_tile judge.frame.now judge.items.now judge.more c.args.exported before c.args.item.now c.in-Tile.zoom c.in-Tile.column c.in-Tile.row c.in-Tile.bytes c.in-Tile.is c.contains-twice.result c.is_taken_with-taken.result
-    (c.contains-twice.ensures ∙ ap (contains (slice_cmp nat_cmp) c.args.places.now) key ∙ has c.in-Tile.zoom c.in-Tile.column c.in-Tile.row) with
+    ∙ of_tile judge.frame.now judge.items.now judge.more c.args.exported before c.args.item.now c.in-Tile.zoom
+    c.in-Tile.column c.in-Tile.row c.in-Tile.bytes c.in-Tile.is c.contains-twice.result
+    c.is_taken_with-taken.result
+    (c.contains-twice.ensures ∙ ap (contains (slice_cmp nat_cmp) c.args.places.now) key
+    ∙ has c.in-Tile.zoom c.in-Tile.column c.in-Tile.row) with
 
 pub returns-in-Media : goal.returns-in-Media
 returns-in-Media c = λ before has.
@@ -30,7 +33,8 @@ returns-in-Media c = λ before has.
     let ids : c.as_slice-ids.result.now ≡ ids_of (kind_of c.args.item.now.content) judge.items.now =
     c.as_slice-ids.ensures.value ∙ numbers.media ∙ ap (λ k. ids_of (kind_of k) judge.items.now) (sym c.in-Media.is) in
     c.number_reason.ensures
-    ∙ of_number judge.frame.now judge.items.now judge.more c.args.exported before c.args.item.now _ c.in-Media.is c.is_renumbered_in.result
+    ∙ of_number judge.frame.now judge.items.now judge.more c.args.exported before c.args.item.now _ c.in-Media.is
+    c.is_renumbered_in.result
     (c.is_renumbered_in.ensures judge.items.now ids numbers.known) refl
 
 pub returns-in-Row : goal.returns-in-Row
@@ -38,7 +42,9 @@ returns-in-Row c = λ before has.
     let judge = c.args.judge.now in
     let numbers = c.requires in
     let ids : c.as_slice-ids-in-Row.result.now ≡ ids_of (kind_of c.args.item.now.content) judge.items.now =
-    c.as_slice-ids-in-Row.ensures.value ∙ numbers.rows ∙ ap (λ k. ids_of (kind_of k) judge.items.now) (sym c.in-Row.is) in
+    c.as_slice-ids-in-Row.ensures.value ∙ numbers.rows ∙ ap (λ k. ids_of (kind_of k) judge.items.now)
+    (sym c.in-Row.is) in
     c.number_reason-in-Row.ensures
-    ∙ of_number judge.frame.now judge.items.now judge.more c.args.exported before c.args.item.now _ c.in-Row.is c.is_renumbered_in-in-Row.result
+    ∙ of_number judge.frame.now judge.items.now judge.more c.args.exported before c.args.item.now _ c.in-Row.is
+    c.is_renumbered_in-in-Row.result
     (c.is_renumbered_in-in-Row.ensures judge.items.now ids numbers.known) refl

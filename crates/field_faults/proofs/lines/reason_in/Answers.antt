@@ -6,11 +6,13 @@ use Rattle.field_faults.proofs.lines.reason_in.Goals as goal
 pub returns-in-Some : goal.returns-in-Some
 returns-in-Some c = λ before has.
     let h = c.args.item.now in
-    let among = reason_among c.args.judge.now.frame.now c.args.judge.now.items.now c.args.judge.now.more c.args.exported before h h.content in
+    let among = reason_among c.args.judge.now.frame.now c.args.judge.now.items.now c.args.judge.now.more
+    c.args.exported before h h.content in
     sym (ap (λ o. reason_or o among) (sym c.reason_of.ensures ∙ c.in-Some.is))
 
 pub returns-in-None : goal.returns-in-None
 returns-in-None c = λ before has.
     let h = c.args.item.now in
-    let among = reason_among c.args.judge.now.frame.now c.args.judge.now.items.now c.args.judge.now.more c.args.exported before h h.content in
+    let among = reason_among c.args.judge.now.frame.now c.args.judge.now.items.now c.args.judge.now.more
+    c.args.exported before h h.content in
     c.reason_among.ensures before has ∙ sym (ap (λ o. reason_or o among) (sym c.reason_of.ensures ∙ c.in-None.is))
