@@ -1,6 +1,21 @@
 -- The text of a list is read as the requests that it was written of.
 use Rattle.std.proofs.Common.{◌≡◌, inl, arith, refl, ℕ, List, ◌∷◌, ◌++◌, Some, None}
-use Rattle.std.specs.Prelude.{ℤ, pos, negsuc, suc, Bool, true, false, [], length, map, codes, nat_lt, FitsSigned, Option}
+use Rattle.std.specs.Prelude.{
+  ℤ,
+  pos,
+  negsuc,
+  suc,
+  Bool,
+  true,
+  false,
+  [],
+  length,
+  map,
+  codes,
+  nat_lt,
+  FitsSigned,
+  Option,
+}
 use Rattle.std.specs.Fmt.{signed_decimal}
 use Rattle.std.specs.Int.{w64}
 use Rattle.std.specs.List.{AllByRecursion, AllZip, list_all}
@@ -52,7 +67,8 @@ uuid_is_text id = IsUtf8-from_ascii (uuid_text id) (hyphenated_ascii lower id (i
 
 number_is_text : (z : ℤ) → FitsSigned w64 z → IsUtf8 (signed_decimal z)
 number_is_text (pos n) fits = IsUtf8-from_ascii (signed_decimal (pos n)) (IsAscii-decimal n (omega (arith, ints, fits)))
-number_is_text (negsuc n) fits = IsUtf8-from_ascii (signed_decimal (negsuc n)) (IsAscii-cons 45 _ (omega arith) (IsAscii-decimal (suc n) (omega (arith, ints, fits))))
+number_is_text (negsuc n) fits = IsUtf8-from_ascii (signed_decimal (negsuc n))
+    (IsAscii-cons 45 _ (omega arith) (IsAscii-decimal (suc n) (omega (arith, ints, fits))))
 
 mapping_is_text : (m : Mapping) → IsUtf8 (mapping_word m)
 mapping_is_text TilesMedia = plain (mapping_word TilesMedia) refl
@@ -114,17 +130,20 @@ four_blank more = blank (three_blank more)
 
 content_texts : (c : Content) → HasContentTypes c → AreTexts (content_fields c)
 content_texts (Tile zoom column row bytes) is =
-    text (plain (codes "tile") refl) (text (number_is_text zoom is.0) (text (number_is_text column is.1) (text (number_is_text row is.2)
+    text (plain (codes "tile") refl)
+    (text (number_is_text zoom is.0) (text (number_is_text column is.1) (text (number_is_text row is.2)
     (four_blank (three_blank (text (IsUtf8-encode_lower bytes) no_more))))))
 content_texts (Media content_type bytes) is =
-    text (plain (codes "media") refl) (blank (four_blank (four_blank (text is.0 (text (IsUtf8-encode_lower bytes) no_more)))))
+    text (plain (codes "media") refl)
+    (blank (four_blank (four_blank (text is.0 (text (IsUtf8-encode_lower bytes) no_more)))))
 content_texts (Row x y code label) is =
     text (plain (codes "row") refl) (blank (four_blank (text (number_is_text x is.0) (text (number_is_text y is.1)
     (text (number_is_text code is.2) (blank (text is.3 (blank no_more))))))))
 
 command_texts : (c : Command) → HasCommandTypes c → AreTexts (command_fields c)
 command_texts (Add p identity content) is =
-    text (plain (codes "add") refl) (text (uuid_is_text p) (text (uuid_is_text identity) (blank (content_texts content is.2))))
+    text (plain (codes "add") refl)
+    (text (uuid_is_text p) (text (uuid_is_text identity) (blank (content_texts content is.2))))
 command_texts (Delete p identity) is =
     text (plain (codes "delete") refl) (text (uuid_is_text p) (text (uuid_is_text identity)
     (blank (four_blank (four_blank (four_blank no_more))))))
@@ -136,7 +155,8 @@ command_texts (Unlink p mapping base other) is =
     (text (mapping_is_text mapping) (three_blank (four_blank (four_blank no_more)))))))
 command_texts (Split p child mode rect) is =
     text (plain (codes "split") refl) (text (uuid_is_text p) (blank (text (uuid_is_text child) (text (mode_is_text mode)
-    (text (number_is_text rect.zoom is.2.0) (text (number_is_text rect.column is.2.1) (text (number_is_text rect.row is.2.3)
+    (text (number_is_text rect.zoom is.2.0)
+    (text (number_is_text rect.column is.2.1) (text (number_is_text rect.row is.2.3)
     (text (number_is_text rect.last_column is.2.2) (text (number_is_text rect.last_row is.2.4)
     (three_blank (three_blank no_more)))))))))))
 command_texts (Merge child into ticket) is =
@@ -145,8 +165,10 @@ command_texts (Merge child into ticket) is =
 
 -- ---- one request
 
-is_hex : (fields : List (List ℕ)) (bytes : List ℕ) → IsBytes bytes → field_at fields 17 ≡ Some (encode_lower bytes) → IsHexAt fields 17 bytes
-is_hex fields bytes is there = record { text = encode_lower bytes; there = there; digits = decode_of-encode_lower bytes is }
+is_hex : (fields : List (List ℕ)) (bytes : List ℕ) → IsBytes bytes → field_at fields 17 ≡ Some (encode_lower bytes)
+    → IsHexAt fields 17 bytes
+is_hex fields bytes is there =
+    record { text = encode_lower bytes; there = there; digits = decode_of-encode_lower bytes is }
 
 module _ (id at : List ℕ) (id_is : IsUuid id) (at_is : IsUtf8 at) where
   abbrev fields_for : Command → List (List ℕ)
@@ -160,7 +182,13 @@ module _ (id at : List ℕ) (id_is : IsUuid id) (at_is : IsUtf8 at) where
   has_content p identity (Tile zoom column row bytes) is =
       let fields = fields_for (Add p identity (Tile zoom column row bytes)) in (
         refl,
-        ((is.0, refl), (is.1, refl), (is.2, refl), is_hex fields bytes is.3 refl, none fields (10 ∷ 11 ∷ 12 ∷ 13 ∷ 14 ∷ 16 ∷ []) refl),
+        (
+          (is.0, refl),
+          (is.1, refl),
+          (is.2, refl),
+          is_hex fields bytes is.3 refl,
+          none fields (10 ∷ 11 ∷ 12 ∷ 13 ∷ 14 ∷ 16 ∷ []) refl,
+        ),
       )
   has_content p identity (Media content_type bytes) is =
       let fields = fields_for (Add p identity (Media content_type bytes)) in
@@ -175,20 +203,31 @@ module _ (id at : List ℕ) (id_is : IsUuid id) (at_is : IsUtf8 at) where
       none (fields_for (Add p identity (Tile zoom column row bytes))) (5 ∷ 15 ∷ []) refl
   added_blank p identity (Media content_type bytes) =
       none (fields_for (Add p identity (Media content_type bytes))) (5 ∷ 15 ∷ []) refl
-  added_blank p identity (Row x y code label) = none (fields_for (Add p identity (Row x y code label))) (5 ∷ 15 ∷ []) refl
+  added_blank p identity (Row x y code label) =
+      none (fields_for (Add p identity (Row x y code label))) (5 ∷ 15 ∷ []) refl
 
   is_command : (c : Command) → HasCommandTypes c → IsCommand (fields_for c) c
   unfolding field_at is_empty
-  is_command (Add p identity content) is =
-      (refl, (reads_uuid p is.0, reads_uuid identity is.1, has_content p identity content is.2, added_blank p identity content))
+  is_command (Add p identity content) is = (
+    refl,
+    (
+      reads_uuid p is.0,
+      reads_uuid identity is.1,
+      has_content p identity content is.2,
+      added_blank p identity content,
+    ),
+  )
   is_command (Delete p identity) is =
-      let empty = none (fields_for (Delete p identity)) (5 ∷ 6 ∷ 7 ∷ 8 ∷ 9 ∷ 10 ∷ 11 ∷ 12 ∷ 13 ∷ 14 ∷ 15 ∷ 16 ∷ 17 ∷ []) refl in
+      let empty = none (fields_for (Delete p identity))
+      (5 ∷ 6 ∷ 7 ∷ 8 ∷ 9 ∷ 10 ∷ 11 ∷ 12 ∷ 13 ∷ 14 ∷ 15 ∷ 16 ∷ 17 ∷ []) refl in
       (refl, (reads_uuid p is.0, reads_uuid identity is.1, empty))
   is_command (Link p mapping base other) is =
-      let empty = none (fields_for (Link p mapping base other)) (7 ∷ 8 ∷ 9 ∷ 10 ∷ 11 ∷ 12 ∷ 13 ∷ 14 ∷ 15 ∷ 16 ∷ 17 ∷ []) refl in
+      let empty = none (fields_for (Link p mapping base other))
+      (7 ∷ 8 ∷ 9 ∷ 10 ∷ 11 ∷ 12 ∷ 13 ∷ 14 ∷ 15 ∷ 16 ∷ 17 ∷ []) refl in
       (refl, (reads_uuid p is.0, refl, reads_uuid base is.1, reads_uuid other is.2, empty))
   is_command (Unlink p mapping base other) is =
-      let empty = none (fields_for (Unlink p mapping base other)) (7 ∷ 8 ∷ 9 ∷ 10 ∷ 11 ∷ 12 ∷ 13 ∷ 14 ∷ 15 ∷ 16 ∷ 17 ∷ []) refl in
+      let empty = none (fields_for (Unlink p mapping base other))
+      (7 ∷ 8 ∷ 9 ∷ 10 ∷ 11 ∷ 12 ∷ 13 ∷ 14 ∷ 15 ∷ 16 ∷ 17 ∷ []) refl in
       (refl, (reads_uuid p is.0, refl, reads_uuid base is.1, reads_uuid other is.2, empty))
   is_command (Split p child mode rect) is =
       let r = is.2 in
@@ -203,7 +242,8 @@ module _ (id at : List ℕ) (id_is : IsUuid id) (at_is : IsUtf8 at) where
         ),
       )
   is_command (Merge child into ticket) is =
-      let empty = none (fields_for (Merge child into ticket)) (4 ∷ 6 ∷ 7 ∷ 8 ∷ 9 ∷ 10 ∷ 11 ∷ 12 ∷ 13 ∷ 14 ∷ 16 ∷ 17 ∷ []) refl in
+      let empty = none (fields_for (Merge child into ticket))
+      (4 ∷ 6 ∷ 7 ∷ 8 ∷ 9 ∷ 10 ∷ 11 ∷ 12 ∷ 13 ∷ 14 ∷ 16 ∷ 17 ∷ []) refl in
       (refl, (reads_uuid child is.0, reads_uuid into is.1, (is.2, refl), empty))
 
   columns_of : (c : Command) → length (fields_for c) ≡ 18
@@ -223,16 +263,23 @@ module _ (id at : List ℕ) (id_is : IsUuid id) (at_is : IsUtf8 at) where
     record { columns = columns_of c; id = reads_uuid id id_is; at = refl; command = is_command c is },
   )
 
-all_ask : (requests : List Request) → AllByRecursion HasRequestTypes requests → AllZip Asks (map request_fields requests) requests
+all_ask : (requests : List Request) → AllByRecursion HasRequestTypes requests
+    → AllZip Asks (map request_fields requests) requests
 all_ask [] all = tt
 all_ask (r ∷ rs) all = (asks r.id r.at all.0.0 all.0.1 r.command all.0.2, all_ask rs all.1)
 
 -- ---- the text
 
-reached : (rs : List Request) → Reached default_config st.StartRecord (records_text rs) (map request_fields rs) st.StartRecord []
+reached : (rs : List Request) → Reached default_config st.StartRecord (records_text rs) (map request_fields rs)
+    st.StartRecord []
 unfolding Reached
 reached [] = (refl, refl)
-reached (r ∷ rs) = ((request_fields r, st.StartRecord, records_text rs), read-write-many (uuid_text r.id) r.at (command_fields r.command) (records_text rs), refl, reached rs)
+reached (r ∷ rs) = (
+  (request_fields r, st.StartRecord, records_text rs),
+  read-write-many (uuid_text r.id) r.at (command_fields r.command) (records_text rs),
+  refl,
+  reached rs,
+)
 
 no_mark : (rest : List ℕ) → strip_bom (row_text default_writer header ++ rest) ≡ row_text default_writer header ++ rest
 unfolding strip_bom escaped fields_text is_blank
@@ -242,9 +289,15 @@ none_left : next_record default_config st.StartRecord [] [] [] ≡ None
 unfolding next_record
 none_left = refl
 
-all_reached : (rs : List Request) → Reached default_config st.StartRecord (list_text rs) (header ∷ map request_fields rs) st.StartRecord []
+all_reached : (rs : List Request)
+    → Reached default_config st.StartRecord (list_text rs) (header ∷ map request_fields rs) st.StartRecord []
 unfolding Reached
-all_reached rs = ((header, st.StartRecord, records_text rs), read-write-many (codes "request") (codes "at") _ (records_text rs), refl, reached rs)
+all_reached rs = (
+  (header, st.StartRecord, records_text rs),
+  read-write-many (codes "request") (codes "at") _ (records_text rs),
+  refl,
+  reached rs,
+)
 
 pub written_is_read : WrittenIsRead
 written_is_read requests all = (

@@ -16,12 +16,14 @@ use Rattle.request_writing.specs.RequestTexts.{list_text}
 
 -- numbers have 64 bits, texts are UTF-8, and data is of bytes
 abbrev pub HasContentTypes : Content → Type 0
-HasContentTypes (Tile zoom column row bytes) = FitsSigned w64 zoom × FitsSigned w64 column × FitsSigned w64 row × IsBytes bytes
+HasContentTypes (Tile zoom column row bytes) = FitsSigned w64 zoom × FitsSigned w64 column
+    × FitsSigned w64 row × IsBytes bytes
 HasContentTypes (Media content_type bytes) = IsUtf8 content_type × IsBytes bytes
 HasContentTypes (Row x y code label) = FitsSigned w64 x × FitsSigned w64 y × FitsSigned w64 code × IsUtf8 label
 
 abbrev pub HasRectTypes : Rect → Type 0
-HasRectTypes r = FitsSigned w64 r.zoom × FitsSigned w64 r.column × FitsSigned w64 r.last_column × FitsSigned w64 r.row × FitsSigned w64 r.last_row
+HasRectTypes r = FitsSigned w64 r.zoom × FitsSigned w64 r.column × FitsSigned w64 r.last_column
+    × FitsSigned w64 r.row × FitsSigned w64 r.last_row
 
 abbrev pub HasCommandTypes : Command → Type 0
 HasCommandTypes (Add p identity content) = IsUuid p × IsUuid identity × HasContentTypes content
@@ -37,4 +39,5 @@ HasRequestTypes r = IsUuid r.id × IsUtf8 r.at × HasCommandTypes r.command
 
 -- the text of a list of requests is a list of these requests
 abbrev pub WrittenIsRead : Type 0
-WrittenIsRead = (requests : List Request) → AllByRecursion HasRequestTypes requests → IsList (list_text requests) requests
+WrittenIsRead = (requests : List Request) → AllByRecursion HasRequestTypes requests
+    → IsList (list_text requests) requests
