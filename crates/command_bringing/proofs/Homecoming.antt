@@ -30,7 +30,17 @@ use Rattle.command_folder.specs.declared.endings.Ending.{Ending}
 use Rattle.command_folder.specs.declared.endings.Ending.TheVariants.{NoRequest, Usual}
 use Rattle.command_field.specs.Answers.{AnswersFile, AnswersGiven, AnswersLive, AnswersText, AreHeldIn, head_answer}
 use Rattle.command_field.specs.declared.asking.Answer.{Answer}
-use Rattle.command_field.specs.declared.asking.Answer.TheVariants.{Asked, NoSuchPackage, NoList, OtherPackage, Stale, OtherSystem, OtherFrame, Items, TwoAlike}
+use Rattle.command_field.specs.declared.asking.Answer.TheVariants.{
+  Asked,
+  NoSuchPackage,
+  NoList,
+  OtherPackage,
+  Stale,
+  OtherSystem,
+  OtherFrame,
+  Items,
+  TwoAlike,
+}
 use Rattle.command_field.specs.declared.asking.Ask.{Ask}
 use Rattle.command_bringing.specs.Brings.{Brings, EndsAnswer, IsBroughtHome, PrintsText, import_ending}
 use Rattle.command_bringing.specs.Telling.{refusal_text}
@@ -51,7 +61,8 @@ no_import (Unread read.Read) e = cc
 no_import (Stopped n fault) e = cc
 no_import Unwritten e = cc
 
-not_printed : {W : Type 0} (writer writer' : W) (before after : Option (List ℕ)) (text : List ℕ) (ending : Ending) → PrintsText writer writer' before after text NoRequest ending → ending ≡ done → ⊥
+not_printed : {W : Type 0} (writer writer' : W) (before after : Option (List ℕ)) (text : List ℕ) (ending : Ending)
+    → PrintsText writer writer' before after text NoRequest ending → ending ≡ done → ⊥
 not_printed writer writer' before after text ending it e = elim it [
   | inl printed ↦ elim printed [
     | inl x ↦ let wrong : NoRequest ≡ done = sym x.0 ∙ e in absurd (cc)
@@ -62,7 +73,8 @@ not_printed writer writer' before after text ending it e = elim it [
 
 -- ---- the requests that were answered
 
-module _ {S : Type 0} (g : Ghosts S) (a : Ask) (text : Option (List ℕ)) (timed : is_moment a.at.now ≡ true) (requests : Vec Request Global) where
+module _ {S : Type 0} (g : Ghosts S) (a : Ask) (text : Option (List ℕ)) (timed : is_moment a.at.now ≡ true)
+    (requests : Vec Request Global) where
   -- they were made of what the text lists
   record WasAnswered (w : World) : Type 0 where
     pub file : Held
@@ -84,16 +96,25 @@ module _ {S : Type 0} (g : Ghosts S) (a : Ask) (text : Option (List ℕ)) (timed
       | inl unlisted ↦ let wrong : Asked requests ≡ NoList = unlisted.0 in absurd (cc)
       | inr it ↦ elim it.2 [
         | inl met ↦ absurd (no_head (ticket w a.«package») met.0 met.2)
-        | inr answered ↦ record { file = it.0; listed = it.1; live = here.0; none = answered.1.0; changes = answered.1.1 }
+        | inr answered ↦ record {
+          file = it.0;
+          listed = it.1;
+          live = here.0;
+          none = answered.1.0;
+          changes = answered.1.1;
+        }
       ]
     ]
   ]
 
-  module _ (old read new : Seen S) (failed fails : ℕ) (before after : Option (List ℕ)) (untouched : IsUntouched g old read)
+  module _ (old read new : Seen S) (failed fails : ℕ) (before after : Option (List ℕ))
+      (untouched : IsUntouched g old read)
       (told : AllClean g read.members → (w : World) → StandsFor g old w → AnswersText w a text (Asked requests))
       (x : Unit {0}) (it : IsImported g requests.items read new failed fails before after (Ok x)) where
     ran_whole : IsRun g requests.items read it.replies new failed fails
-    ran_whole = subst (λ qs. IsRun g qs read it.replies new failed fails) (ap (λ n. take n requests.items) it.written.0 ∙ take_all (length requests.items) requests.items (omega arith)) it.ran
+    ran_whole = subst (λ qs. IsRun g qs read it.replies new failed fails)
+        (ap (λ n. take n requests.items) it.written.0 ∙ take_all (length requests.items) requests.items (omega arith))
+        it.ran
 
     still_stands : (w : World) → StandsFor g old w → StandsFor g read w
     still_stands w stands = elim untouched [
@@ -101,7 +122,8 @@ module _ {S : Type 0} (g : Ghosts S) (a : Ask) (text : Option (List ℕ)) (timed
       | inr only ↦ only.stands w stands
     ]
 
-    came_home : (gone : List (HeldStore S)) × (AllClean g new.members → AreClean g gone → (w : World) → StandsFor g old w → (next : World) × StandsFor g new next × IsHome a text w next)
+    came_home : (gone : List (HeldStore S)) × (AllClean g new.members → AreClean g gone → (w : World)
+        → StandsFor g old w → (next : World) × StandsFor g new next × IsHome a text w next)
     came_home = (
       ran_whole.gone,
       (λ clean dropped w stands.
@@ -114,42 +136,66 @@ module _ {S : Type 0} (g : Ghosts S) (a : Ask) (text : Option (List ℕ)) (timed
               listed = was.listed;
               requests = requests.items;
               changes = was.changes;
-              holds = λ free. (fit_file_comes_home w a.«package» (ticket w a.«package») a.at.now a.more was.file requests.items it.replies run.0 stands.members.register was.live timed was.none was.changes free run.1 it.written.1).1;
+              holds = λ free.
+                  (fit_file_comes_home w a.«package» (ticket w a.«package») a.at.now a.more was.file requests.items
+                  it.replies run.0 stands.members.register was.live timed was.none was.changes free run.1
+                  it.written.1).1;
             },
           )),
     )
 
 -- ---- whatever was answered
 
-module _ {S : Type 0} (g : Ghosts S) {W : Type 0} (writer writer' : W) (before after : Option (List ℕ)) (a : Ask) (text : Option (List ℕ)) (old read new : Seen S) (failed fails : ℕ) (ending : Ending) (is_done : ending ≡ done) (timed : is_moment a.at.now ≡ true)
+module _ {S : Type 0} (g : Ghosts S) {W : Type 0} (writer writer' : W) (before after : Option (List ℕ)) (a : Ask)
+    (text : Option (List ℕ)) (old read new : Seen S) (failed fails : ℕ) (ending : Ending) (is_done : ending ≡ done)
+    (timed : is_moment a.at.now ≡ true)
     (untouched : IsUntouched g old read) where
   abbrev Home : Type 0
-  Home = (gone : List (HeldStore S)) × (AllClean g new.members → AreClean g gone → (w : World) → StandsFor g old w → (next : World) × StandsFor g new next × IsHome a text w next)
+  Home = (gone : List (HeldStore S)) × (AllClean g new.members → AreClean g gone → (w : World) → StandsFor g old w
+      → (next : World) × StandsFor g new next × IsHome a text w next)
 
-  carried_home : (requests : Vec Request Global) (r : Result (Unit {0}) ImportFault) → (AllClean g read.members → (w : World) → StandsFor g old w → AnswersText w a text (Asked requests))
+  carried_home : (requests : Vec Request Global) (r : Result (Unit {0}) ImportFault)
+      → (AllClean g read.members → (w : World) → StandsFor g old w → AnswersText w a text (Asked requests))
       → ending ≡ import_ending r → IsCarried g requests.items read new failed fails before after r → Home
-  carried_home requests (Ok x) told end it = came_home g a text timed requests old read new failed fails before after untouched told x it
+  carried_home requests (Ok x) told end it =
+      came_home g a text timed requests old read new failed fails before after untouched told x it
   carried_home requests (Err fault) told end it = absurd (no_import fault (sym end ∙ is_done))
 
-  answered_home : (answer : Answer) → (AllClean g read.members → (w : World) → StandsFor g old w → AnswersText w a text answer)
+  answered_home : (answer : Answer)
+      → (AllClean g read.members → (w : World) → StandsFor g old w → AnswersText w a text answer)
       → EndsAnswer g writer writer' before after CarryOut answer read new failed fails ending → Home
   answered_home (Asked requests) told ends = carried_home requests ends.0 told ends.1 ends.2
-  answered_home NoSuchPackage told ends = absurd (not_printed writer writer' before after (refusal_text NoSuchPackage) ending ends.1 is_done)
-  answered_home NoList told ends = absurd (not_printed writer writer' before after (refusal_text NoList) ending ends.1 is_done)
-  answered_home OtherPackage told ends = absurd (not_printed writer writer' before after (refusal_text OtherPackage) ending ends.1 is_done)
-  answered_home (Stale n) told ends = absurd (not_printed writer writer' before after (refusal_text (Stale n)) ending ends.1 is_done)
-  answered_home OtherSystem told ends = absurd (not_printed writer writer' before after (refusal_text OtherSystem) ending ends.1 is_done)
-  answered_home OtherFrame told ends = absurd (not_printed writer writer' before after (refusal_text OtherFrame) ending ends.1 is_done)
-  answered_home (Items lines) told ends = absurd (not_printed writer writer' before after (refusal_text (Items lines)) ending ends.1 is_done)
-  answered_home TwoAlike told ends = absurd (not_printed writer writer' before after (refusal_text TwoAlike) ending ends.1 is_done)
+  answered_home NoSuchPackage told ends =
+      absurd (not_printed writer writer' before after (refusal_text NoSuchPackage) ending ends.1 is_done)
+  answered_home NoList told ends =
+      absurd (not_printed writer writer' before after (refusal_text NoList) ending ends.1 is_done)
+  answered_home OtherPackage told ends =
+      absurd (not_printed writer writer' before after (refusal_text OtherPackage) ending ends.1 is_done)
+  answered_home (Stale n) told ends =
+      absurd (not_printed writer writer' before after (refusal_text (Stale n)) ending ends.1 is_done)
+  answered_home OtherSystem told ends =
+      absurd (not_printed writer writer' before after (refusal_text OtherSystem) ending ends.1 is_done)
+  answered_home OtherFrame told ends =
+      absurd (not_printed writer writer' before after (refusal_text OtherFrame) ending ends.1 is_done)
+  answered_home (Items lines) told ends =
+      absurd (not_printed writer writer' before after (refusal_text (Items lines)) ending ends.1 is_done)
+  answered_home TwoAlike told ends =
+      absurd (not_printed writer writer' before after (refusal_text TwoAlike) ending ends.1 is_done)
 
-module _ {S : Type 0} (g : Ghosts S) {W : Type 0} (writer writer' : W) (before after : Option (List ℕ)) (a : Ask) (text : Option (List ℕ)) (old new : Seen S) (failed fails : ℕ) (ending : Ending) where
-  pub answer_home : (purpose : Purpose) (answer : Answer) (read : Seen S) → IsUntouched g old read → (AllClean g read.members → (w : World) → StandsFor g old w → AnswersText w a text answer)
-      → EndsAnswer g writer writer' before after purpose answer read new failed fails ending → ComesHome g a text purpose old new ending
+module _ {S : Type 0} (g : Ghosts S) {W : Type 0} (writer writer' : W) (before after : Option (List ℕ)) (a : Ask)
+    (text : Option (List ℕ)) (old new : Seen S) (failed fails : ℕ) (ending : Ending) where
+  pub answer_home : (purpose : Purpose) (answer : Answer) (read : Seen S) → IsUntouched g old read
+      → (AllClean g read.members → (w : World) → StandsFor g old w → AnswersText w a text answer)
+      → EndsAnswer g writer writer' before after purpose answer read new failed fails ending
+      → ComesHome g a text purpose old new ending
   answer_home ShowList answer read untouched told ends = λ wrong. absurd (cc)
   answer_home ShowSummary answer read untouched told ends = λ wrong. absurd (cc)
-  answer_home CarryOut answer read untouched told ends = λ carries is_done timed. answered_home g writer writer' before after a text old read new failed fails ending is_done timed untouched answer told ends
+  answer_home CarryOut answer read untouched told ends = λ carries is_done timed. answered_home g writer writer'
+      before after a text old read new failed fails ending is_done timed untouched answer told ends
 
 -- memory or a store gave out
-pub stopped_home : {S : Type 0} (g : Ghosts S) (a : Ask) (text : Option (List ℕ)) (purpose : Purpose) (old new : Seen S) (ending : Ending) (o : Outcome) → ending ≡ Usual o → (Usual o ≡ Usual Done → ⊥) → ComesHome g a text purpose old new ending
-stopped_home g a text purpose old new ending o is differ = λ carries is_done timed. absurd (not_stopped ending o is differ is_done)
+pub stopped_home : {S : Type 0} (g : Ghosts S) (a : Ask) (text : Option (List ℕ)) (purpose : Purpose)
+    (old new : Seen S) (ending : Ending) (o : Outcome) → ending ≡ Usual o → (Usual o ≡ Usual Done → ⊥)
+    → ComesHome g a text purpose old new ending
+stopped_home g a text purpose old new ending o is differ = λ carries is_done timed.
+    absurd (not_stopped ending o is differ is_done)

@@ -40,7 +40,8 @@ module _ {S : Type 0} (g : Ghosts S) where
     -- Requests are carried out, as an import does it; so it is one of each text whose list they are.
     abbrev pub IsBroughtHome : List Request → Seen S → Seen S → ℕ → ℕ → Ending → Type 0
     IsBroughtHome requests old new failed fails ending =
-        (r : Result (Unit {0}) ImportFault) × (ending ≡ import_ending r) × IsCarried g requests old new failed fails before after r
+        (r : Result (Unit {0}) ImportFault) × (ending ≡ import_ending r)
+        × IsCarried g requests old new failed fails before after r
         × IsListOf requests (λ text. Imports g text old new failed fails writer writer' before after r)
 
     -- They are shown as a list or in short, and the world stays; or they are carried out.

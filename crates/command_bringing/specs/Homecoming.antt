@@ -18,8 +18,8 @@ use Rattle.command_field.specs.declared.asking.Ask.{Ask}
 use Rattle.command_bringing.specs.declared.bringing.Purpose.{Purpose}
 use Rattle.command_bringing.specs.declared.bringing.Purpose.TheVariants.{CarryOut}
 
--- From one world to the next: the text lists what a file holds, and these are the requests for it. Where what they add is
--- new and the limits are kept, the package holds what the file has, and nothing else changed.
+-- From one world to the next: the text lists what a file holds, and these are the requests for it. Where what they
+-- add is new and the limits are kept, the package holds what the file has, and nothing else changed.
 pub record IsHome (a : Ask) (text : Option (List ℕ)) (w next : World) : Type 0 where
   pub file : Held
   pub listed : AreHeldIn text (Some file)
@@ -28,8 +28,8 @@ pub record IsHome (a : Ask) (text : Option (List ℕ)) (w next : World) : Type 0
   pub holds : IsFree w a.«package» changes.parts requests
       → HoldsFile w next a.«package» (ticket w a.«package») a.at.now a.more file requests changes
 
--- Where a file was to be carried out, and the program ends as if all was done: so it is of each world that the value stood
--- for, and of one that it stands for then. gone has the stores that were dropped.
+-- Where a file was to be carried out, and the program ends as if all was done: so it is of each world that the
+-- value stood for, and of one that it stands for then. gone has the stores that were dropped.
 abbrev pub ComesHome : {S : Type 0} → Ghosts S → Ask → Option (List ℕ) → Purpose → Seen S → Seen S → Ending → Type 0
 ComesHome {S} g a text purpose old new ending = purpose ≡ CarryOut → ending ≡ done → is_moment a.at.now ≡ true →
     (gone : List (HeldStore S)) × (AllClean g new.members → AreClean g gone → (w : World) → StandsFor g old w
