@@ -45,7 +45,8 @@ module _ {W : Type 0} (writer writer' : W) (before after : Option (List ℕ)) wh
   TellsDrop (Err fault) ending = (ending ≡ stopped fault) × (writer' ≡ writer)
 
 module _ {S : Type 0} (g : Ghosts S) (d : Dropping) where
-  -- An item was dropped, or its requests were told, or it stays; where a store or memory gave out before, the world was only read.
+  -- An item was dropped, or its requests were told, or it stays;
+  -- where a store or memory gave out before, the world was only read.
   pub record DropsIn {W : Type 0} (old new : Seen S) (writer writer' : W) (before after : Option (List ℕ))
       (ending : Ending) (hint : Option Hint) : Type 0 where
     pub outcome : Result DropOutcome Fault

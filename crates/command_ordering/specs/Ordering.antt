@@ -15,7 +15,8 @@ use Rattle.commands.specs.declared.ordering.Purpose.{Purpose}
 use Rattle.command_ordering.specs.Folders.{OpensHinting}
 
 module _ {S : Type 0} (g : Ghosts S) (text : Option (List ℕ)) (o : Order) (purpose : Purpose) where
-  -- An order was done; then the world was read, if at all, and what comes nearest to a word of the verb is told, or nothing.
+  -- An order was done; then the world was read, if at all, and
+  -- what comes nearest to a word of the verb is told, or nothing.
   pub record HintsOrder {W : Type 0} (old new : Seen S) (writer writer' : W) (before after : Option (List ℕ))
       (ending : Ending) (hint : Option Hint) : Type 0 where
     pub mid : Seen S

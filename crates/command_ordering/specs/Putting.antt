@@ -44,7 +44,8 @@ module _ {W : Type 0} (contents : W → Option (List ℕ)) where
   -- how many were added and passed over; and behind it why no more were, if so
   abbrev pub TellsAdded : W → W → Counts → Result Unit AddFault → Ending → Type 0
   TellsAdded writer writer' counts (Ok done') ending =
-      PrintsLine writer writer' (contents writer) (contents writer') (counts_line counts.added counts.passed) done ending
+      PrintsLine writer writer' (contents writer) (contents writer')
+      (counts_line counts.added counts.passed) done ending
   TellsAdded writer writer' counts (Err fault) ending =
       (mid : W) × (told : Ending)
       × PrintsLine writer mid (contents writer) (contents mid) (counts_line counts.added counts.passed) done told
@@ -56,8 +57,10 @@ module _ {W : Type 0} (contents : W → Option (List ℕ)) where
   TellsTree writer writer' (Ok (tree.Added counts added)) ending = TellsAdded writer writer' counts added ending
   TellsTree writer writer' (Err fault) ending = (ending ≡ stopped fault) × (writer' ≡ writer)
 
-module _ {S : Type 0} (g : Ghosts S) (words : TreeWords) (files : List Place) {W : Type 0} (contents : W → Option (List ℕ)) where
-  -- The tiles were added, all or those before a fault; where a store or memory gave out before, the world was only read.
+module _ {S : Type 0} (g : Ghosts S) (words : TreeWords) (files : List Place) {W : Type 0}
+    (contents : W → Option (List ℕ)) where
+  -- The tiles were added, all or those before a fault; where a
+  -- store or memory gave out before, the world was only read.
   pub record PutsIn (old new : Seen S) (writer writer' : W) (ending : Ending) (hint : Option Hint) : Type 0 where
     pub outcome : Result TreeOutcome Fault
     pub made : MatchResult outcome (AddsNamed g words files old new) (λ fault. IsUntouched g old new)

@@ -9,8 +9,8 @@ use sqlite::Alter;
 use std::alloc::Global;
 use world::world::World;
 
-/// The word for the least area of a zoom that covers a box; `None` where the frame has no such zoom, or does not have all of the box, or there is
-/// nothing of it.
+/// The word for the least area of a zoom that covers a box; `None` where the frame has no such zoom, or does not
+/// have all of the box, or there is nothing of it.
 ///
 /// # Errors
 ///

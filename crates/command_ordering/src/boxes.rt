@@ -27,7 +27,8 @@ use store_shelf::shelf::Shelf;
 use uuid::Uuid;
 use world::world::World;
 
-/// A loan of what covers a box, from a package that is named, or else from the archive; under which identity and at which moment it is asked for.
+/// A loan of what covers a box, from a package that is named, or else from
+/// the archive; under which identity and at which moment it is asked for.
 #[derive(Clone, Copy)]
 pub struct BoxedLoan<'t> {
     pub id: Uuid,

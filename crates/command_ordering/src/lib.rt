@@ -1,5 +1,5 @@
-//! Verbs over a folder whose words name a package or an item by its first digits, and what is told where they name none; an item that is dropped, a tree
-//! of tiles, a loan of what covers a box.
+//! Verbs over a folder whose words name a package or an item by its first digits, and what is told where they name
+//! none; an item that is dropped, a tree of tiles, a loan of what covers a box.
 #![tactic(auto)]
 
 mod areas;

@@ -44,7 +44,8 @@ fn hint_after<'t, S: Alter + Drop>(
     }
 }
 
-/// Does an order in a world, as `order_in` does. Where the words say no request, what comes nearest to one of them is told beside it.
+/// Does an order in a world, as `order_in` does. Where the words say
+/// no request, what comes nearest to one of them is told beside it.
 pub fn hint_order_in<'t, S: Alter + Drop, H: Shelf<S>, R: Read + Drop, W: Write>(
     alloc: Global,
     world: &mut World<S>,
@@ -79,8 +80,8 @@ fn hint_order_with<'t, S: Alter + Drop, H: Shelf<S>, R: Read + Drop, W: Write>(
     (ending, hint, world.into_stores())
 }
 
-/// Opens a folder, and does an order over its world and the bytes of a reader, as `order_for` does. Where the words say no request, what comes
-/// nearest to one of them is told beside it.
+/// Opens a folder, and does an order over its world and the bytes of a reader, as `order_for` does. Where the words
+/// say no request, what comes nearest to one of them is told beside it.
 pub fn hint_order_for<'t, R: Read + Drop, W: Write>(
     rt: &HostRuntime,
     folder: &str,

@@ -3,7 +3,15 @@ ghost use Rattle.std.specs.Prelude.{◌≡◌};
 ghost use Rattle.command_folder.specs.Endings.{done};
 ghost use Rattle.command_lines.specs.Trees.{counts_line};
 ghost use Rattle.commands.specs.Orders.{PrintsLine};
-ghost use Rattle.command_ordering.specs.Putting.{PutsFor, PutsIn, EndsPut, TellsAdded, TellsFault, TellsTree, tree_hint};
+ghost use Rattle.command_ordering.specs.Putting.{
+  PutsFor,
+  PutsIn,
+  EndsPut,
+  TellsAdded,
+  TellsFault,
+  TellsTree,
+  tree_hint,
+};
 
 use crate::telling::{stopped, tell, tell_fault, tell_refused};
 use command_folder::endings::{DONE, Ending, NO_MEMORY};
@@ -93,7 +101,8 @@ fn hint_after<'t>(words: &TreeWords<'t>, outcome: &Result<TreeOutcome, Fault>) -
     }
 }
 
-/// Adds the tiles of files to the live package that a word names, and writes what came of it. Where it names none, what comes nearest is told beside it.
+/// Adds the tiles of files to the live package that a word names, and writes what came of it. Where it names none,
+/// what comes nearest is told beside it.
 pub fn put_tree_in<'t, S: Alter + Drop, H: Shelf<S>, N: Identities, F: Sheets, W: Write>(
     alloc: Global,
     world: &mut World<S>,
@@ -104,7 +113,8 @@ pub fn put_tree_in<'t, S: Alter + Drop, H: Shelf<S>, N: Identities, F: Sheets, W
     identities: &mut N,
     writer: &mut W,
 ) -> (Ending, Option<Hint<'t>>)
-    ensures { PutsIn S.Store words.now files.now (W.contents) world.old world.new writer.old writer.new result.0 result.1 }
+    ensures { PutsIn S.Store words.now files.now (W.contents) world.old world.new writer.old
+        writer.new result.0 result.1 }
 {
     let outcome = add_named(alloc, world, shelf, words, files, sheets, identities);
     let hint = hint_after(words, &outcome);
@@ -123,7 +133,8 @@ fn put_tree_with<'t, S: Alter + Drop, H: Shelf<S>, N: Identities, F: Sheets, W: 
     identities: &mut N,
     writer: &mut W,
 ) -> (Ending, Option<Hint<'t>>, Vec<Connection<S>>)
-    ensures { EndsPut S.Store words.now files.now (W.contents) world result.2.items writer.old writer.new result.0 result.1 }
+    ensures { EndsPut S.Store words.now files.now (W.contents) world result.2.items writer.old
+        writer.new result.0 result.1 }
 {
     let (ending, hint) = put_tree_in(
         alloc, &mut world, shelf, words, files, sheets, identities, writer,
@@ -141,7 +152,8 @@ pub fn put_tree_for<'t, N: Identities, F: Sheets, W: Write>(
     identities: &mut N,
     writer: &mut W,
 ) -> (Ending, Option<Hint<'t>>)
-    ensures { PutsFor ⟦<FolderStore as Store>⟧ words.now files.now (W.contents) writer.old writer.new result.0 result.1 }
+    ensures { PutsFor ⟦<FolderStore as Store>⟧ words.now files.now (W.contents) writer.old
+        writer.new result.0 result.1 }
 {
     match open_folder(rt, folder) {
         Ok(

@@ -11,7 +11,8 @@ pub returns-in-Ok-None : goal.returns-in-Ok-None
 returns-in-Ok-None g c =
     let zoom : SFits w64 c.args.boxed.now.zoom = search rules in
     let said = simp (to_z-of_z, zoom) at c.in-Ok-None.ensures in
-    let none : IsAreaOver c.args.world.now.frame c.args.boxed.now.zoom c.args.boxed.now.ground None = rw c.in-Ok-None.field-0-is at said in
+    let none : IsAreaOver c.args.world.now.frame c.args.boxed.now.zoom c.args.boxed.now.ground None =
+    rw c.in-Ok-None.field-0-is at said in
     inr (inl (record { none = none; same = refl; told = c.tell_fault.ensures; unhinted = refl }))
 
 pub returns-in-Err : goal.returns-in-Err
@@ -21,7 +22,8 @@ pub returns-in-Ok-Some : goal.returns-in-Ok-Some
 returns-in-Ok-Some g c =
     let zoom : SFits w64 c.args.boxed.now.zoom = search rules in
     let told = simp (to_z-of_z, zoom) at c.in-Ok-Some.ensures in
-    let said : IsAreaOver c.args.world.now.frame c.args.boxed.now.zoom c.args.boxed.now.ground (option_map string_bytes (Some c.in-Ok-Some.area)) = rw c.in-Ok-Some.field-0-is at told in
+    let said : IsAreaOver c.args.world.now.frame c.args.boxed.now.zoom c.args.boxed.now.ground
+    (option_map string_bytes (Some c.in-Ok-Some.area)) = rw c.in-Ok-Some.field-0-is at told in
     inl (record {
       rect = said.0;
       least = said.1;
