@@ -14,12 +14,15 @@ use Rattle.view_world.specs.Looks.{LooksInto}
 use Rattle.world.specs.Worlds.{Seen}
 
 module _ {S : Type 0} (g : Ghosts S) where
-  pub looks_named : (form : Form) (word : List ℕ) (seen : Seen S) (stores : List (Held S)) (register : Result Register Fault) (way : Result NamedWay Fault)
+  pub looks_named : (form : Form) (word : List ℕ) (seen : Seen S) (stores : List (Held S))
+      (register : Result Register Fault) (way : Result NamedWay Fault)
       → IfOk way (λ it. IsOkAnd register (λ told. IsNamedWay form told.receipts.items word it))
-      → LooksInto g IsRegisterOf seen stores register → LooksInto g (λ w it. IsNamedWay form (receipts_of w) word it) seen stores way
+      → LooksInto g IsRegisterOf seen stores register
+      → LooksInto g (λ w it. IsNamedWay form (receipts_of w) word it) seen stores way
   looks_named form word seen stores (Ok told) (Ok way) it looked = record {
     read = looked.read;
-    told = λ clean w stands. subst (λ receipts. IsNamedWay form receipts word way) (looked.told clean w stands).receipts it;
+    told = λ clean w stands. subst (λ receipts. IsNamedWay form receipts word way)
+        (looked.told clean w stands).receipts it;
   }
   looks_named form word seen stores (Err fault) (Ok way) it looked = absurd it
   looks_named form word seen stores register (Err fault) it looked = record { read = looked.read; told = λ clean. tt }

@@ -14,7 +14,8 @@ use Rattle.views.specs.Contents.{Gets}
 use Rattle.views.specs.declared.endings.Ending.{Ending}
 
 module _ {S : Type 0} (g : Ghosts S) (word : Bor (List ℕ)) where
-  -- What the word names was printed; then the world was read, if at all, and what comes nearest to the word is told, or nothing.
+  -- What the word names was printed; then the world was read, if at
+  -- all, and what comes nearest to the word is told, or nothing.
   pub record ShowsItem {W : Type 0} (old : Seen S) (stores : List (Held S)) (writer writer' : W)
       (before after : Option (List ℕ)) (ending : Ending) (hint : Option Hint) : Type 0 where
     pub mid : Seen S
@@ -22,4 +23,5 @@ module _ {S : Type 0} (g : Ghosts S) (word : Bor (List ℕ)) where
     pub last : Seen S
     pub left : stores ≡ held g last
     pub read : IsUntouched g mid last
-    pub told : AllClean g last.members → (w : World) → StandsFor g mid w → (hint ≡ None) ⊎ IsHintOf whose.Item w word hint
+    pub told : AllClean g last.members → (w : World) → StandsFor g mid w
+        → (hint ≡ None) ⊎ IsHintOf whose.Item w word hint

@@ -30,7 +30,8 @@ module _ {S : Type 0} (g : Ghosts S) where
       ShowsPackage g what.Export word old stores writer writer' before after ending hint
 
   -- The folder was not opened, and nothing was printed or told; or its world was, and this was made of it.
-  abbrev pub OpensNamed : {W : Type 0} → NamedLook → W → W → Option (List ℕ) → Option (List ℕ) → Ending → Option Hint → Type 0
+  abbrev pub OpensNamed : {W : Type 0} → NamedLook → W → W → Option (List ℕ) → Option (List ℕ)
+      → Ending → Option Hint → Type 0
   OpensNamed asked writer writer' before after ending hint =
       ((fault : OpenFault) × (ending ≡ Usual (Unopened fault)) × (hint ≡ None) × (writer' ≡ writer))
       ⊎ ((old : Seen S) × (stores : List (Held S)) × IsFolderWorld g old

@@ -46,7 +46,8 @@ module _ {W : Type 0} (writer writer' : W) (before after : Option (List ℕ)) wh
   TellsWay (Err fault) ending = (ending ≡ stopped fault) × (writer' ≡ writer)
 
 module _ {S : Type 0} (g : Ghosts S) (form : Form) (word : Bor (List ℕ)) where
-  -- So much is found for the word among all items that the receipts of each world added that the value stood for, and it is told. The stores were only read.
+  -- So much is found for the word among all items that the receipts of each world added that the value stood for,
+  -- and it is told. The stores were only read.
   pub record ShowsNamed {W : Type 0} (seen : Seen S) (stores : List (Held S)) (writer writer' : W)
       (before after : Option (List ℕ)) (ending : Ending) (hint : Option Hint) : Type 0 where
     pub way : Result NamedWay Fault

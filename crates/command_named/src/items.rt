@@ -39,8 +39,8 @@ fn hint_after<'t, S: Alter + Drop>(
     }
 }
 
-/// Prints what stands in the item that a word names. The stores of the world are handed on. Where the word names none, what comes nearest is told
-/// beside it.
+/// Prints what stands in the item that a word names. The stores of the world are handed on. Where the word names
+/// none, what comes nearest is told beside it.
 pub fn item_in<'t, S: Alter + Drop, W: Write>(
     alloc: Global,
     mut world: World<S>,

@@ -31,7 +31,8 @@ pub enum NamedLook<'t> {
     Export(&'t str),
 }
 
-/// Prints what a word names in a world, whose stores are handed on. Where it names none, what comes nearest is told beside it.
+/// Prints what a word names in a world, whose stores are handed
+/// on. Where it names none, what comes nearest is told beside it.
 fn named_in<'t, S: Alter + Drop, W: Write>(
     alloc: Global,
     world: World<S>,
@@ -49,7 +50,8 @@ fn named_in<'t, S: Alter + Drop, W: Write>(
     }
 }
 
-/// Opens a folder, and prints what a word names in its world. Where it names none, what comes nearest is told beside it.
+/// Opens a folder, and prints what a word names in its world.
+/// Where it names none, what comes nearest is told beside it.
 pub fn named_look_for<'t, W: Write>(
     rt: &HostRuntime,
     folder: &str,

@@ -35,7 +35,8 @@ fn look_of<'t>(what: PackageLook, id: Uuid) -> Look<'t>
     }
 }
 
-/// Prints what is looked at of the package that was found. Of two both are told; of none what comes nearest is told beside.
+/// Prints what is looked at of the package that was found. Of
+/// two both are told; of none what comes nearest is told beside.
 fn show_found<'t, S: Alter + Drop, W: Write>(
     alloc: Global,
     world: World<S>,
@@ -65,8 +66,8 @@ fn show_found<'t, S: Alter + Drop, W: Write>(
     }
 }
 
-/// Prints what is looked at of the live package that a word names. The stores of the world are handed on. Where the word names none, what comes
-/// nearest is told beside it.
+/// Prints what is looked at of the live package that a word names. The stores of the world are handed on. Where the
+/// word names none, what comes nearest is told beside it.
 pub fn package_in<'t, S: Alter + Drop, W: Write>(
     alloc: Global,
     world: World<S>,

@@ -23,7 +23,8 @@ pub(crate) fn stopped(fault: Fault) -> Ending
 
 /// Writes the line of a word that may name two.
 pub(crate) fn tell_fault<W: Write>(alloc: Global, fault: &VerbFault, writer: &mut W) -> Ending
-    ensures { TellsLine writer.old writer.new (W.contents writer.old) (W.contents writer.new) (verb_line fault.now) result }
+    ensures { TellsLine writer.old writer.new (W.contents writer.old) (W.contents writer.new)
+        (verb_line fault.now) result }
 {
     let Ok(line) = verb_line(alloc, fault) else {
         return Ending::Usual(NO_MEMORY);

@@ -86,8 +86,8 @@ fn tell_way<W: Write>(alloc: Global, way: &Result<NamedWay, Fault>, writer: &mut
     }
 }
 
-/// Prints the way of the item that a word names, of all that ever were, in this form. The stores of the world are handed on. Where the word names none, what comes
-/// nearest is told beside it.
+/// Prints the way of the item that a word names, of all that ever were, in this form. The stores of the world are
+/// handed on. Where the word names none, what comes nearest is told beside it.
 pub fn named_way_in<'t, S: Alter + Drop, W: Write>(
     alloc: Global,
     world: World<S>,
