@@ -44,8 +44,8 @@ module _ {S : Type 0} (g : Ghosts S) where
   abbrev pub HaveCleanDisks : List S → Type 0
   HaveCleanDisks stores = AllByRecursion (λ store. IsClean (g.view store)) stores
 
-  -- So it is where the stores gave back what was written to them: those of the world's packages, which the caller has in
-  -- hand, and those that its shelf was given. Which these are the shelf's own relation says.
+  -- So it is where the stores gave back what was written to them: those of the world's packages, which the caller
+  -- has in hand, and those that its shelf was given. Which these are the shelf's own relation says.
   pub record WhereClean (IsGiven : List S → Type 0) (seen : Seen S) (Fact : Type 0) : Type 0 where
     pub stores : List S
     pub given : IsGiven stores

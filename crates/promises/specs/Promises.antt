@@ -44,7 +44,8 @@ module _ {S : Type 0} (g : Ghosts S) {H : Type 0} (Asked : List ℕ → H → H 
       WhereClean g (IsGivenFromNew Asked Taken archive (first ++ q ∷ (others ++ q ∷ [])) before after) repeated.world (
       (receipt : Receipt) → repeated.replies.first ≡ Ok receipt →
       ((repeated.replies.again ≡ Ok receipt) ⊎ IsFault repeated.replies.again)
-      × ((next : World) × ComesTo (new_world archive frame) (first ++ q ∷ others) next × StandsFor g repeated.world next))
+      × ((next : World) × ComesTo (new_world archive frame) (first ++ q ∷ others) next
+      × StandsFor g repeated.world next))
 
   -- 4. A stop leaves a whole world. Where no request before told a fault, whatever a crash leaves after a request are
   -- the packages of the world that it made, if it got a receipt, or of the world before, if it was refused, or of one of
