@@ -1,4 +1,5 @@
-//! An item is dropped: the identities of the requests are new, and their moment is that of the clock, unless it is given.
+//! An item is dropped: the identities of the requests are new,
+//! and their moment is that of the clock, unless it is given.
 use crate::clock::NewIdentities;
 use crate::naming::print_hint;
 use crate::ordering::moment_given;

@@ -44,8 +44,8 @@ pub(crate) fn listed(rt: &HostRuntime, given: &ArgMatches<'_>) -> u8 {
     }
 }
 
-/// Prints the QGIS project of the export of a package for the file of a name, and answers how that ended; none where a command
-/// asks for no such project.
+/// Prints the QGIS project of the export of a package for the file of a name, and answers how that ended; none
+/// where a command asks for no such project.
 pub(crate) fn projected(
     rt: &HostRuntime,
     name: &str,

@@ -17,7 +17,8 @@ fn loan_paper(loan: &str) -> Result<Paper, Ending> {
     }
 }
 
-/// What is asked of the register, by the word for a loan. Of a folder that does not open, the page says why, whatever was asked.
+/// What is asked of the register, by the word for a loan. Of a
+/// folder that does not open, the page says why, whatever was asked.
 fn paper_of(
     rt: &HostRuntime,
     name: &str,
