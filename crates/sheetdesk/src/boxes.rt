@@ -3,11 +3,13 @@ use crate::naming::print_hint;
 use crate::ordering::{if_given, mode_of, moment_given, purpose_of, uuid_given};
 use crate::outputs::{verb_ended, verb_output};
 use crate::running::text_of;
+use crate::streams::Output;
 use clap::ArgMatches;
 use command_folder::endings::Ending;
 use command_ordering::boxes::{BoxedLoan, lend_box_for};
 use command_verbs::points::read_box;
 use command_words::statuses::{Outcome, What};
+use commands::ordering::Purpose;
 use sheet_types::frame::Ground;
 use sheet_types::reading::read_number;
 use uuid::Uuid;
@@ -25,6 +27,19 @@ fn given_or_new(rt: &HostRuntime, given: &ArgMatches<'_>) -> Result<(Uuid, Uuid,
     let loan = uuid_given(rt, given, "as")?;
     let at = moment_given(rt, given)?;
     Ok((id, loan, at))
+}
+
+/// Lends them in a folder. What comes nearest to a name that is none is told on standard error.
+fn lend_box_in(
+    rt: &HostRuntime,
+    folder: &str,
+    boxed: &BoxedLoan<'_>,
+    purpose: Purpose,
+    output: &mut Output<'_>,
+) -> Ending {
+    let (ending, hint) = lend_box_for(rt, folder, boxed, purpose, &mut *output);
+    print_hint(rt, &hint);
+    ending
 }
 
 /// Lends the sheets that cover a box, from the package that a word names, if one was given.
@@ -52,7 +67,6 @@ pub(crate) fn lend_box(
     };
     let folder = text_of(given, "folder");
     let mut output = verb_output(rt, given);
-    let (ending, hint) = lend_box_for(rt, folder, &boxed, purpose_of(given), &mut output);
-    print_hint(rt, hint);
+    let ending = lend_box_in(rt, folder, &boxed, purpose_of(given), &mut output);
     verb_ended(rt, &output, ending)
 }

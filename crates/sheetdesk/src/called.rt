@@ -80,10 +80,13 @@ fn tell_two(rt: &HostRuntime, whose: Whose, two: NameFault) -> Ending {
         Whose::Package => VerbFault::Unnamed(two),
         Whose::Item => VerbFault::Unfound(two),
     };
-    match verb_line(rt.alloc(), &fault) {
-        Ok(line) if is_printed(rt, line.as_str()) => Ending::NoRequest,
-        Ok(_) => FAILED,
-        Err(_) => NO_MEMORY,
+    let Ok(line) = verb_line(rt.alloc(), &fault) else {
+        return NO_MEMORY;
+    };
+    if is_printed(rt, line.as_str()) {
+        Ending::NoRequest
+    } else {
+        FAILED
     }
 }
 

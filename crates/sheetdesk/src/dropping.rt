@@ -5,10 +5,29 @@ use crate::naming::print_hint;
 use crate::ordering::moment_given;
 use crate::outputs::{verb_ended, verb_output};
 use crate::running::text_of;
+use crate::streams::Output;
 use clap::ArgMatches;
 use command_folder::endings::Ending;
 use command_naming::drops::Dropping;
 use command_ordering::dropping::drop_for;
+
+/// Drops an item in a folder. What comes nearest to a name that is none is told on standard error.
+fn drop_in(
+    rt: &HostRuntime,
+    folder: &str,
+    dropping: &Dropping<'_>,
+    output: &mut Output<'_>,
+) -> Ending {
+    let (ending, hint) = drop_for(
+        rt,
+        folder,
+        dropping,
+        &mut NewIdentities { rt },
+        &mut *output,
+    );
+    print_hint(rt, &hint);
+    ending
+}
 
 /// Drops the item of a folder's packages that a word names.
 pub(crate) fn dropped(rt: &HostRuntime, given: &ArgMatches<'_>, word: &str) -> Ending {
@@ -23,13 +42,6 @@ pub(crate) fn dropped(rt: &HostRuntime, given: &ArgMatches<'_>, word: &str) -> E
         is_shown: given.get_flag("dry-run"),
     };
     let mut output = verb_output(rt, given);
-    let (ending, hint) = drop_for(
-        rt,
-        text_of(given, "folder"),
-        &dropping,
-        &mut NewIdentities { rt },
-        &mut output,
-    );
-    print_hint(rt, hint);
+    let ending = drop_in(rt, text_of(given, "folder"), &dropping, &mut output);
     verb_ended(rt, &output, ending)
 }

@@ -12,11 +12,11 @@ use std::io;
 use uuid::Uuid;
 
 /// Says on standard error what comes nearest to a word that names none.
-pub(crate) fn print_hint(rt: &HostRuntime, hint: Option<Hint<'_>>) {
+pub(crate) fn print_hint(rt: &HostRuntime, hint: &Option<Hint<'_>>) {
     let Some(hint) = hint else {
         return;
     };
-    if let Ok(line) = hint_line(rt.alloc(), &hint) {
+    if let Ok(line) = hint_line(rt.alloc(), hint) {
         let _printed = eprintln!(rt; "{line}");
     }
 }
@@ -30,7 +30,7 @@ fn is_short(word: &str) -> bool {
 /// nearest to a name that is none is told on standard error.
 fn named_package(rt: &HostRuntime, folder: &str, word: &str) -> Result<Uuid, Ending> {
     let (named, hint) = package_for(rt, folder, word, &mut io::writer(rt));
-    print_hint(rt, hint);
+    print_hint(rt, &hint);
     named
 }
 

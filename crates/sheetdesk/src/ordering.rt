@@ -182,8 +182,8 @@ fn done_in(
     reader: &mut Input<'_>,
     output: &mut Output<'_>,
 ) -> Ending {
-    let (ending, hint) = hint_order_for(rt, folder, order, purpose, reader, output);
-    print_hint(rt, hint);
+    let (ending, hint) = hint_order_for(rt, folder, order, purpose, reader, &mut *output);
+    print_hint(rt, &hint);
     ending
 }
 
@@ -254,11 +254,11 @@ fn ordered_by<'m>(
 }
 
 /// Carries out the verb of a command. Its options stand behind the kind of what is put, where there is one.
-pub(crate) fn ordered(
+pub(crate) fn ordered<'m>(
     rt: &HostRuntime,
     name: &str,
-    given: &ArgMatches<'_>,
-    named: &Named,
+    given: &ArgMatches<'m>,
+    named: &'m Named,
     reader: &mut Input<'_>,
 ) -> Ending {
     match given.subcommand() {

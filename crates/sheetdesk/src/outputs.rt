@@ -26,16 +26,16 @@ pub(crate) struct Headed<'a> {
 }
 
 impl<'a> Headed<'a> {
-    /// Writes of a heading what stands on its line, and ends it where the line ends.
-    fn write_heading(&mut self, buf: &[u8]) -> Result<usize> {
+    /// Writes what stands on the line of the heading, and what stands behind it.
+    fn write_heading(&mut self, buf: &[u8]) -> Result<()> {
         match buf.iter().position(|byte| *byte == b'\n') {
-            Some(0) => {
+            Some(end) => {
+                self.writer.write_all(&buf[..end])?;
                 self.writer.write_all(PLAIN)?;
                 self.stage = Stage::Behind;
-                self.writer.write(buf)
+                self.writer.write_all(&buf[end..])
             }
-            Some(end) => self.writer.write(&buf[..end]),
-            None => self.writer.write(buf),
+            None => self.writer.write_all(buf),
         }
     }
 }
@@ -46,9 +46,13 @@ impl<'a> Write for Headed<'a> {
             Stage::Before => {
                 self.writer.write_all(BOLD)?;
                 self.stage = Stage::Heading;
-                self.write_heading(buf)
+                self.write_heading(buf)?;
+                Ok(buf.len())
             }
-            Stage::Heading => self.write_heading(buf),
+            Stage::Heading => {
+                self.write_heading(buf)?;
+                Ok(buf.len())
+            }
             Stage::Behind => self.writer.write(buf),
         }
     }

@@ -229,7 +229,12 @@ fn changed(rt: &HostRuntime, name: &str, given: &ArgMatches<'_>, reader: &mut In
 }
 
 /// Adds the tiles of a tree, or an item.
-fn put(rt: &HostRuntime, given: &ArgMatches<'_>, named: &Named, reader: &mut Input<'_>) -> Ending {
+fn put<'m>(
+    rt: &HostRuntime,
+    given: &ArgMatches<'m>,
+    named: &'m Named,
+    reader: &mut Input<'_>,
+) -> Ending {
     match given.subcommand() {
         Some((kind, words)) if kind == "tiles" => {
             put_tree(rt, given, words, named.word.as_str())
@@ -239,7 +244,12 @@ fn put(rt: &HostRuntime, given: &ArgMatches<'_>, named: &Named, reader: &mut Inp
 }
 
 /// Lends the sheets that cover a box, or those of an area.
-fn lend(rt: &HostRuntime, given: &ArgMatches<'_>, named: &Named, reader: &mut Input<'_>) -> Ending {
+fn lend<'m>(
+    rt: &HostRuntime,
+    given: &ArgMatches<'m>,
+    named: &'m Named,
+    reader: &mut Input<'_>,
+) -> Ending {
     match given.get_str("box") {
         Some(words) => lend_box(rt, given, named.word.as_str(), words),
         None => ordered(rt, "lend", given, named, reader),
@@ -254,11 +264,11 @@ fn tidied(rt: &HostRuntime, given: &ArgMatches<'_>) -> Ending {
 }
 
 /// Carries out a command that changes something, and answers how it ended.
-fn worked(
+fn worked<'m>(
     rt: &HostRuntime,
     name: &str,
-    given: &ArgMatches<'_>,
-    named: &Named,
+    given: &ArgMatches<'m>,
+    named: &'m Named,
     reader: &mut Input<'_>,
 ) -> Ending {
     let word = named.word.as_str();
@@ -275,11 +285,11 @@ fn worked(
 }
 
 /// Carries out the command of this name, whose words name these, and answers the exit status.
-fn carried_out_of(
+fn carried_out_of<'m>(
     rt: &HostRuntime,
     name: &str,
-    given: &ArgMatches<'_>,
-    named: &Named,
+    given: &ArgMatches<'m>,
+    named: &'m Named,
     reader: &mut Input<'_>,
 ) -> u8 {
     let word = named.word.as_str();
@@ -300,9 +310,28 @@ fn carried_out_of(
     }
 }
 
-/// Carries out the command of this name, and answers the exit status.
-pub(crate) fn carried_out(
+/// Carries out the command of a command line whose words name these. It is matched once more, so that all its words live as
+/// long as these do.
+fn carried_out_named<'m, W: AsStr>(
     rt: &HostRuntime,
+    words: &'m [W],
+    named: &'m Named,
+    reader: &mut Input<'_>,
+) -> u8 {
+    let matches = match matched(rt, words) {
+        Ok(matches) => matches,
+        Err(error) => return answered(rt, &error),
+    };
+    match matches.subcommand() {
+        Some((name, given)) => carried_out_of(rt, name, given, named, reader),
+        None => 2,
+    }
+}
+
+/// Carries out the command of this name, which a command line asks for, and answers the exit status.
+pub(crate) fn carried_out<W: AsStr>(
+    rt: &HostRuntime,
+    words: &[W],
     name: &str,
     given: &ArgMatches<'_>,
     reader: &mut Input<'_>,
@@ -311,7 +340,7 @@ pub(crate) fn carried_out(
         "holds" => listed(rt, given),
         "completions" => printed(rt, BASH),
         _ => match named_words(rt, name, given) {
-            Ok(named) => carried_out_of(rt, name, given, &named, reader),
+            Ok(named) => carried_out_named(rt, words, &named, reader),
             Err(ending) => ended(rt, &ending),
         },
     }

@@ -20,7 +20,7 @@ fn carried_out_once(rt: &HostRuntime, words: &[&str], reader: &mut Input<'_>) ->
         Err(error) => return answered(rt, &error),
     };
     match matches.subcommand() {
-        Some((name, given)) if name != "session" => carried_out(rt, name, given, reader),
+        Some((name, given)) if name != "session" => carried_out(rt, words, name, given, reader),
         Some(_) | None => {
             print_error(rt, "error: a session has no session in it\n");
             2
@@ -134,7 +134,7 @@ pub(crate) fn run(rt: &HostRuntime, words: &[String], reader: &mut Input<'_>) ->
             if name == "session" {
                 session(rt, given.get_str("file").unwrap_or(""), reader)
             } else {
-                carried_out(rt, name, given, reader)
+                carried_out(rt, words, name, given, reader)
             }
         }
         None => 2,

@@ -24,7 +24,7 @@ fn looked_at(rt: &HostRuntime, folder: &str, wish: Wish<'_>, output: &mut Output
         Wish::Asked(asked) => look_for(rt, folder, asked, output),
         Wish::Named(asked) => {
             let (ending, hint) = named_look_for(rt, folder, asked, output);
-            print_hint(rt, hint);
+            print_hint(rt, &hint);
             ending
         }
     }

@@ -4,7 +4,7 @@ use crate::naming::print_hint;
 use crate::ordering::{moment_given, without};
 use crate::outputs::{verb_ended, verb_output};
 use crate::running::text_of;
-use crate::streams::Onlooker;
+use crate::streams::{Onlooker, Output};
 use crate::tile_names::numbers_in;
 use clap::ArgMatches;
 use command_folder::endings::Ending;
@@ -95,6 +95,35 @@ fn places_of(rt: &HostRuntime, folder: &str) -> io::Result<Vec<Place>> {
     Ok(places)
 }
 
+/// Adds the tiles of a tree in a folder. What comes nearest to a name that is none is told on standard error.
+fn put_tree_in(
+    rt: &HostRuntime,
+    folder: &str,
+    words: &TreeWords<'_>,
+    directory: &str,
+    places: &[Place],
+    output: &mut Output<'_>,
+) -> Ending {
+    let mut tree = Tree {
+        rt,
+        directory,
+        teller: Onlooker::new(rt, false),
+        done: 0,
+        all: places.len() as u64,
+    };
+    let (ending, hint) = put_tree_for(
+        rt,
+        folder,
+        words,
+        places,
+        &mut tree,
+        &mut NewIdentities { rt },
+        &mut *output,
+    );
+    print_hint(rt, &hint);
+    ending
+}
+
 /// Adds the tiles of a tree to a package.
 pub(crate) fn put_tree(
     rt: &HostRuntime,
@@ -112,25 +141,19 @@ pub(crate) fn put_tree(
         Err(error) => return without(rt, directory, &error, Ending::BadBody),
     };
     let mut output = verb_output(rt, words);
-    let (ending, hint) = put_tree_for(
+    let tree_words = TreeWords {
+        package,
+        at: at.as_str(),
+        is_upward: words.get_flag("tms"),
+    };
+    let folder = text_of(given, "folder");
+    let ending = put_tree_in(
         rt,
-        text_of(given, "folder"),
-        &TreeWords {
-            package,
-            at: at.as_str(),
-            is_upward: words.get_flag("tms"),
-        },
+        folder,
+        &tree_words,
+        directory,
         places.as_slice(),
-        &mut Tree {
-            rt,
-            directory,
-            teller: Onlooker::new(rt, false),
-            done: 0,
-            all: places.len() as u64,
-        },
-        &mut NewIdentities { rt },
         &mut output,
     );
-    print_hint(rt, hint);
     verb_ended(rt, &output, ending)
 }
