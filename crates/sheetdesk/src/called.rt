@@ -60,13 +60,13 @@ pub(crate) fn names_for(rt: &HostRuntime, given: &ArgMatches<'_>) -> Result<Vec<
     }
 }
 
-/// What goes by a name, if anything does; a fault where two do.
-fn find_called(names: &[Name], word: &str) -> Result<Option<Uuid>, NameFault> {
+/// What goes by a name, if anything does; an error where two do.
+fn find_called(names: &[Name], word: &str) -> Result<Option<Uuid>, (Uuid, Uuid)> {
     let mut found: Option<Uuid> = None;
     for name in names {
         if name.name.is_text(word) {
             match found {
-                Some(uuid) if uuid != name.uuid => return Err(NameFault::Two(uuid, name.uuid)),
+                Some(uuid) if uuid != name.uuid => return Err((uuid, name.uuid)),
                 _ => found = Some(name.uuid),
             }
         }
@@ -74,13 +74,17 @@ fn find_called(names: &[Name], word: &str) -> Result<Option<Uuid>, NameFault> {
     Ok(found)
 }
 
+/// The fault that two go by one name.
+fn two_called(whose: Whose, first: Uuid, second: Uuid) -> VerbFault {
+    match whose {
+        Whose::Package => VerbFault::Unnamed(NameFault::Two(first, second)),
+        Whose::Item => VerbFault::Unfound(NameFault::Two(first, second)),
+    }
+}
+
 /// Says that two go by a name, and answers how the program ends.
-fn tell_two(rt: &HostRuntime, whose: Whose, two: NameFault) -> Ending {
-    let fault = match whose {
-        Whose::Package => VerbFault::Unnamed(two),
-        Whose::Item => VerbFault::Unfound(two),
-    };
-    let Ok(line) = verb_line(rt.alloc(), &fault) else {
+fn tell_two(rt: &HostRuntime, fault: &VerbFault) -> Ending {
+    let Ok(line) = verb_line(rt.alloc(), fault) else {
         return NO_MEMORY;
     };
     if is_printed(rt, line.as_str()) {
@@ -102,7 +106,9 @@ fn word_or_uuid(
         let names = names_for(rt, given)?;
         match find_called(names.as_slice(), word) {
             Ok(called) => found = called,
-            Err(two) => return Err(tell_two(rt, whose, two)),
+            Err((first, second)) => {
+                return Err(tell_two(rt, &two_called(whose, first, second)));
+            }
         }
     }
     let text = match found {
