@@ -37,7 +37,7 @@ check "$package" sheetdesk manifest maps 6f
 check "$package" sheetdesk lend maps ''
 check 'media|mark' sheetdesk put maps 6f0d m
 check 'a list.csv' sheetdesk import maps a
-check '--box|--zoom|--follow|--as|--at|--request|--dry-run|--help' sheetdesk lend maps --
+check '--box|--zoom|--follow|--as|--at|--request|--dry-run|--quiet|--help' sheetdesk lend maps --
 check '--log' sheetdesk serve maps 8080 --l
 check 'bash' sheetdesk completions ''
 # every verb that the program knows is among the words
