@@ -26,8 +26,8 @@ The outcomes, and how the two kinds of refusal are told apart:
 
 With --aside an edit that was refused by a proof alone is tried once more with the answers of its functions set aside, and so are the right
 bodies. It counts as refused where the prover then finds values, or where a goal is open that is closed for the right bodies in the same state.
-This is dear (each goal is searched), so it has its own limit, --aside-seconds. What still is not told apart needs a person, who says which
-clause the edit breaks: --looked CRATE EDIT CLAUSE makes it refused, and keeps both reasons.
+This is dear (each goal is searched), so it has its own limit, --aside-seconds. What still is not told apart needs somebody who reads the clauses and says
+which one the edit breaks: --looked CRATE EDIT CLAUSE makes it refused, and keeps both reasons.
 """
 import argparse
 import concurrent.futures
@@ -446,11 +446,15 @@ def show_open(rows, there):
 
 
 def show_table(rows, there):
-    print("| Crate | Edits | Tried | Refused | By a proof alone | Let through | Do not apply | No verdict |\n|---|---|---|---|---|---|---|---|")
-    total = [0] * 7
+    """Prints a line a crate of which edits were tried. What was refused is told by who saw it: the prover, somebody who read the clauses, or nobody."""
+    print("| Crate | Edits | Tried | Refused: by the prover | somebody looked | not told apart | By a proof alone | Let through | Do not apply | No verdict |")
+    print("|---|" + "---|" * 9)
+    total = [0] * 9
     for crate, names in there.items():
-        told = [rows[crate, it]["outcome"] for it in names if (crate, it) in rows]
-        row = [len(names), len(told), *[told.count(it) for it in ORDER]]
+        told = [rows[crate, it] for it in names if (crate, it) in rows]
+        why = [it["why"].partition(":")[0] for it in told if it["outcome"] == REFUSED]
+        seen = [why.count("looked"), why.count("")]
+        row = [len(names), len(told), len(why) - sum(seen), *seen, *[[it["outcome"] for it in told].count(it) for it in ORDER[1:]]]
         total = [one + other for one, other in zip(total, row)]
         if told:
             print(f"| `{crate}` | {' | '.join(str(it or '') for it in row)} |")
@@ -460,7 +464,7 @@ def show_table(rows, there):
 def main():
     words = argparse.ArgumentParser(description=__doc__, formatter_class=argparse.RawDescriptionHelpFormatter)
     words.add_argument("--open", action="store_true", help="list what no run has seen refused")
-    words.add_argument("--looked", nargs=3, metavar=("CRATE", "EDIT", "CLAUSE"), help="note that a person saw which clause a refused edit breaks")
+    words.add_argument("--looked", nargs=3, metavar=("CRATE", "EDIT", "CLAUSE"), help="note that somebody saw which clause a refused edit breaks")
     words.add_argument("--table", action="store_true", help="print the table by crate")
     words.add_argument("--sample", type=int, default=0, help="at most so many of each crate, from all over its list")
     words.add_argument("--edit", action="append", help="these edits alone")
