@@ -26,8 +26,8 @@ The outcomes, and how the two kinds of refusal are told apart:
 
 With --aside an edit that was refused by a proof alone is tried once more with the answers of its functions set aside, and so are the right
 bodies. It counts as refused where the prover then finds values, or where a goal is open that is closed for the right bodies in the same state.
-This is dear (each goal is searched), so it has its own limit, --aside-seconds. What still is not told apart needs a person, who says which
-clause the edit breaks: the line `looked: CLAUSE` as why.
+This is dear (each goal is searched), so it has its own limit, --aside-seconds. What still is not told apart needs somebody who reads the clauses and says
+which one the edit breaks: --looked CRATE EDIT CLAUSE makes it refused, and keeps both reasons.
 """
 import argparse
 import concurrent.futures
@@ -226,7 +226,7 @@ class Room:
 
     def run(self, words, seconds):
         """Runs a check within its time and memory. Its words go to a file."""
-        why, begun = "", time.time()
+        why = ""
         with open(f"{self.at}/said", "wb") as out:
             how = {"cwd": f"{self.at}/crate", "stdin": subprocess.DEVNULL, "stdout": out, "stderr": subprocess.STDOUT}
             with subprocess.Popen([*self.guard, *words], **how) as run:
@@ -235,9 +235,9 @@ class Room:
                         run.wait(1)
                         break
                     except subprocess.TimeoutExpired:
-                        late, great = time.time() - begun > seconds, held(run.pid) > self.said.memory * 2**20
+                        late, great = spent(run.pid) > seconds, held(run.pid) > self.said.memory * 2**20
                         if late or great:
-                            why = f"stopped after {seconds} seconds" if late else f"stopped at {self.said.memory} GB"
+                            why = f"stopped after {seconds} seconds of a processor" if late else f"stopped at {self.said.memory} GB"
                             for it in [run.pid, *copies_of(run.pid)]:
                                 with contextlib.suppress(OSError):
                                     os.kill(it, signal.SIGKILL)
@@ -253,6 +253,15 @@ def copies_of(pid):
             with open(f"/proc/{pid}/task/{it}/children", encoding="ascii") as file:
                 found += [int(one) for one in file.read().split()]
     return found
+
+
+def spent(pid):
+    """Returns how many seconds of a processor a process has had."""
+    try:
+        with open(f"/proc/{pid}/stat", encoding="ascii", errors="replace") as it:
+            return sum(map(int, it.read().rpartition(")")[2].split()[11:15])) / os.sysconf("SC_CLK_TCK")
+    except OSError:
+        return 0
 
 
 def held(pid):
@@ -290,7 +299,15 @@ def outcome_of(rt, ran, texts):
     told = [it for it in ran.lines if re.match(r"(note: )?\S+:\d+:\d+:", it)]
     told = [it for it in told if ": error" in it] or told or ran.lines
     other = next((it for it in told if not NAMES.search(it)), "")
-    return ALONE, f"{'type' if other else 'name'}: {short(other or told[0])}"
+    return ALONE, f"type: {sides(ran, other)}" if other else f"name: {short(told[0])}"
+
+
+def sides(ran, line):
+    """Returns a complaint of an answer in short: where, and in what the goal and the answer differ."""
+    at = ran.lines.index(line)
+    told = " ".join(ran.lines[at : at + 3])
+    found = re.search(r"(\S+:\d+):\d+: error: `([^`]+)`:.*?differ only where one has `([^`]*)` \(expected\).*?the other has `([^`]*)`", told)
+    return f"{found[1].removeprefix('./')} {found[2]}: the goal has `{found[3][:70]}`, its answer `{found[4][:70]}`" if found else short(line)
 
 
 def told_apart(room, honest, texts, functions):
@@ -429,11 +446,15 @@ def show_open(rows, there):
 
 
 def show_table(rows, there):
-    print("| Crate | Edits | Tried | Refused | By a proof alone | Let through | Do not apply | No verdict |\n|---|---|---|---|---|---|---|---|")
-    total = [0] * 7
+    """Prints a line a crate of which edits were tried. What was refused is told by who saw it: the prover, somebody who read the clauses, or nobody."""
+    print("| Crate | Edits | Tried | Refused: by the prover | somebody looked | not told apart | By a proof alone | Let through | Do not apply | No verdict |")
+    print("|---|" + "---|" * 9)
+    total = [0] * 9
     for crate, names in there.items():
-        told = [rows[crate, it]["outcome"] for it in names if (crate, it) in rows]
-        row = [len(names), len(told), *[told.count(it) for it in ORDER]]
+        told = [rows[crate, it] for it in names if (crate, it) in rows]
+        why = [it["why"].partition(":")[0] for it in told if it["outcome"] == REFUSED]
+        seen = [why.count("looked"), why.count("")]
+        row = [len(names), len(told), len(why) - sum(seen), *seen, *[[it["outcome"] for it in told].count(it) for it in ORDER[1:]]]
         total = [one + other for one, other in zip(total, row)]
         if told:
             print(f"| `{crate}` | {' | '.join(str(it or '') for it in row)} |")
@@ -443,6 +464,7 @@ def show_table(rows, there):
 def main():
     words = argparse.ArgumentParser(description=__doc__, formatter_class=argparse.RawDescriptionHelpFormatter)
     words.add_argument("--open", action="store_true", help="list what no run has seen refused")
+    words.add_argument("--looked", nargs=3, metavar=("CRATE", "EDIT", "CLAUSE"), help="note that somebody saw which clause a refused edit breaks")
     words.add_argument("--table", action="store_true", help="print the table by crate")
     words.add_argument("--sample", type=int, default=0, help="at most so many of each crate, from all over its list")
     words.add_argument("--edit", action="append", help="these edits alone")
@@ -450,9 +472,9 @@ def main():
     words.add_argument("--whole", action="store_true", help="also those edits that need a check of the whole crate")
     words.add_argument("--aside", action="store_true", help="set answers aside where a proof alone refused")
     words.add_argument("--lanes", type=int, default=1, help="so many crates side by side")
-    words.add_argument("--seconds", type=int, default=420, help="the most that a try may take")
-    words.add_argument("--first-seconds", type=int, default=1500, help="the most that the right bodies may take")
-    words.add_argument("--aside-seconds", type=int, default=240, help="the most that a try without answers may take")
+    words.add_argument("--seconds", type=int, default=420, help="the most that a try may take, in seconds of a processor")
+    words.add_argument("--first-seconds", type=int, default=1500, help="the most that the right bodies may take, in seconds of a processor")
+    words.add_argument("--aside-seconds", type=int, default=240, help="the most that a try without answers may take, in seconds of a processor")
     words.add_argument("--memory", type=int, default=4, help="the most that a check may hold, in GB")
     words.add_argument("--show", action="store_true", help="print what the prover says")
     words.add_argument("crates", nargs="*")
@@ -460,6 +482,13 @@ def main():
     there, rows = edits(), read_results()
     if said.open:
         return 1 if show_open(rows, there) else 0
+    if said.looked:
+        crate, edit, clause = said.looked
+        row = rows.get((crate, edit))
+        if not row or row["outcome"] != ALONE:
+            sys.exit("only an edit that a proof alone refused is looked at")
+        append({**row, "outcome": REFUSED, "why": f"looked: {clause}; {row['why']}"})
+        return 0
     if said.table:
         write_results(rows, there)
         show_table(rows, there)
