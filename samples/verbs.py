@@ -136,16 +136,26 @@ class Verbs:
     def drop(self, word, identity, option="", package=nordmark.ARCHIVE):
         """An item is deleted, and its links are ended before, where that is allowed; else they are told."""
         given, _ = self.given(None)
-        links = sorted((link for link in self.world.packages[package].links if identity in link[1:]), key=lambda link: (KINDS[link[0]], *link))
+        links = sorted(
+            (link for link in self.world.packages[package].links if identity in link[1:]),
+            key=lambda link: (KINDS[link[0]], *link),
+        )
         words = f"drop {self.folder} {word}{option} --at {given['at']}"
         if links and not option:
             told = "".join(f"linked {base} {other}\n" for _, base, other in links)
             return self.say(words, told + "refused: linked\n", 1)
-        ends = [{"command": "unlink", "kind": mapping, "identity": base, "other": other} for mapping, base, other in links]
+        ends = [
+            {"command": "unlink", "kind": mapping, "identity": base, "other": other} for mapping, base, other in links
+        ]
         text = ""
         for number, request in enumerate([*ends, {"command": "delete", "identity": identity}]):
             # (the program makes the UUIDs of these requests itself, and prints none)
-            request = {**given, "request": nordmark.name_uuid("drop", f"{words} {number}"), "package": package, **request}
+            request = {
+                **given,
+                "request": nordmark.name_uuid("drop", f"{words} {number}"),
+                "package": package,
+                **request,
+            }
             text += deed_of(request) + counts_of(apply(self.world, request))
         return self.say(words, text)
 
@@ -164,7 +174,11 @@ class Verbs:
         for number, (zoom, column, row) in enumerate(sorted(places)):
             rows = self.world.frame.matrix(zoom)[1]
             place = (zoom, column, rows - 1 - row if option else row)
-            data = self.session.files[self.session.name(f"{path}/{zoom}/{column}/{row}.png", nordmark.SHEETS.get(place, "no sheet").encode())]
+            data = self.session.files[
+                self.session.name(
+                    f"{path}/{zoom}/{column}/{row}.png", nordmark.SHEETS.get(place, "no sheet").encode()
+                )
+            ]
             held = self.world.packages[nordmark.ARCHIVE]
             if place in held.places and held.items[held.places[place]]["data"] == data:
                 passed += 1
@@ -172,7 +186,13 @@ class Verbs:
             # (the program makes these UUIDs itself, and prints none)
             request, identity = (nordmark.name_uuid(kind, f"{words} {number}") for kind in ("tree", "leaf"))
             at = dict(zip(["zoom", "column", "row"], place))
-            members = {"command": "add", "package": nordmark.ARCHIVE, "identity": identity, "kind": "tile", "data": data}
+            members = {
+                "command": "add",
+                "package": nordmark.ARCHIVE,
+                "identity": identity,
+                "kind": "tile",
+                "data": data,
+            }
             reply = apply(self.world, {**given, "request": request, **members, **at})
             if not isinstance(reply, Receipt):
                 told = reference.reply_text(reply) + "\n"
@@ -186,7 +206,9 @@ class Verbs:
         frame = self.world.frame
         columns, rows = (range(count) for count in frame.matrix(zoom))
         across, down = (frame.max_x - frame.min_x) // len(columns), (frame.max_y - frame.min_y) // len(rows)
-        met_columns = [at for at in columns if frame.min_x + at * across < east and west < frame.min_x + (at + 1) * across]
+        met_columns = [
+            at for at in columns if frame.min_x + at * across < east and west < frame.min_x + (at + 1) * across
+        ]
         met_rows = [at for at in rows if frame.max_y - at * down > south and north > frame.max_y - (at + 1) * down]
         rect = (zoom, met_columns[0], met_columns[-1], met_rows[0], met_rows[-1])
         return self.lend(f"{giver}--box {box} --zoom {zoom}", loan, rect, **more)
@@ -234,7 +256,12 @@ def come_out(verbs):
     run(f"get {folder} {nordmark.medium('level-book')}", "levels along the sound\n")
     run(f"get {folder} {nordmark.medium('photo-lighthouse')[:4]} photo.jpg", "")
     given, options = verbs.given(nordmark.medium("scan-1934"))
-    members = {"command": "add", "package": nordmark.ARCHIVE, "identity": nordmark.medium("scan-1934"), "kind": "media"}
+    members = {
+        "command": "add",
+        "package": nordmark.ARCHIVE,
+        "identity": nordmark.medium("scan-1934"),
+        "kind": "media",
+    }
     text = request_text({**given, **members, "text": "image/jpeg", "data": photo})
     run(f"put {folder} {nordmark.ARCHIVE} media photo.jpg{options} --dry-run", text)
     run(f"get {folder} ffff", "refused: no such item\n", 1)
@@ -296,17 +323,49 @@ def by_names(session):
     """Packages and items by what people call them. A name comes before first digits, and a whole UUID before a name."""
     archive, crew = nordmark.ARCHIVE, nordmark.HARBOUR
     town, light, book = nordmark.sheet(*TOWN), nordmark.mark("light"), nordmark.medium("level-book")
-    names = [(archive, "home"), (crew, "crew"), (town, "Skarvholm"), (book, "levels"), (light, "Pålen"), (archive, crew[:4]), (crew, archive)]
+    names = [
+        (archive, "home"),
+        (crew, "crew"),
+        (town, "Skarvholm"),
+        (book, "levels"),
+        (light, "Pålen"),
+        (archive, crew[:4]),
+        (crew, archive),
+    ]
     # (of the first word that two go by one is a package that is not yet there; the last says again what stands above)
     names += [(archive, "both"), (crew, "both"), (book, "pair"), (light, "pair"), (archive, "home")]
     verbs = Verbs(session, "named", False, names)
     run, data = session.run, nordmark.SHEETS[TOWN].encode()
-    request = {"command": "add", "package": archive, "identity": town, "kind": "tile", "data": b"\x89PNG\r\n\x1a\n" + data}
-    verbs.do("put", "home tile 6/0/0 samples/town.png", {**request, **dict(zip(["zoom", "column", "row"], TOWN))}, town)
+    request = {
+        "command": "add",
+        "package": archive,
+        "identity": town,
+        "kind": "tile",
+        "data": b"\x89PNG\r\n\x1a\n" + data,
+    }
+    verbs.do(
+        "put", "home tile 6/0/0 samples/town.png", {**request, **dict(zip(["zoom", "column", "row"], TOWN))}, town
+    )
     verbs.lend("home 6/0/0", crew, (6, 0, 0, 0, 0))
-    medium = {"command": "add", "package": crew, "identity": book, "kind": "media", "text": "text/plain", "data": b"levels along the sound\n"}
+    medium = {
+        "command": "add",
+        "package": crew,
+        "identity": book,
+        "kind": "media",
+        "text": "text/plain",
+        "data": b"levels along the sound\n",
+    }
     verbs.do("put", f"crew media {session.name('samples/levels.txt', medium['data'])}", medium, book)
-    mark = {"command": "add", "package": crew, "identity": light, "kind": "row", "x": 502345678, "y": 5960678900, "code": 210, "text": "lights"}
+    mark = {
+        "command": "add",
+        "package": crew,
+        "identity": light,
+        "kind": "row",
+        "x": 502345678,
+        "y": 5960678900,
+        "code": 210,
+        "text": "lights",
+    }
     verbs.do("put", "crew mark 502345.678,5960678.9 210 lights", mark, light)
     link = {"command": "link", "package": crew, "identity": light, "other": book, "kind": "rows_media"}
     verbs.do("join", "levels Pålen", link)
@@ -326,7 +385,7 @@ def trees_and_boxes(session):
     sheets = [(4, 0, 0), (5, 0, 0), (5, 1, 0), (5, 3, 5), (6, 0, 0), (6, 0, 4)]
     verbs.tree("samples/tree", sheets)
     verbs.tree("samples/tree", sheets)
-    # (row 11 of twelve is row 0 from above, and row 1 of three is in the middle)
+    # (a TMS counts rows from below: the last of twelve is the first from above, and of three the middle one stays)
     verbs.tree("samples/upward", [(4, 1, 1), (6, 0, 11)], " --tms")
     verbs.tree("samples/beside", [(4, 1, 0), (6, 8, 0), (6, 9, 0)])
     verbs.refused("put", f"{nordmark.ARCHIVE[:4]} tiles samples/first.csv", "body")
@@ -365,6 +424,15 @@ def quietly(session):
     session.run("tidy hush --quiet", "")
     # (a request that is only shown is shown)
     given, options = verbs.given(town)
-    members = {"command": "add", "package": archive, "identity": town, "kind": "media", "text": "text/plain", "data": b"levels along the sound\n"}
-    session.run(f"put hush {archive} media samples/levels.txt{options} --dry-run -q", request_text({**given, **members}))
+    members = {
+        "command": "add",
+        "package": archive,
+        "identity": town,
+        "kind": "media",
+        "text": "text/plain",
+        "data": b"levels along the sound\n",
+    }
+    session.run(
+        f"put hush {archive} media samples/levels.txt{options} --dry-run -q", request_text({**given, **members})
+    )
     return verbs.world

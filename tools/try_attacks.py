@@ -44,27 +44,24 @@ import sys
 import tempfile
 import threading
 import time
-from importlib.machinery import SourceFileLoader
-from importlib.util import module_from_spec, spec_from_loader
+
+from attacks import toolchain
 
 ROOT = os.path.dirname(os.path.dirname(os.path.abspath(__file__)))
 RESULTS = f"{ROOT}/attacks/RESULTS.csv"
 HEAD = ["crate", "edit", "outcome", "date", "commit", "sum", "why"]
-REFUSED, ALONE, THROUGH, NOT, NONE = "refused", "refused by a proof alone", "let through", "does not apply", "no verdict"
+REFUSED, ALONE, THROUGH, NOT, NONE = (
+    "refused",
+    "refused by a proof alone",
+    "let through",
+    "does not apply",
+    "no verdict",
+)
 ORDER = (REFUSED, ALONE, THROUGH, NOT, NONE)
 FALSE = "the facts known there allow values at which"
 # a proof file that names what the edit took away, and what cites that proof
 NAMES = re.compile(r"(has no field|is not in scope|has no `|was not admitted)")
 APPENDS = threading.Lock()
-
-
-def toolchain():
-    """The command `rt` as a module: its own reading of an edit and of the prover's words is used."""
-    loader = SourceFileLoader("rt", os.path.realpath(shutil.which("rt")))
-    made = module_from_spec(spec_from_loader("rt", loader))
-    sys.modules["rt"] = made
-    loader.exec_module(made)
-    return made
 
 
 def edits():
@@ -84,7 +81,9 @@ def read_results():
     if not os.path.exists(RESULTS):
         return {}
     with open(RESULTS, encoding="utf-8", newline="") as it:
-        return {(row["crate"], row["edit"]): {name: row.get(name) or "" for name in HEAD} for row in csv.DictReader(it)}
+        return {
+            (row["crate"], row["edit"]): {name: row.get(name) or "" for name in HEAD} for row in csv.DictReader(it)
+        }
 
 
 def write_results(rows, there):
@@ -120,17 +119,50 @@ def function_at(text, at, file):
     module = re.sub(r"^src/|(/mod)?\.rt$", "", file).replace("/", "::")
     module = "" if module in ("lib", "main") else f"{module}::"
     lines, place = text.split("\n"), text.count("\n", 0, at)
-    begin = next((it for it in range(place, -1, -1) if re.match(r"( {4})?(pub(\([^)]*\))? )?((const|unsafe) )*fn \w+", lines[it])), None)
+    begin = next(
+        (
+            it
+            for it in range(place, -1, -1)
+            if re.match(r"( {4})?(pub(\([^)]*\))? )?((const|unsafe) )*fn \w+", lines[it])
+        ),
+        None,
+    )
     if begin is None:
         return None
     indent = re.match(r" *", lines[begin])[0]
-    end = next((it for it in range(begin, len(lines)) if lines[it] == f"{indent}}}" or it == begin and lines[it].endswith(("}", ";"))), len(lines))
-    opened = next((it for it in range(begin, end + 1) if it < len(lines) and (lines[it] == f"{indent}{{" or re.match(r"[^{]*(\)|\w|>|\]) \{$", lines[it]) and not re.match(r" *(ensures|requires|ghost)", lines[it]))), end)
+    end = next(
+        (
+            it
+            for it in range(begin, len(lines))
+            if lines[it] == f"{indent}}}" or it == begin and lines[it].endswith(("}", ";"))
+        ),
+        len(lines),
+    )
+    opened = next(
+        (
+            it
+            for it in range(begin, end + 1)
+            if it < len(lines)
+            and (
+                lines[it] == f"{indent}{{"
+                or re.match(r"[^{]*(\)|\w|>|\]) \{$", lines[it])
+                and not re.match(r" *(ensures|requires|ghost)", lines[it])
+            )
+        ),
+        end,
+    )
     if not opened <= place < max(end, begin + 1):
         return None
     name = re.search(r"fn (\w+)", lines[begin])[1]
     if indent:
-        head = next((lines[it] for it in range(begin, -1, -1) if re.match(r"(pub(\([^)]*\))? )?(unsafe )?(impl|trait)\b", lines[it])), "")
+        head = next(
+            (
+                lines[it]
+                for it in range(begin, -1, -1)
+                if re.match(r"(pub(\([^)]*\))? )?(unsafe )?(impl|trait)\b", lines[it])
+            ),
+            "",
+        )
         head = re.sub(r"<[^<>]*>", "", re.sub(r"<[^<>]*>", "", re.sub(r"<[^<>]*>", "", head)))
         trait = re.match(r"(?:pub(?:\([^)]*\))? )?trait (\w+)", head)
         of = re.match(r"(?:unsafe )?impl (?:([\w:]+) for )?&?(?:'\w+ )?(?:mut )?([\w:]+)", head)
@@ -215,7 +247,13 @@ class Room:
         for name in functions if aside else ():
             for file in self.answers(name):
                 os.remove(file)
-        words = [self.rt.rtlib.RATTLE, "check", *self.crate.words(["--jobs", "1"], keeps=False), "--incremental", f"{self.at}/kept"]
+        words = [
+            self.rt.rtlib.RATTLE,
+            "check",
+            *self.crate.words(["--jobs", "1"], keeps=False),
+            "--incremental",
+            f"{self.at}/kept",
+        ]
         words += [it for name in functions or () for it in ("--only", name)] + list(more)
         return self.run(words, seconds or self.said.seconds)
 
@@ -237,7 +275,11 @@ class Room:
                     except subprocess.TimeoutExpired:
                         late, great = spent(run.pid) > seconds, held(run.pid) > self.said.memory * 2**20
                         if late or great:
-                            why = f"stopped after {seconds} seconds of a processor" if late else f"stopped at {self.said.memory} GB"
+                            why = (
+                                f"stopped after {seconds} seconds of a processor"
+                                if late
+                                else f"stopped at {self.said.memory} GB"
+                            )
                             for it in [run.pid, *copies_of(run.pid)]:
                                 with contextlib.suppress(OSError):
                                     os.kill(it, signal.SIGKILL)
@@ -286,7 +328,11 @@ def outcome_of(rt, ran, texts):
         return NOT, f"cannot be read: {short(bad)}"
     if ran.is_proved():
         return THROUGH, ""
-    if ran.status == 1 and any(re.search(r"\berror\[[\w-]+\]", it) for it in ran.lines) and not re.match(r"logic=|only=", ran.lines[-1]):
+    if (
+        ran.status == 1
+        and any(re.search(r"\berror\[[\w-]+\]", it) for it in ran.lines)
+        and not re.match(r"logic=|only=", ran.lines[-1])
+    ):
         return NOT, "does not compile: " + short(next(it for it in ran.lines if re.search(r"\berror\[", it)))
     if ran.status == 3 or not re.match(r"logic=not-proved|only=", ran.lines[-1]):
         limit = next((it for it in ran.lines if rt.LIMITS.search(it)), ran.lines[-1])
@@ -306,8 +352,15 @@ def sides(ran, line):
     """Returns a complaint of an answer in short: where, and in what the goal and the answer differ."""
     at = ran.lines.index(line)
     told = " ".join(ran.lines[at : at + 3])
-    found = re.search(r"(\S+:\d+):\d+: error: `([^`]+)`:.*?differ only where one has `([^`]*)` \(expected\).*?the other has `([^`]*)`", told)
-    return f"{found[1].removeprefix('./')} {found[2]}: the goal has `{found[3][:70]}`, its answer `{found[4][:70]}`" if found else short(line)
+    found = re.search(
+        r"(\S+:\d+):\d+: error: `([^`]+)`:.*?differ only where one has `([^`]*)` \(expected\).*?the other has `([^`]*)`",
+        told,
+    )
+    return (
+        f"{found[1].removeprefix('./')} {found[2]}: the goal has `{found[3][:70]}`, its answer `{found[4][:70]}`"
+        if found
+        else short(line)
+    )
 
 
 def told_apart(room, honest, texts, functions):
@@ -342,7 +395,9 @@ class Work:
     def __init__(self, rt, said):
         self.rt, self.said, self.rows, self.seen = rt, said, read_results(), {}
         self.day = datetime.date.today().isoformat()
-        self.commit = subprocess.run(["git", "-C", ROOT, "rev-parse", "--short=8", "HEAD"], capture_output=True, text=True).stdout.strip()
+        self.commit = subprocess.run(
+            ["git", "-C", ROOT, "rev-parse", "--short=8", "HEAD"], capture_output=True, text=True
+        ).stdout.strip()
         self.worst = 0
 
     def is_late(self):
@@ -353,14 +408,22 @@ class Work:
         append(row)
         self.rows[crate.name, name] = row
         self.worst |= outcome != REFUSED
-        print(f"{datetime.datetime.now():%H:%M:%S} {time.time() - begun:4.0f} s  {crate.name} {name}: {outcome}: {why}", flush=True)
+        print(
+            f"{datetime.datetime.now():%H:%M:%S} {time.time() - begun:4.0f} s  {crate.name} {name}: {outcome}: {why}",
+            flush=True,
+        )
 
     def open_of(self, crate, names):
         """Returns the edits of the crate of which nothing is known, with their sums. What was not told apart is tried again where answers are set aside."""
         found = []
         for name in names:
             sum, row = sum_of(self.rt, crate, name, self.seen), self.rows.get((crate.name, name), {})
-            again = row.get("outcome") == NONE or self.said.aside and row.get("outcome") == ALONE and "aside" not in row["why"]
+            again = (
+                row.get("outcome") == NONE
+                or self.said.aside
+                and row.get("outcome") == ALONE
+                and "aside" not in row["why"]
+            )
             if row.get("sum") != sum or again:
                 found.append((name, sum))
         return found
@@ -372,7 +435,10 @@ class Work:
         left = self.open_of(crate, chosen(names, self.said.sample))
         lacking = [it.name for it in crate.below() if not it.is_built()]
         if lacking and left:
-            print(f"{crate.name}: passed over, since these libraries are not built here: {' '.join(lacking[:6])}", flush=True)
+            print(
+                f"{crate.name}: passed over, since these libraries are not built here: {' '.join(lacking[:6])}",
+                flush=True,
+            )
             return
         tries = []
         for name, sum in left:
@@ -395,7 +461,10 @@ class Work:
             return True
         begun, known = time.time(), sorted({it for one in tries for it in one[3] or ()})
         ran = room.check({}, known, seconds=self.said.first_seconds)
-        print(f"{crate.name}: the right bodies: {time.time() - begun:.0f} s, {ran.why or short(ran.lines[-1])}", flush=True)
+        print(
+            f"{crate.name}: the right bodies: {time.time() - begun:.0f} s, {ran.why or short(ran.lines[-1])}",
+            flush=True,
+        )
         if not ran.is_proved():
             print("\n".join(f"    {it[:220]}" for it in ran.lines[:12]), flush=True)
         return ran.is_proved()
@@ -422,7 +491,11 @@ class Work:
                 outcome, why = outcome_of(self.rt, ran, texts)
                 if self.said.show:
                     print("\n".join(f"    {it[:220]}" for it in ran.lines[:60]), flush=True)
-                lost = [it for it in ran.failed() if functions and not any(it.partition("::")[2].startswith(one) for one in functions)]
+                lost = [
+                    it
+                    for it in ran.failed()
+                    if functions and not any(it.partition("::")[2].startswith(one) for one in functions)
+                ]
                 if lost and outcome in (REFUSED, ALONE):
                     outcome, why = NONE, f"another function is not proved either: {lost[0]}"
             if outcome == ALONE and self.said.aside:
@@ -447,14 +520,22 @@ def show_open(rows, there):
 
 def show_table(rows, there):
     """Prints a line a crate of which edits were tried. What was refused is told by who saw it: the prover, somebody who read the clauses, or nobody."""
-    print("| Crate | Edits | Tried | Refused: by the prover | somebody looked | not told apart | By a proof alone | Let through | Do not apply | No verdict |")
+    print(
+        "| Crate | Edits | Tried | Refused: by the prover | somebody looked | not told apart | By a proof alone | Let through | Do not apply | No verdict |"
+    )
     print("|---|" + "---|" * 9)
     total = [0] * 9
     for crate, names in there.items():
         told = [rows[crate, it] for it in names if (crate, it) in rows]
         why = [it["why"].partition(":")[0] for it in told if it["outcome"] == REFUSED]
         seen = [why.count("looked"), why.count("")]
-        row = [len(names), len(told), len(why) - sum(seen), *seen, *[[it["outcome"] for it in told].count(it) for it in ORDER[1:]]]
+        row = [
+            len(names),
+            len(told),
+            len(why) - sum(seen),
+            *seen,
+            *[[it["outcome"] for it in told].count(it) for it in ORDER[1:]],
+        ]
         total = [one + other for one, other in zip(total, row)]
         if told:
             print(f"| `{crate}` | {' | '.join(str(it or '') for it in row)} |")
@@ -464,7 +545,12 @@ def show_table(rows, there):
 def main():
     words = argparse.ArgumentParser(description=__doc__, formatter_class=argparse.RawDescriptionHelpFormatter)
     words.add_argument("--open", action="store_true", help="list what no run has seen refused")
-    words.add_argument("--looked", nargs=3, metavar=("CRATE", "EDIT", "CLAUSE"), help="note that somebody saw which clause a refused edit breaks")
+    words.add_argument(
+        "--looked",
+        nargs=3,
+        metavar=("CRATE", "EDIT", "CLAUSE"),
+        help="note that somebody saw which clause a refused edit breaks",
+    )
     words.add_argument("--table", action="store_true", help="print the table by crate")
     words.add_argument("--sample", type=int, default=0, help="at most so many of each crate, from all over its list")
     words.add_argument("--edit", action="append", help="these edits alone")
@@ -472,9 +558,21 @@ def main():
     words.add_argument("--whole", action="store_true", help="also those edits that need a check of the whole crate")
     words.add_argument("--aside", action="store_true", help="set answers aside where a proof alone refused")
     words.add_argument("--lanes", type=int, default=1, help="so many crates side by side")
-    words.add_argument("--seconds", type=int, default=420, help="the most that a try may take, in seconds of a processor")
-    words.add_argument("--first-seconds", type=int, default=1500, help="the most that the right bodies may take, in seconds of a processor")
-    words.add_argument("--aside-seconds", type=int, default=240, help="the most that a try without answers may take, in seconds of a processor")
+    words.add_argument(
+        "--seconds", type=int, default=420, help="the most that a try may take, in seconds of a processor"
+    )
+    words.add_argument(
+        "--first-seconds",
+        type=int,
+        default=1500,
+        help="the most that the right bodies may take, in seconds of a processor",
+    )
+    words.add_argument(
+        "--aside-seconds",
+        type=int,
+        default=240,
+        help="the most that a try without answers may take, in seconds of a processor",
+    )
     words.add_argument("--memory", type=int, default=4, help="the most that a check may hold, in GB")
     words.add_argument("--show", action="store_true", help="print what the prover says")
     words.add_argument("crates", nargs="*")
@@ -503,7 +601,10 @@ def main():
     crates = {it.name: it for it in rt.rtlib.crates_below(ROOT)}
     work = Work(rt, said)
     with concurrent.futures.ThreadPoolExecutor(said.lanes) as lanes:
-        for it in [lanes.submit(work.crate, crates[name], [it for it in there[name] if not said.edit or it in said.edit]) for name in said.crates or there]:
+        for it in [
+            lanes.submit(work.crate, crates[name], [it for it in there[name] if not said.edit or it in said.edit])
+            for name in said.crates or there
+        ]:
             it.result()
     return work.worst
 

@@ -32,7 +32,9 @@ def run(words, status=0, output=None, error="", given=None):
     done = subprocess.run([PROGRAM, *words.split(" ")], input=given, capture_output=True, text=True)
     found = re.fullmatch(output, done.stdout) if output is not None else True
     if done.returncode != status or not found or not re.fullmatch(error, done.stderr):
-        sys.exit(f"verbs: '{words}' ends with {done.returncode}:\n{done.stdout}{done.stderr}and not with {status}:\n{output}\n{error}")
+        sys.exit(
+            f"verbs: '{words}' ends with {done.returncode}:\n{done.stdout}{done.stderr}and not with {status}:\n{output}\n{error}"
+        )
     COUNT += 1
     return found.groups() if output is not None else done.stdout
 
@@ -52,7 +54,15 @@ def trees(archive):
     """A tree with files of other names in it; the same again; from below; with other bytes at a place."""
     for place in ("3/0/0", "3/0/7", "3/7/7", "2/3/3"):
         keep(f"tree/{place}.png", f"sheet {place}")
-    for path in ("tree/tiles.json", "tree/3/0/readme.txt", "tree/3/0/01.png", "tree/3/0/-1.png", "tree/3/0/1.PNG", "tree/03/0/1.png", "tree/x/0/0.png"):
+    for path in (
+        "tree/tiles.json",
+        "tree/3/0/readme.txt",
+        "tree/3/0/01.png",
+        "tree/3/0/-1.png",
+        "tree/3/0/1.PNG",
+        "tree/03/0/1.png",
+        "tree/x/0/0.png",
+    ):
         keep(path, "no tile")
     run(f"put maps {archive[:4]} tiles tree", 0, "added 4, passed over 0\n")
     run(f"put maps {archive[:7].upper()} tiles tree", 0, "added 0, passed over 4\n")
@@ -64,18 +74,37 @@ def trees(archive):
     taken = r'added 1, passed over 2\n\{"name":"PlaceTaken".*\}\n'
     run(f"put maps {archive[:4]} tiles tree", 1, taken, "refusal 11 PlaceTaken.*\n")
     keep("beside/3/8/0.png", "beside")
-    run(f"put maps {archive[:4]} tiles beside", 1, r'added 0, passed over 0\n\{"name":"BadPlace".*\}\n', "refusal 9 BadPlace.*\n")
+    run(
+        f"put maps {archive[:4]} tiles beside",
+        1,
+        r'added 0, passed over 0\n\{"name":"BadPlace".*\}\n',
+        "refusal 9 BadPlace.*\n",
+    )
     run(f"put maps {archive[:4]} tiles nowhere", 1, "refused: body\n", "error: nowhere: .*\n")
     os.makedirs("empty")
     run(f"put maps {archive[:4]} tiles empty", 0, "added 0, passed over 0\n")
-    run(f"put maps {other(archive[:6])} tiles tree", 1, "refused: no such package\n", f"no package begins with .*; do you mean {archive}\\?\n")
+    run(
+        f"put maps {other(archive[:6])} tiles tree",
+        1,
+        "refused: no such package\n",
+        f"no package begins with .*; do you mean {archive}\\?\n",
+    )
 
 
 def boxes(archive):
     """A box of which a corner is in the sheet below; whole edges alone are in no other sheet."""
-    run(f"lend maps {archive[:4]} --box 0,0,0.512,0.512 --zoom 3 --dry-run", 0, r'\{.*"column":0,"row":7,"last_column":0,"last_row":7.*\}\n')
+    run(
+        f"lend maps {archive[:4]} --box 0,0,0.512,0.512 --zoom 3 --dry-run",
+        0,
+        r'\{.*"column":0,"row":7,"last_column":0,"last_row":7.*\}\n',
+    )
     (loan,) = run("lend maps --box 0,0,0.512,0.513 --zoom 3", 0, f"loan ({UUID})\nsheets 3/0-0/6-7\nreceipt .*\n")
-    run(f"lend maps {other(archive[:5])} --box 0,0,0.512,0.512 --zoom 3", 1, "refused: no such package\n", f"no package begins with .*; do you mean {archive}\\?\n")
+    run(
+        f"lend maps {other(archive[:5])} --box 0,0,0.512,0.512 --zoom 3",
+        1,
+        "refused: no such package\n",
+        f"no package begins with .*; do you mean {archive}\\?\n",
+    )
     run("lend maps --box 0,0,4.097,1 --zoom 3", 1, "refused: area\n")
     run("lend maps --box 1,1,0,0 --zoom 3", 1, "refused: area\n")
     run("lend maps --box 0,0,1 --zoom 3", 1, "refused: number\n")
@@ -88,7 +117,9 @@ def whole_names(archive, loan):
     """Each subcommand that names a package or an item, by first digits and by the whole UUID: they print the same."""
     for words in ("manifest maps {}", "export maps {}", "export maps {} --qgis crew.gpkg"):
         for package in (archive, loan):
-            if run(words.format(package)) != run(words.format(package[:6])) or run(words.format(package)) != run(words.format(package[:9].upper())):
+            if run(words.format(package)) != run(words.format(package[:6])) or run(words.format(package)) != run(
+                words.format(package[:9].upper())
+            ):
                 sys.exit(f"verbs: '{words}' prints another text by first digits")
         nearest = "(?s).*do you mean " + archive + r"\?\n"
         run(words.format(other(archive[:6])), 1, "refused: no such package\n", nearest)
@@ -96,7 +127,11 @@ def whole_names(archive, loan):
     if run(f"report maps {loan}") != run(f"report maps {loan[:6]}"):
         sys.exit("verbs: the page of a loan is another by first digits")
     run(f"report maps {archive[:6]}", 1, "refused: no such package\n")
-    subprocess.run(f"{PROGRAM} export maps {archive[:4]} | sqlite3 a.gpkg && {PROGRAM} holds | sqlite3 a.gpkg > held.csv", shell=True, check=True)
+    subprocess.run(
+        f"{PROGRAM} export maps {archive[:4]} | sqlite3 a.gpkg && {PROGRAM} holds | sqlite3 a.gpkg > held.csv",
+        shell=True,
+        check=True,
+    )
     with open("held.csv", encoding="utf-8") as it:
         held = it.read()
     for verb in ("changes", "bring"):
@@ -106,17 +141,37 @@ def whole_names(archive, loan):
     if run(f"explain maps {tile}") != run(f"explain maps {tile[:8]}"):
         sys.exit("verbs: the way of an item is another by first digits")
     run(f"get maps {tile[:8]}", 0, "upper edge")
-    run(f"get maps {other(tile[:8])}", 1, "refused: no such item\n", f"no item begins with .*; do you mean {tile}\\?\n")
-    run(f"explain maps {other(tile[:8])}", 1, "refused: no such identity\n", f"no item begins with .*; do you mean {tile}\\?\n")
+    run(
+        f"get maps {other(tile[:8])}",
+        1,
+        "refused: no such item\n",
+        f"no item begins with .*; do you mean {tile}\\?\n",
+    )
+    run(
+        f"explain maps {other(tile[:8])}",
+        1,
+        "refused: no such identity\n",
+        f"no item begins with .*; do you mean {tile}\\?\n",
+    )
     return tile
 
 
 def names(archive, loan, tile):
     """What people call a package or an item serves in each subcommand as its UUID does."""
-    called = f"uuid,name\n{archive},Old harbour\n{loan},{archive[:6]}\n{tile},{archive}\n{loan},twins\n{archive},twins\n"
+    called = (
+        f"uuid,name\n{archive},Old harbour\n{loan},{archive[:6]}\n{tile},{archive}\n{loan},twins\n{archive},twins\n"
+    )
     keep("maps/names.csv", called)
-    by_name = lambda words, name: subprocess.run([PROGRAM, *words.format(name).split("|")], capture_output=True, text=True)
-    for words in ("manifest|maps|{}", "export|maps|{}", "export|maps|{}|--qgis|crew.gpkg", "log|maps|{}", "report|maps|{}"):
+    by_name = lambda words, name: subprocess.run(
+        [PROGRAM, *words.format(name).split("|")], capture_output=True, text=True
+    )
+    for words in (
+        "manifest|maps|{}",
+        "export|maps|{}",
+        "export|maps|{}|--qgis|crew.gpkg",
+        "log|maps|{}",
+        "report|maps|{}",
+    ):
         for name, uuid in (("Old harbour", archive), (archive[:6], loan), (archive, archive)):
             ends = [(it.returncode, it.stdout) for it in (by_name(words, name), by_name(words, uuid))]
             if ends[0] != ends[1]:
@@ -143,7 +198,16 @@ def two(archive, loan):
     near = archive[:13] + "-4000-8000-000000000000"
     run(f"lend maps 3/1/0 --as {near}", 0, f"loan {near}\n.*\n.*\n")
     both = "refused: two packages {} {}\n".format(*sorted([archive, near]))
-    for words in ("manifest maps {}", "export maps {}", "export maps {} --qgis a.gpkg", "report maps {}", "changes maps {}", "put maps {} tiles tree", "return maps {}", "lend maps {} 3/0/0"):
+    for words in (
+        "manifest maps {}",
+        "export maps {}",
+        "export maps {} --qgis a.gpkg",
+        "report maps {}",
+        "changes maps {}",
+        "put maps {} tiles tree",
+        "return maps {}",
+        "lend maps {} 3/0/0",
+    ):
         run(words.format(archive[:8]), 1, both, "", "")
     run(f"return maps {near}", 0, f"home {near} {archive}\nreceipt .*\n")
     for identity in (one, more):

@@ -18,17 +18,36 @@ def packages_of(world, sight_of):
         sight = sight_of(world, package)
         sums = {name: sight[name] for name in ("tiles", "media", "rows", "links", "bytes")}
         changed = world.receipts[ticket - 1].at if ticket else None
-        found.append({"package": uuid, "parent": package.parent or None, "depth": package.depth, "loan": package.loan, **sums, "last_change": changed})
+        found.append(
+            {
+                "package": uuid,
+                "parent": package.parent or None,
+                "depth": package.depth,
+                "loan": package.loan,
+                **sums,
+                "last_change": changed,
+            }
+        )
     return array_of([*found, {"strays": 0}])
 
 
 def front_of(receipt):
-    return {"receipt": receipt.seq, "at": receipt.at, "what": receipt.line.split(" ")[0], "from": receipt.source or None, "to": receipt.target or None}
+    return {
+        "receipt": receipt.seq,
+        "at": receipt.at,
+        "what": receipt.line.split(" ")[0],
+        "from": receipt.source or None,
+        "to": receipt.target or None,
+    }
 
 
 def ledger_of(world, package="", first=0, last=None):
     """An object for each receipt that names a package, from a number on, and of those the last."""
-    asked = [it for it in world.receipts if it.seq >= first and any((end or "-").startswith(package) for end in (it.source, it.target))]
+    asked = [
+        it
+        for it in world.receipts
+        if it.seq >= first and any((end or "-").startswith(package) for end in (it.source, it.target))
+    ]
     asked = asked if last is None else asked[max(len(asked) - last, 0) :]
     return array_of([{**front_of(it), "things": len(it.moved), "bytes": it.sums()[-1]} for it in asked])
 
