@@ -18,6 +18,7 @@ are make_folders.py's. Nothing here runs the program.
 """
 
 import csv
+import itertools
 import json
 import os
 import re
@@ -601,8 +602,10 @@ def by_command(lines):
 def shown():
     """The commands of the first session that the README shows, with what it says that they print."""
     with open(README, encoding="utf-8") as found:
-        lines = [line.removeprefix("    ").rstrip() for line in found if line.startswith("    ")]
-    return by_command(lines)
+        behind = found.read().partition("## A first session")[2].splitlines()
+    from_first = itertools.dropwhile(lambda line: not line.startswith("    "), behind)
+    lines = itertools.takewhile(lambda line: line.startswith("    "), from_first)
+    return by_command(line.removeprefix("    ").rstrip() for line in lines)
 
 
 def is_shown_right(said, printed):
