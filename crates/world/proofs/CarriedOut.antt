@@ -21,6 +21,8 @@ use Rattle.store_sql.proofs.StoreLemmas.{same_world}
 use Rattle.package_tables.specs.declared.fault.Fault.TheVariants as fault
 use Rattle.world_changes.specs.Carries.{Carries, IsBeforeCommit, OfEachDue}
 use Rattle.world_changes.specs.Leaving.{IsBeside, AreAtRest, AreBeside, LeavesOneOf}
+use Rattle.world_changes.specs.Writing.{WritesTwoAtMost}
+use Rattle.world_decisions.specs.Deciding.{child_asked}
 use Rattle.world_loans.specs.Loans.{IsLent, IsReturned}
 use Rattle.world_members.specs.Members.{AllRest, AllClean, AllOpen, AllStay, AreMembers, IsMember}
 use Rattle.world_changes.specs.Merges.{Merges}
@@ -38,6 +40,7 @@ use Rattle.world_members.specs.declared.members.Member.{Member}
 use Rattle.world_members.proofs.Changing.{stay_leaves}
 use Rattle.world_changes.proofs.Surviving.{stay_survive, survive_then}
 use Rattle.world_changes.proofs.HeldStores.{held_clean, members_left}
+use Rattle.world_changes.proofs.Writing.{merge_written}
 use Rattle.world_changes.proofs.Lent.{child_left, is_beside, none_beside}
 use Rattle.world_members.proofs.Standing.{members_stay, clean_before, zip_at}
 use Rattle.world.specs.Asked.{ComeHome, GivenBack, HasUuidAt, IsNoPackage, child_returned}
@@ -246,6 +249,14 @@ module _ {S : Type 0} (g : Ghosts S) where
               let both : Some here.0 ≡ Some is.child = sym here.1 ∙ is.from in
               let same : here.0 ≡ is.child = cc in
               subst (IsNoPackage next) (sym (here.2.uuid ∙ ap (λ (p : Package). p.uuid) same)) is.apart
+
+      -- of its members all but one at most were only read, and the child, whose store was too
+      pub home_written : (receipt : Receipt) (child : Held S) (command : Command) (uuid : List ℕ) → Merges g due old new (Ok (receipt, child)) → HasUuidAt old due.from uuid → child_returned command ≡ Some uuid → WritesTwoAtMost g (child_asked command) (child_returned command) old new (child ∷ [])
+      home_written receipt child command uuid it has asked =
+          let home = it.home (receipt, child) refl in
+          let both : Some home.0 ≡ Some has.0 = sym home.1 ∙ has.1 in
+          let same : home.0 ≡ has.0 = cc in
+          merge_written g (child_asked command) (child_returned command) old new due.from home.0 child home.1 (asked ∙ ap Some (has.2 ∙ ap (λ (m : Member S). m.uuid) (sym same))) home.2 (it.others (receipt, child) refl)
 
       pub carries_unreturned : (why : TurnFault) → Merges g due old new (Err why) → Carries g (λ w next. IsReturned w next due) due.receipt old new [] before before (Err (Turn why))
       carries_unreturned why it = record {

@@ -10,6 +10,7 @@ use Rattle.package_tables.specs.declared.fault.Fault.{Fault}
 use Rattle.world.specs.Changes.{Changes}
 use Rattle.world_changes.specs.Leaving.{AllSurvive}
 use Rattle.world_changes.specs.Turns.{IsUncommitted}
+use Rattle.world_changes.specs.Writing.{AllStayButOne}
 use Rattle.world_members.specs.Turning.{IsDue, LeavesAsBefore, LeftAs, world_after}
 use Rattle.register_lending.specs.declared.turn_fault.TurnFault.{TurnFault}
 use Rattle.register_lending.specs.declared.turn_fault.TurnFault.TheVariants.{Before, Committing}
@@ -28,10 +29,11 @@ module _ {S : Type 0} (g : Ghosts S) where
       → LeavesEither g (λ m. m.conn) (LeftAs w.frame) new w.packages (world_after change.receipt command w).packages
 
   -- a change that failed
-  pub changes_failed : (change : Change) (command : Command) (old new : List (Member S)) (count : ℕ) (e : TurnFault) (r : Result Receipt TurnFault) → r ≡ Err e → AllSurvive g old new → AllRest g new → (AllClean g new → AllClean g old)
+  pub changes_failed : (change : Change) (command : Command) (old new : List (Member S)) (count : ℕ) (e : TurnFault) (r : Result Receipt TurnFault) → r ≡ Err e → AllSurvive g old new → AllStayButOne g old new → AllRest g new → (AllClean g new → AllClean g old)
       → ((w : World) (n : ℕ) → AreMembers g old n w → AreMembers g new n w) → MayCrash change command old new → ((fault : Fault) → e ≡ Before fault → LeavesAsBefore g old new) → Changes g change command old new count count r
-  changes_failed change command old new count e r failed survive rests clean undone crash unharmed = subst (Changes g change command old new count count) (sym failed) (record {
+  changes_failed change command old new count e r failed survive others rests clean undone crash unharmed = subst (Changes g change command old new count count) (sym failed) (record {
     survive = survive;
+    others = others;
     rests = rests;
     clean = clean;
     crash = λ w are due opened. crash w count are due opened;
@@ -45,11 +47,12 @@ module _ {S : Type 0} (g : Ghosts S) where
   })
 
   -- and one that was carried out
-  pub changes_done : (change : Change) (command : Command) (old new : List (Member S)) (before after : ℕ) → AllSurvive g old new → AllRest g new → (AllClean g new → AllClean g old) → after ≡ before + 1
+  pub changes_done : (change : Change) (command : Command) (old new : List (Member S)) (before after : ℕ) → AllSurvive g old new → AllStayButOne g old new → AllRest g new → (AllClean g new → AllClean g old) → after ≡ before + 1
       → ((w : World) (n : ℕ) → AreMembers g old n w → IsDue w change.at change.receipt command change.sums → AreMembers g new (n + 1) (world_after change.receipt command w))
       → MayCrash change command old new → (AllClean g new → AllOpen g old → AllOpen g new) → Changes g change command old new before after (Ok change.receipt)
-  changes_done change command old new before after survive rests clean counted done crash opens = record {
+  changes_done change command old new before after survive others rests clean counted done crash opens = record {
     survive = survive;
+    others = others;
     rests = rests;
     clean = clean;
     crash = λ w are due opened. crash w before are due opened;

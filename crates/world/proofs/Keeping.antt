@@ -17,7 +17,10 @@ use Rattle.world.specs.Creating.{HasRoomFor}
 use Rattle.world_known.specs.Known.{Knows}
 use Rattle.world_known.proofs.Remembering.{knows_more}
 use Rattle.world_changes.specs.Carries.{HasNoReceipt, ServesAll, OfEachSeen, IsServedAs, IsSeenBy, IsBeforeCommit, IsUntouched}
-use Rattle.world_changes.specs.Leaving.{AllSurvive, AreClean, AreAtRest, WereRead}
+use Rattle.world_changes.specs.Leaving.{AllSurvive, AreClean, AreAtRest}
+use Rattle.world_changes.specs.Writing.{WritesTwoAtMost}
+use Rattle.world_changes.proofs.Writing.{none_written}
+use Rattle.world_members.proofs.Standing.{all_still}
 use Rattle.world_loans.specs.ServeFaults.{IsLastingFault, told_refusal, CountsShelf}
 use Rattle.sqlite_disk.specs.Disk.{MoreFaults}
 use Rattle.std.specs.Prelude.{◌⊎◌}
@@ -83,15 +86,15 @@ module _ {S : Type 0} (g : Ghosts S) where
   }
 
   -- A world that has failed answers without a look, and stays as it is.
-  pub step_unserved : (q : Request) (seen : Seen S) → seen.has_failed ≡ true → IsStep g q seen (Err StoreFault) seen
-  step_unserved q seen failed = record {
+  pub step_unserved : (shuts : Shuts g) (settles : Settles g) (q : Request) (seen : Seen S) → AllRest g seen.members → seen.has_failed ≡ true → IsStep g q seen (Err StoreFault) seen
+  step_unserved shuts settles q seen at_rest failed = record {
     gone = [];
     left_over = [];
     beside_before = λ clean gone w stands opened. none_beside g w.frame w.packages;
     register = λ w stands. stands.members.register;
     survive = λ refused. same_survive g seen.members;
     dropped = λ refused. refl;
-    read = tt;
+    writes = none_written g (child_asked q.command) (child_returned q.command) seen.members seen.members (all_still g shuts settles seen.members at_rest);
     few = omega arith;
     unlent = λ accepted. refl;
     clean = λ clean gone. clean;
@@ -102,9 +105,9 @@ module _ {S : Type 0} (g : Ghosts S) where
   }
 
   -- and asks a shelf for nothing and gives nothing back
-  pub unserved_with : {H : Type 0} (Asks : List ℕ → H → H → Type 0) (Takes : List ℕ → S → H → H → Type 0) (q : Request) (seen : Seen S) (s : H) → seen.has_failed ≡ true → IsStepWith g Asks Takes q seen (Err StoreFault) seen s s
-  unserved_with Asks Takes q seen s failed =
-      let it : IsStep g q seen (Err StoreFault) seen = step_unserved q seen failed in
+  pub unserved_with : {H : Type 0} (Asks : List ℕ → H → H → Type 0) (Takes : List ℕ → S → H → H → Type 0) (shuts : Shuts g) (settles : Settles g) (q : Request) (seen : Seen S) (s : H) → AllRest g seen.members → seen.has_failed ≡ true → IsStepWith g Asks Takes q seen (Err StoreFault) seen s s
+  unserved_with Asks Takes shuts settles q seen s at_rest failed =
+      let it : IsStep g q seen (Err StoreFault) seen = step_unserved shuts settles q seen at_rest failed in
       record {
         step = it;
         uses = uses_asked g Asks Takes seen.members (child_asked q.command) (IsNewTo g seen seen) (IsHomeBy g q seen seen it.gone) it.gone s s (it.dropped refl) (asks_nothing Asks (child_asked q.command) (IsNewTo g seen seen) s s refl);
@@ -114,7 +117,7 @@ module _ {S : Type 0} (g : Ghosts S) where
   pub left_as_it_stands : Shuts g → Settles g → LeftAsItStands g
   left_as_it_stands shuts settles seen w held stands opened = each_leaves g shuts settles seen.members seen.count w held.rests opened stands.members
 
-  module _ (f : Frame) (q : Request) (old new : List (Member S)) (strays : List (Held S)) (known noted : List (List ℕ)) (before after : ℕ) (r : Result (Result Receipt Refusal) ServeFault) (it : ServesAll g f q old new strays known noted before after r) (was_failed has_failed : Bool) (strays_before : List (Held S)) (was : Seen S)
+  module _ (f : Frame) (q : Request) (old new : List (Member S)) (strays : List (Held S)) (known noted : List (List ℕ)) (before after : ℕ) (r : Result (Result Receipt Refusal) ServeFault) (it : ServesAll g f q old new strays known noted before after r) (writes : WritesTwoAtMost g (child_asked q.command) (child_returned q.command) old new it.gone) (was_failed has_failed : Bool) (strays_before : List (Held S)) (was : Seen S)
       (seen : record { frame = f; members = old; count = before; has_failed = was_failed; strays = strays_before; known = known } ≡ was) where
     abbrev now_seen : Seen S
     now_seen = record { frame = f; members = new; count = after; has_failed = has_failed; strays = strays; known = noted }
@@ -131,8 +134,8 @@ module _ {S : Type 0} (g : Ghosts S) where
     were_there : AllSurvive g old new → AllSurvive g was.members new
     were_there survive = subst (λ ms. AllSurvive g ms new) (ap (λ s. s.members) seen) survive
 
-    were_read : WereRead g was.members it.gone
-    were_read = subst (λ ms. WereRead g ms it.gone) (ap (λ s. s.members) seen) it.read
+    were_written : WritesTwoAtMost g (child_asked q.command) (child_returned q.command) was.members new it.gone
+    were_written = subst (λ ms. WritesTwoAtMost g (child_asked q.command) (child_returned q.command) ms new it.gone) (ap (λ s. s.members) seen) writes
 
     -- a reply is a step
     step_told : (reply : Result Receipt Refusal) → r ≡ Ok reply → (step : IsStep g q was reply now_seen) × (step.gone ≡ it.gone)
@@ -142,7 +145,7 @@ module _ {S : Type 0} (g : Ghosts S) where
         left_over = it.left_over;
         few = it.few;
         unlent = λ accepted. it.unlent reply is;
-        read = were_read;
+        writes = were_written;
         dropped = λ refused. it.dropped (subst HasNoReceipt (sym is) refused);
         survive = λ refused. were_there (it.survive (subst HasNoReceipt (sym is) refused));
         beside_before = λ clean gone w stands opened. it.beside_before clean gone w (stood w stands).0 (stood w stands).1 (were_open opened);
@@ -170,7 +173,7 @@ module _ {S : Type 0} (g : Ghosts S) where
         left_over = it.left_over;
         few = it.few;
         unlent = λ accepted. absurd (let x = accepted in cc);
-        read = were_read;
+        writes = were_written;
         dropped = λ refused. it.dropped (subst HasNoReceipt (sym is) tt);
         survive = λ refused. were_there (it.survive (subst HasNoReceipt (sym is) tt));
         beside_before = λ clean gone w stands opened. it.beside_before clean gone w (stood w stands).0 (stood w stands).1 (were_open opened);

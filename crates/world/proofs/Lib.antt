@@ -9,3 +9,4 @@ pub mod Sights
 mod CarriedOut
 mod ServedAll
 mod Asks
+pub mod Room

@@ -1,5 +1,5 @@
 -- A list of requests, carried out one after the other.
-use Rattle.std.specs.Prelude.{ℕ}
+use Rattle.std.specs.Prelude.{ℕ, Option, Some, None}
 use Rattle.std.proofs.Common.{inl, inr, arith, sym, subst}
 use Rattle.sqlite_disk.specs.Disk.{MoreFaults}
 use Rattle.world_changes.specs.Leaving.{AreClean}
@@ -17,14 +17,15 @@ use Rattle.sheet_types.proofs.Every.{All-left, All-right, All-snoc}
 use Rattle.sheet_laws.proofs.Running.{run_of_both}
 pub use Rattle.world.specs.Worlds.{IsApplied}
 use Rattle.world.specs.Worlds.{Seen, StandsFor, AreApplied, IsStep, IsStopped, IsRun, NoneShut, RunsOverRegisters, held}
-use Rattle.world.specs.Asked.{AreStepsWith, IsRunWith, IsStepWith}
+use Rattle.world.specs.Asked.{AreStepsWith, IsRunWith, IsStepWith, child_returned}
+use Rattle.world_changes.specs.Writing.{Leave}
 use Rattle.world.proofs.Asks.{steps_more}
 use Rattle.world.proofs.Faults.{fault_is_err, fault_or_not, refused_stays}
 use Rattle.world_members.specs.Members.{AllClean, AllOpen}
 use Rattle.world_members.specs.declared.members.Member.{Member}
 use Rattle.world_changes.specs.Leaving.{AllSurvive, LeavesOneOf}
 use Rattle.std.specs.List.{AllByRecursion}
-use Rattle.std.proofs.lemmas.List.{append_assoc, map-append}
+use Rattle.std.proofs.lemmas.List.{append-nil, append_assoc, map-append}
 use Rattle.std.proofs.lemmas.List.Elements.{All-from_recursion, recursion_from_All}
 use Rattle.sqlite.specs.Held.{Held, state}
 use Rattle.sqlite.specs.State.{HasCleanDisk}
@@ -60,13 +61,41 @@ module _ {S : Type 0} (g : Ghosts S) where
   none_left (r ∷ told) why is = let e = is in cc
 
   -- one more behind the others
-  each_more : (qs : List Request) (old mid new : Seen S) (replies : List (Result Receipt Refusal)) (q : Request) (reply : Result Receipt Refusal) (before between after : ℕ) → AreApplied g qs old replies mid before between → IsApplied g q mid reply new between after
-      → AreApplied g (qs ++ q ∷ []) old (replies ++ reply ∷ []) new before after
-  each_more [] old mid new [] q reply before between after each one =
-      (new, after, subst (λ m. IsApplied g q m reply new before after) each.0 (subst (λ n. IsApplied g q mid reply new n after) each.1 one), (refl, refl))
-  each_more [] old mid new (r ∷ replies) q reply before between after each one = absurd each
-  each_more (p ∷ qs) old mid new [] q reply before between after each one = absurd each
-  each_more (p ∷ qs) old mid new (r ∷ replies) q reply before between after each one = (each.0, each.1, each.2, each_more qs each.0 mid new replies q reply each.1 between after each.3 one)
+  each_more : (qs : List Request) (old mid new : Seen S) (replies : List (Result Receipt Refusal)) (q : Request) (reply : Result Receipt Refusal) (gone : List (Held S)) (before between after : ℕ) → AreApplied g qs old replies mid gone before between → (one : IsApplied g q mid reply new between after)
+      → AreApplied g (qs ++ q ∷ []) old (replies ++ reply ∷ []) new (gone ++ one.step.gone) before after
+  each_more [] old mid new [] q reply gone before between after each one =
+      let all : List (Held S) = gone ++ one.step.gone in
+      let here : (it : IsApplied g q mid reply new between after) × (all ≡ it.step.gone ++ []) = (one, ap (λ x. x ++ one.step.gone) each.1 ∙ sym (append-nil one.step.gone)) in
+      let there : (it : IsApplied g q old reply new before after) × (all ≡ it.step.gone ++ []) =
+      subst (λ m. (it : IsApplied g q m reply new before after) × (all ≡ it.step.gone ++ [])) each.0
+      (subst (λ n. (it : IsApplied g q mid reply new n after) × (all ≡ it.step.gone ++ [])) each.2 here) in
+      (new, after, there.0, [], there.1, (refl, refl, refl))
+  each_more [] old mid new (r ∷ replies) q reply gone before between after each one = absurd each
+  each_more (p ∷ qs) old mid new [] q reply gone before between after each one = absurd each
+  each_more (p ∷ qs) old mid new (r ∷ replies) q reply gone before between after each one = (
+    each.0,
+    each.1,
+    each.2,
+    each.3 ++ one.step.gone,
+    ap (λ x. x ++ one.step.gone) each.4 ∙ append_assoc each.2.step.gone each.3 one.step.gone,
+    each_more qs each.0 mid new replies q reply each.3 each.1 between after each.5 one,
+  )
+
+  -- a request that is no merge lets no connection go
+  none_left_by : (returned : Option (List ℕ)) (old before : List (Member S)) (gone : List (Held S)) → returned ≡ None → Leave g returned old before gone → gone ≡ []
+  none_left_by returned old before [] none left = refl
+  none_left_by returned old before (last ∷ others) none left = absurd (let both : None ≡ Some left.2.uuid = sym none ∙ left.4 in cc)
+
+  pub step_keeps : (q : Request) (old new : Seen S) (reply : Result Receipt Refusal) (it : IsStep g q old reply new) → child_returned q.command ≡ None → it.gone ≡ []
+  step_keeps q old new reply it none = none_left_by (child_returned q.command) old.members it.writes.before it.gone none it.writes.left
+
+  -- so do several
+  each_keeps : (qs : List Request) (old new : Seen S) (replies : List (Result Receipt Refusal)) (gone : List (Held S)) (before after : ℕ) → AreApplied g qs old replies new gone before after → AllByRecursion (λ q. child_returned q.command ≡ None) qs → gone ≡ []
+  each_keeps [] old new [] gone before after each none = each.1
+  each_keeps [] old new (r ∷ replies) gone before after each none = absurd each
+  each_keeps (q ∷ qs) old new [] gone before after each none = absurd each
+  each_keeps (q ∷ qs) old new (r ∷ replies) gone before after each none =
+      each.4 ∙ ap (λ x. x ++ each.3) (step_keeps q old each.0 r each.2.step none.0) ∙ each_keeps qs each.0 new replies each.3 each.1 after each.5 none.1
 
   -- disks that cannot fail leave open what was open
   open_unfailing : ((h : Held S) → (state g h).faults ≡ 0) → (old new : List (Member S)) → AllSurvive g old new → AllClean g new → AllOpen g old → AllOpen g new
@@ -102,7 +131,7 @@ module _ {S : Type 0} (g : Ghosts S) where
 
   -- no request yet
   none_told : (seen : Seen S) (n : ℕ) → (run : IsRun g [] seen [] seen n n) × (run.gone ≡ [])
-  none_told seen n = (record { gone = []; clean = λ clean gone. clean; run = λ clean gone w stands. (w, refl, stands); registers = λ clean gone w stands. (w, (refl, stands.members.register), stands); opens = λ clean gone sound opened. opened; told = λ usable none. tt; usable = λ sound. refl; shelf = omega arith; each = (refl, refl); failed = λ failed. (tt, refl); stays_open = λ clean gone usable none opened. opened; stops = λ clean gone usable failed. absurd (let both : true ≡ false = sym failed ∙ usable in cc); unharmed = λ told why is. absurd (none_left told why is) }, refl)
+  none_told seen n = (record { gone = []; clean = λ clean gone. clean; run = λ clean gone w stands. (w, refl, stands); registers = λ clean gone w stands. (w, (refl, stands.members.register), stands); opens = λ clean gone sound opened. opened; told = λ usable none. tt; usable = λ sound. refl; shelf = omega arith; each = (refl, refl, refl); kept = λ none. refl; failed = λ failed. (tt, refl); stays_open = λ clean gone usable none opened. opened; stops = λ clean gone usable failed. absurd (let both : true ≡ false = sym failed ∙ usable in cc); unharmed = λ told why is. absurd (none_left told why is) }, refl)
 
   pub run_none : (seen : Seen S) (n : ℕ) → IsRun g [] seen [] seen n n
   run_none seen n = (none_told seen n).0
@@ -135,7 +164,8 @@ module _ {S : Type 0} (g : Ghosts S) where
       usable = λ sound.
           next.usable (All-right (λ r. ¬ IsFault r) replies (reply ∷ []) sound).0 ∙ first.usable (All-left (λ r. ¬ IsFault r) replies (reply ∷ []) sound);
       shelf = omega (arith, first.shelf, next.shelf);
-      each = each_more qs old mid new replies q reply before between after first.each next;
+      each = each_more qs old mid new replies q reply first.gone before between after first.each next;
+      kept = λ none. each_keeps (qs ++ q ∷ []) old new (replies ++ reply ∷ []) (first.gone ++ next.step.gone) before after (each_more qs old mid new replies q reply first.gone before between after first.each next) none;
       failed = λ failed.
           let was = first.failed failed in
           let now = next.failed (ap (λ (s : Seen S). s.has_failed) was.1 ∙ failed) in

@@ -26,6 +26,7 @@ use Rattle.world_known.proofs.Remembering.{knows_more}
 use Rattle.world_changes.specs.Carries.{Carries, ServesAll, HasNoReceipt, IsSeenBy, IsBeforeCommit, OfEachDue, OfEachSeen}
 use Rattle.world_decisions.specs.Deciding.{IsOf, Decides, DecidesWhere, child_asked}
 use Rattle.world_changes.specs.Leaving.{AreAtRest, AreClean, AreBeside, LeavesOneOf}
+use Rattle.world_changes.specs.Writing.{WritesTwoAtMost}
 use Rattle.world_members.specs.Members.{AllRest, AllClean, AllOpen, AreMembers}
 use Rattle.world_loans.specs.ServeFaults.{IsLastingFault, CountsShelf}
 use Rattle.world.specs.Changes.{Changes}
@@ -48,6 +49,7 @@ use Rattle.world.proofs.CarriedOut.{leaves_before}
 use Rattle.world_changes.proofs.Surviving.{read_before, stay_survive, survive_then}
 use Rattle.world_changes.proofs.HeldStores.{held_clean, members_left}
 use Rattle.world_changes.proofs.Lent.{none_beside}
+use Rattle.world_changes.proofs.Writing.{written_since}
 use Rattle.world.proofs.Noted.{knows_after}
 use Rattle.world_members.proofs.Changing.{stay_leaves}
 use Rattle.world_members.proofs.Standing.{members_stay, clean_before}
@@ -351,14 +353,16 @@ module _ {S : Type 0} (g : Ghosts S) (shuts : Shuts g) (settles : Settles g) (f 
 
     -- the store that a merge lets go was given back, and nothing was asked for
     pub merge_with : {H : Type 0} (Asks : List ℕ → H → H → Type 0) (Takes : List ℕ → S → H → H → Type 0) (s t : H) {made_reply : Result Receipt ServeFault} {reply : Result (Result Receipt Refusal) ServeFault} (due : Returning) → r ≡ Ok (MergeDue due) → (made : Carries g (λ w next. IsReturned w next due) due.receipt mid new [] before after made_reply)
-        → ComeHome g Takes mid (λ uuid. (child_returned q.command ≡ Some uuid) × OfEachDue g (λ w next. IsReturned w next due) mid before (λ w next. IsNoPackage next uuid)) made.gone s t → (all : ServesAll g f q old new strays known noted before after reply) → all.gone ≡ made.gone
-        → (x : ServesAll g f q old new strays known noted before after reply) × ServesWith g Asks Takes f q old new known before x.gone s t
-    merge_with Asks Takes s t due is made home all same = (
+        → ComeHome g Takes mid (λ uuid. (child_returned q.command ≡ Some uuid) × OfEachDue g (λ w next. IsReturned w next due) mid before (λ w next. IsNoPackage next uuid)) made.gone s t → WritesTwoAtMost g (child_asked q.command) (child_returned q.command) mid new made.gone → (all : ServesAll g f q old new strays known noted before after reply) → all.gone ≡ made.gone
+        → (x : ServesAll g f q old new strays known noted before after reply) × ServesWith g Asks Takes f q old new known before x.gone s t × WritesTwoAtMost g (child_asked q.command) (child_returned q.command) old new x.gone
+    merge_with Asks Takes s t due is made home writes all same = (
       all,
       subst (λ gone. ServesWith g Asks Takes f q old new known before gone s t) (sym same)
           (uses_home g Asks Takes old mid (child_asked q.command) (λ child. AllClean g new → OfEachSeen g f known old before (λ w. IsNoPackage w child)) (λ uuid. (child_returned q.command ≡ Some uuid) × OfEachDue g (λ w next. IsReturned w next due) mid before (λ w next. IsNoPackage next uuid))
           (λ uuid. (child_returned q.command ≡ Some uuid) × (AllClean g new → AreClean g made.gone → OfEachSeen g f known old before (λ w. IsNoPackage (outcome w q).1 uuid))) made.gone s t it.stay
           (λ uuid both. (both.0, λ clean gone w seen are. merge_apart due is uuid both.1 (made.clean clean gone) w seen are)) home),
+      subst (WritesTwoAtMost g (child_asked q.command) (child_returned q.command) old new) (sym same)
+          (written_since g (child_asked q.command) (child_returned q.command) old mid it.stay new made.gone writes),
     )
 
 -- ---- what a shelf is asked for
@@ -366,16 +370,19 @@ module _ {S : Type 0} (g : Ghosts S) (shuts : Shuts g) (settles : Settles g) (f 
 module _ {S : Type 0} (g : Ghosts S) {H : Type 0} (Asks : List ℕ → H → H → Type 0) (Takes : List ℕ → S → H → H → Type 0) {f : Frame} {q : Request} {old new : List (Member S)} {strays : List (Held S)} {known noted : List (List ℕ)} {before after : ℕ} {r : Result (Result Receipt Refusal) ServeFault} where
   -- nothing was given back
   pub with_asked : (s t : H) → (all : ServesAll g f q old new strays known noted before after r) → all.gone ≡ [] → AsksFor Asks (child_asked q.command) (λ child. AllClean g new → OfEachSeen g f known old before (λ w. IsNoPackage w child)) s t
-      → (x : ServesAll g f q old new strays known noted before after r) × ServesWith g Asks Takes f q old new known before x.gone s t
-  with_asked s t all none asked = (
+      → WritesTwoAtMost g (child_asked q.command) (child_returned q.command) old new []
+      → (x : ServesAll g f q old new strays known noted before after r) × ServesWith g Asks Takes f q old new known before x.gone s t × WritesTwoAtMost g (child_asked q.command) (child_returned q.command) old new x.gone
+  with_asked s t all none asked writes = (
     all,
     uses_asked g Asks Takes old (child_asked q.command) (λ child. AllClean g new → OfEachSeen g f known old before (λ w. IsNoPackage w child))
         (λ uuid. (child_returned q.command ≡ Some uuid) × (AllClean g new → AreClean g all.gone → OfEachSeen g f known old before (λ w. IsNoPackage (outcome w q).1 uuid))) all.gone s t none asked,
+    subst (WritesTwoAtMost g (child_asked q.command) (child_returned q.command) old new) (sym none) writes,
   )
 
   -- and nothing was asked for
-  pub with_nothing : (s : H) → (all : ServesAll g f q old new strays known noted before after r) → all.gone ≡ [] → (x : ServesAll g f q old new strays known noted before after r) × ServesWith g Asks Takes f q old new known before x.gone s s
-  with_nothing s all none = with_asked s s all none (asks_nothing Asks (child_asked q.command) (λ child. AllClean g new → OfEachSeen g f known old before (λ w. IsNoPackage w child)) s s refl)
+  pub with_nothing : (s : H) → (all : ServesAll g f q old new strays known noted before after r) → all.gone ≡ [] → WritesTwoAtMost g (child_asked q.command) (child_returned q.command) old new []
+      → (x : ServesAll g f q old new strays known noted before after r) × ServesWith g Asks Takes f q old new known before x.gone s s × WritesTwoAtMost g (child_asked q.command) (child_returned q.command) old new x.gone
+  with_nothing s all none writes = with_asked s s all none (asks_nothing Asks (child_asked q.command) (λ child. AllClean g new → OfEachSeen g f known old before (λ w. IsNoPackage w child)) s s refl) writes
 
   -- where there is a fault no connection left the world
   pub none_gone : {why : ServeFault} → r ≡ Err why → (all : ServesAll g f q old new strays known noted before after r) → all.gone ≡ []

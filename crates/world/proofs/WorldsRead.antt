@@ -1,5 +1,5 @@
 -- A world whose stores were only read stands for what it stood for, and what its members told is told of it.
-use Rattle.std.proofs.Common.{◌≡◌, refl, sym, ap, subst, ℕ, Bool, List, Result, Ok, Err, OnOk}
+use Rattle.std.proofs.Common.{◌≡◌, ◌∙◌, refl, sym, ap, subst, ℕ, Bool, List, Result, Ok, Err, OnOk}
 use Rattle.sqlite.specs.Store.{Ghosts}
 use Rattle.sqlite.specs.Held.{Held}
 use Rattle.sheet_types.specs.World.{World}
@@ -10,9 +10,18 @@ use Rattle.world_members.specs.Members.{AllStay, AllClean, AllOpen}
 use Rattle.world.specs.Worlds.{Seen, StandsFor, IsHeld, IsRead, TellsOf}
 use Rattle.world_members.specs.declared.members.Member.{Member}
 use Rattle.world_queries.proofs.Questions.{asks_weaker}
-use Rattle.world_members.proofs.Standing.{members_stay, clean_before}
+use Rattle.world_members.proofs.Standing.{all_stay_then, members_stay, clean_before}
 
 module _ {S : Type 0} (g : Ghosts S) where
+  -- one read of a world after another
+  pub read_then : (a b c : Seen S) → IsRead g a b → IsRead g b c → IsRead g a c
+  read_then a b c first next = record {
+    same = next.same ∙ ap (λ (s : Seen S). record s { members = c.members }) first.same;
+    stay = all_stay_then g a.members b.members c.members first.stay next.stay;
+    clean = λ clean. first.clean (next.clean clean);
+    stands = λ w stands. next.stands w (first.stands w stands);
+  }
+
   -- what rests on no UUID that is known
   pub asks_known : {X E : Type 0} {Answer : World → X → Type 0} {old new : List (Member S)} {known : List (List ℕ)} {r : Result X E} → AsksAll g {X = X} {E = E} Answer old new r → AsksAll g {X = X} {E = E} (λ w x. Knows known w → Answer w x) old new r
   asks_known {X} {E} {Answer} {old} {new} {known} {r} it = asks_weaker g r (λ x w count are told knows. told) it

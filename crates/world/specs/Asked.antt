@@ -7,7 +7,6 @@ use Rattle.sqlite_trees.specs.View.{IsQuiet}
 use Rattle.sheet_types.specs.Step.{outcome}
 use Rattle.sheet_types.specs.World.{World}
 use Rattle.sheet_types.specs.declared.command.Command.{Command}
-use Rattle.sheet_types.specs.declared.command.Command.TheVariants.{Merge}
 use Rattle.sheet_types.specs.declared.command.Request.{Request}
 use Rattle.sheet_types.specs.declared.frame.Frame.{Frame}
 use Rattle.sheet_types.specs.declared.receipt.Receipt.{Receipt}
@@ -15,6 +14,7 @@ use Rattle.sheet_types.specs.declared.refusal.Refusal.{Refusal}
 use Rattle.store_sql.specs.Staying.{Stays}
 use Rattle.world_changes.specs.Carries.{OfEachSeen}
 use Rattle.world_changes.specs.Leaving.{AreClean}
+pub use Rattle.world_changes.specs.Writing.{child_returned}
 use Rattle.world_decisions.specs.Deciding.{child_asked}
 use Rattle.world_members.specs.Members.{AllClean}
 use Rattle.world_members.specs.declared.members.Member.{Member}
@@ -32,11 +32,6 @@ HasUuidAt {S} members at uuid = (member : Member S) × (slice_get members at ≡
 abbrev pub AsksFor : {H : Type 0} → (List ℕ → H → H → Type 0) → Option (List ℕ) → (List ℕ → Type 0) → H → H → Type 0
 AsksFor Asks None Fact before after = after ≡ before
 AsksFor Asks (Some child) Fact before after = (after ≡ before) ⊎ (Asks child before after × Fact child)
-
--- the package that a command takes home
-abbrev pub child_returned : Command → Option (List ℕ)
-child_returned (Merge child into ticket) = Some child
-child_returned command = None
 
 -- It was given back one store, as that of the package that this command takes home.
 abbrev pub TakesHomeOf : {S H : Type 0} → (List ℕ → S → H → H → Type 0) → Command → H → H → Type 0

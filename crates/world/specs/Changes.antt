@@ -10,6 +10,7 @@ use Rattle.world_members.specs.Turning.{IsDue, LeavesAsBefore, LeftAs, world_aft
 use Rattle.register_lending.specs.declared.turn_fault.TurnFault.{TurnFault}
 use Rattle.world_changes.specs.Leaving.{AllSurvive}
 use Rattle.world_changes.specs.Turns.{IsUncommitted}
+use Rattle.world_changes.specs.Writing.{AllStayButOne}
 use Rattle.world_decisions.specs.declared.deciding.Change.{Change}
 use Rattle.world_members.specs.declared.members.Member.{Member}
 
@@ -20,6 +21,8 @@ module _ {S : Type 0} (g : Ghosts S) where
       (r : Result Receipt TurnFault) : Type 0 where
     pub rests : AllRest g new
     pub survive : AllSurvive g old new
+    -- all stores but one at most were only read
+    pub others : AllStayButOne g old new
     pub clean : AllClean g new → AllClean g old
     pub ok : (receipt : Receipt) → r ≡ Ok receipt → (receipt ≡ change.receipt) × (after ≡ before + 1)
         × ((w : World) → AreMembers g old before w → IsDue w change.at change.receipt command change.sums

@@ -3,3 +3,5 @@ pub mod Worlds
 pub mod Creating
 pub mod Reading
 pub mod Asked
+pub mod Knowing
+pub mod Questions

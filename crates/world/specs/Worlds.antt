@@ -1,5 +1,5 @@
 -- What a clause sees of a value of `World`, and the world of the model that it stands for. Profile.
-use Rattle.std.specs.Prelude.{◌≡◌, ◌⊎◌, ◌≤◌, ℕ, ℤ, Bool, true, false, List, [], ◌∷◌, ◌++◌, map, length, Option, Result, Err, IsTrue, IsOk, IfOk, IsErr, refl}
+use Rattle.std.specs.Prelude.{◌≡◌, ◌⊎◌, ◌≤◌, ℕ, ℤ, Bool, true, false, List, [], ◌∷◌, ◌++◌, map, length, Option, None, Result, Err, IsTrue, IsOk, IfOk, IsErr, refl}
 use Rattle.std.specs.List.{AllByRecursion}
 use Rattle.std.specs.Coded.{Coded, code_by, coded×, coded_bool, coded_list, coded_option, coded_ℕ, coded_ℤ}
 use Rattle.sqlite.specs.Store.{Ghosts}
@@ -18,7 +18,9 @@ use Rattle.sheet_types.specs.declared.refusal.Refusal.TheVariants.{StoreFault}
 use Rattle.sqlite_disk.specs.Disk.{MoreFaults}
 use Rattle.world_known.specs.Known.{Knows}
 use Rattle.store_sql.specs.Stores.{EachLeaves}
-use Rattle.world_changes.specs.Leaving.{AllSurvive, AreClean, AreAtRest, AreBeside, LeavesOneOf, WereRead}
+use Rattle.world_changes.specs.Leaving.{AllSurvive, AreClean, AreAtRest, AreBeside, LeavesOneOf}
+use Rattle.world_changes.specs.Writing.{WritesTwoAtMost, child_returned}
+use Rattle.world_decisions.specs.Deciding.{child_asked}
 use Rattle.world_members.specs.Turning.{LeftAs}
 use Rattle.world_members.specs.Members.{AllOpen, AllRest, AllClean, AllStay, AreMembers}
 use Rattle.world_members.specs.declared.members.Member.{Member}
@@ -180,7 +182,7 @@ module _ {S : Type 0} (g : Ghosts S) where
   -- The reply and the world afterwards are a step of each world that it stood for, where each disk has given back
   -- what was written, those of the connections that were dropped too.
   pub record IsStep (q : Request) (old : Seen S) (reply : Result Receipt Refusal) (new : Seen S) : Type 0 where
-    -- the last states of the connections that were dropped, as those of merged children
+    -- the last states of the connections that left the world: none, or that of a merged child
     pub gone : List (Held S)
     -- those of children that a split dropped before they were of the world; a store in which no child came to be made
     -- is not among them
@@ -205,9 +207,10 @@ module _ {S : Type 0} (g : Ghosts S) where
     pub register : (w : World) → StandsFor new w → IsRegister w
     -- After a refusal or a fault nothing but a failure of its disk has shut a store that was open.
     pub survive : IsErr reply → AllSurvive g old.members new.members
-    -- Nothing was dropped but, where a receipt is the reply, the store of one member, which was only read.
+    -- At most two stores were written to. No member left, and no connection, but that of the package that a merge takes
+    -- home, where a receipt is the reply; none came but that of the package that a split makes.
+    pub writes : WritesTwoAtMost g (child_asked q.command) (child_returned q.command) old.members new.members gone
     pub dropped : IsErr reply → gone ≡ []
-    pub read : WereRead g old.members gone
     pub few : length left_over ≤ 1
     pub unlent : IsOk reply → left_over ≡ []
 
@@ -248,13 +251,15 @@ module _ {S : Type 0} (g : Ghosts S) where
         → (after ≡ before) × ((reply ≡ Err StoreFault) ⊎ IsAccepted q old new)
     pub shelf : before ≤ after
 
-  -- Requests one after the other, each in the world that the one before left.
-  abbrev pub AreApplied : List Request → Seen S → List (Result Receipt Refusal) → Seen S → ℕ → ℕ → Type 0
-  AreApplied [] old [] new before after = (new ≡ old) × (after ≡ before)
-  AreApplied (q ∷ qs) old (reply ∷ replies) new before after = (mid : Seen S) × (between : ℕ)
-      × IsApplied q old reply mid before between × AreApplied qs mid replies new between after
-  AreApplied [] old (reply ∷ replies) new before after = ⊥
-  AreApplied (q ∷ qs) old [] new before after = ⊥
+  -- Requests one after the other, each in the world that the one before left. These connections left then, in turn.
+  abbrev pub AreApplied : List Request → Seen S → List (Result Receipt Refusal) → Seen S → List (Held S) → ℕ → ℕ
+      → Type 0
+  AreApplied [] old [] new gone before after = (new ≡ old) × (gone ≡ []) × (after ≡ before)
+  AreApplied (q ∷ qs) old (reply ∷ replies) new gone before after = (mid : Seen S) × (between : ℕ)
+      × (it : IsApplied q old reply mid before between) × (later : List (Held S)) × (gone ≡ it.step.gone ++ later)
+      × AreApplied qs mid replies new later between after
+  AreApplied [] old (reply ∷ replies) new gone before after = ⊥
+  AreApplied (q ∷ qs) old [] new gone before after = ⊥
 
   -- The disks of these stores cannot fail, as those in memory, or no reply told a fault: so no store was shut.
   abbrev pub NoneShut : List (Result Receipt Refusal) → Type 0
@@ -282,7 +287,7 @@ module _ {S : Type 0} (g : Ghosts S) where
   -- and after.
   pub record IsRun (qs : List Request) (old : Seen S) (replies : List (Result Receipt Refusal)) (new : Seen S)
       (before after : ℕ) : Type 0 where
-    -- the last states of the connections that were dropped
+    -- the last states of the connections that left the world: of each merge that got a receipt one at most
     pub gone : List (Held S)
     pub clean : AllClean g new.members → AreClean g gone → AllClean g old.members
     pub run : AllClean g new.members → AreClean g gone → (w : World) → StandsFor old w
@@ -299,7 +304,9 @@ module _ {S : Type 0} (g : Ghosts S) where
     pub usable : AllByRecursion (λ reply. ¬ IsFault reply) replies → new.has_failed ≡ old.has_failed
     pub shelf : before ≤ after
     -- It has all that a step has, request by request.
-    pub each : AreApplied qs old replies new before after
+    pub each : AreApplied qs old replies new gone before after
+    -- Where no request is a merge no connection left the world.
+    pub kept : AllByRecursion (λ q. child_returned q.command ≡ None) qs → gone ≡ []
     -- A world that had failed told each request that a store failed, and stayed as it was.
     pub failed : old.has_failed ≡ true → AllByRecursion (λ reply. reply ≡ Err StoreFault) replies × (new ≡ old)
     -- Open stores are still open where it can be used, unless a disk failed where memory was wanting.

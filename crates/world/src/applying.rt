@@ -1,10 +1,11 @@
 //! One request over the members of a world: what it comes to is decided, and where a change is due it is carried out.
-ghost use Rattle.std.specs.Prelude.{◌≡◌, ◌⊎◌, ℕ, ◌≤◌, ◌<◌, ◌+◌, [], IsTrue, OnOk, IfSome, Some, length, vec_len, vec_capacity};
+ghost use Rattle.std.specs.Prelude.{◌≡◌, ◌⊎◌, ℕ, ◌≤◌, ◌<◌, ◌+◌, [], IsTrue, OnOk, IfSome, None, Some, length, vec_len, vec_capacity};
 ghost use Rattle.sheet_types.specs.Matrix.{is_good_frame};
 ghost use Rattle.sheet_types.specs.Refuse.{greatest_receipts};
-ghost use Rattle.world_decisions.specs.Deciding.{HasPlace};
+ghost use Rattle.world_decisions.specs.Deciding.{HasPlace, child_asked};
 ghost use Rattle.world_members.specs.Members.{AllRest, AllClean};
 ghost use Rattle.world_changes.specs.Carries.{Carries, ServesAll, OfEachDue};
+ghost use Rattle.world_changes.specs.Writing.{WritesTwoAtMost};
 ghost use Rattle.world.specs.Creating.{HasRoomFor};
 ghost use Rattle.world_loans.specs.Loans.{HasLendingPlace, HasReturnPlace, IsLent, IsReturned};
 ghost use Rattle.world_loans.specs.ServeFaults.{CountsShelf};
@@ -65,6 +66,7 @@ fn carry_out_split<S: Alter + Drop, H: Shelf<S>>(
     requires room { HasRoomFor members.old.items strays.old }
     ensures carries { (it : Carries S.Store (λ w next. (frame.now ≡ w.frame) × IsLent w next due) due.receipt
         members.old.items members.new.items strays.new.items count.old count.new result) × (it.gone ≡ []) }
+    ensures writes { WritesTwoAtMost S.Store (Some due.child) None members.old.items members.new.items [] }
     ensures room { HasRoomFor members.new.items strays.new }
     ensures shelf { CountsShelf result (H.failures_of shelf.old) (H.failures_of shelf.new) }
     ensures clean { AllClean S.Store members.new.items → AllClean S.Store members.old.items }
@@ -106,7 +108,9 @@ fn carry_out_merge<S: Alter + Drop, H: Shelf<S>>(
         × ComeHome S.Store H.takes members.old.items
         (λ uuid. (child_returned command.now ≡ Some uuid)
         × OfEachDue S.Store (λ w next. IsReturned w next due) members.old.items count.old (λ w next. IsNoPackage next uuid))
-        it.gone shelf.old shelf.new }
+        it.gone shelf.old shelf.new
+        × WritesTwoAtMost S.Store (child_asked command.now) (child_returned command.now)
+        members.old.items members.new.items it.gone }
     ensures shorter { length members.new.items ≤ length members.old.items }
     ensures shelf { CountsShelf result (H.failures_of shelf.old) (H.failures_of shelf.new) }
 {
@@ -156,7 +160,9 @@ pub(crate) fn serve<S: Alter + Drop, H: Shelf<S>>(
     ensures serves { (it : ServesAll S.Store frame.now request.now
         members.old.items members.new.items strays.new.items known.old known.new count.old count.new result)
         × ServesWith S.Store H.asks H.takes frame.now request.now members.old.items members.new.items known.old count.old
-        it.gone shelf.old shelf.new }
+        it.gone shelf.old shelf.new
+        × WritesTwoAtMost S.Store (child_asked request.now.command) (child_returned request.now.command)
+        members.old.items members.new.items it.gone }
     ensures room { HasRoomFor members.new.items strays.new }
     ensures shelf { CountsShelf result (H.failures_of shelf.old) (H.failures_of shelf.new) }
 {

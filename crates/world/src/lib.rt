@@ -2,8 +2,10 @@
 #![tactic(auto)]
 
 pub mod applying;
+pub mod asking;
 pub mod crash_laws;
 pub mod creating;
+pub mod knowing;
 mod noting;
 pub mod reading;
 pub mod world;

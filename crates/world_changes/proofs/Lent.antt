@@ -44,8 +44,9 @@ use Rattle.world_members.specs.declared.members.Member.{Member}
 use Rattle.world_members.proofs.Changing.{each_leaves}
 use Rattle.world_changes.proofs.HeldStores.{held_clean, members_left}
 use Rattle.world_changes.proofs.Placing.{zip_insert}
-use Rattle.world_members.proofs.Standing.{zip_at}
+use Rattle.world_members.proofs.Standing.{all_still, zip_at}
 use Rattle.world_changes.proofs.Surviving.{turn_survive}
+use Rattle.world_changes.proofs.Writing.{turn_but}
 use Rattle.world_changes.proofs.Turned.{turn_length, turn_was_clean, turn_at_rest, turn_leaves, turn_undone, turn_open_after, turn_done}
 
 -- ---- one more among others
@@ -178,6 +179,8 @@ module _ {S : Type 0} (g : Ghosts S) (shuts : Shuts g) (settles : Settles g) (du
       done = λ receipt is. (let same : receipt ≡ due.receipt = cc in same, refl, length_insert mid due.child_at own ∙ ap (λ n. n + 1) (turn_length g {E = E} (Lends due.receipt due.selection) due.left due.receipt.seq old mid due.at (Ok tt) it), λ w next count clean are lends keeps. placed_are w next count are lends keeps);
       opens = λ clean was child_open. All-from_recursion (λ (m : Member S). IsTrue (state g m.conn).is_open) placed (all_insert (λ (m : Member S). IsTrue (state g m.conn).is_open) mid due.child_at own (child_open (inserted_has (λ (m : Member S). HasCleanDisk (state g m.conn)) mid due.child_at own (recursion_from_All (λ (m : Member S). HasCleanDisk (state g m.conn)) placed clean))) (recursion_from_All (λ (m : Member S). IsTrue (state g m.conn).is_open) mid
           (turn_open_after g {E = E} (Lends due.receipt due.selection) due.left due.receipt.seq old mid due.at it (placed_clean clean) was)));
+      came = λ receipt is. (mid, (due.at, turn_but g {E = E} (Lends due.receipt due.selection) due.left due.receipt.seq old mid due.at (Ok tt) (all_still g shuts settles old at_rest) it), refl);
+      others = λ why is. absurd (let e = is in cc);
       failed = λ why is. absurd (let e = is in cc);
       kept = λ why is. absurd (let e = is in cc);
       dropped = λ is. absurd (let e = is in cc);
@@ -238,6 +241,8 @@ module _ {S : Type 0} (g : Ghosts S) (shuts : Shuts g) (settles : Settles g) (du
       clean = λ clean. turn_was_clean g {E = TurnFault} (Lends due.receipt due.selection) due.left due.receipt.seq old mid due.at (Err why) it clean;
       done = λ receipt is. absurd (let e = is in cc);
       opens = λ clean. tt;
+      came = λ receipt is. absurd (let e = is in cc);
+      others = λ other is. (due.at, turn_but g {E = TurnFault} (Lends due.receipt due.selection) due.left due.receipt.seq old mid due.at (Err why) (all_still g shuts settles old at_rest) it);
       failed = λ other is. (
         turn_length g {E = TurnFault} (Lends due.receipt due.selection) due.left due.receipt.seq old mid due.at (Err why) it,
         λ w count are. record { each = turn_undone g (Lends due.receipt due.selection) due.left due.receipt.seq old mid due.at why it w w.packages are.each; counted = are.counted; register = are.register },

@@ -3,5 +3,6 @@ pub mod HeldStores
 mod Turned
 pub mod Surviving
 mod Placing
+pub mod Writing
 pub mod Lent
 mod Returned

@@ -37,8 +37,9 @@ use Rattle.world_members.proofs.Changing.{each_leaves}
 use Rattle.world_changes.proofs.Lent.{all_insert, all_but_inserted, inserted_has, length_insert}
 use Rattle.world_loans.proofs.Listing.{length_removed, still_there}
 use Rattle.world_changes.proofs.Placing.{zip_insert, zip_remove, zip_removed}
-use Rattle.world_members.proofs.Standing.{member_stays, zip_at, zip_both}
+use Rattle.world_members.proofs.Standing.{all_still, member_stays, zip_at, zip_both}
 use Rattle.world_changes.proofs.Surviving.{survives_any, turn_survive}
+use Rattle.world_changes.proofs.Writing.{but_back, turn_but}
 use Rattle.world_changes.proofs.Turned.{turn_length, turn_was_clean, turn_at_rest, turn_leaves, turn_undone, turn_open_after, turn_done}
 
 -- ---- one less among others, and back
@@ -116,6 +117,8 @@ module _ {S : Type 0} (g : Ghosts S) (shuts : Shuts g) (settles : Settles g) (du
     merges_done = record {
       read = (due.from, child, place, stays, refl);
       home = λ merged is. (child, place, let same : merged ≡ (due.receipt, last) = cc in subst (λ (m : Receipt × Held S). Stays (state g child.conn) (state g m.1)) (sym same) stays);
+      others = λ merged is. (into_at, turn_but g {E = E} Change due.sums due.receipt.seq rest_of mid into_at (Ok tt) (all_still g shuts settles rest_of rest_rests) it);
+      kept = λ why is. absurd (let e = is in cc);
       survive = λ why is. absurd (let e = is in cc);
       rests = turn_at_rest g {E = E} Change due.sums due.receipt.seq rest_of mid into_at (Ok tt) it rest_rests;
       clean = λ clean gone. All-from_recursion Clean old (all_were Clean (recursion_from_All Clean rest_of (turn_was_clean g {E = E} Change due.sums due.receipt.seq rest_of mid into_at (Ok tt) it clean)) (omega (arith, stays.survives.clean, gone_clean gone)));
@@ -230,6 +233,8 @@ module _ {S : Type 0} (g : Ghosts S) (shuts : Shuts g) (settles : Settles g) (du
     merges_failed unharmed = record {
       read = tt;
       home = λ merged is. absurd (let e = is in cc);
+      others = λ merged is. absurd (let e = is in cc);
+      kept = λ other is. but_back g old mid due.from into_at child now_child place (record { same = refl; stays = stays }) (turn_but g {E = TurnFault} Change due.sums due.receipt.seq rest_of mid into_at (Err why) (all_still g shuts settles rest_of rest_rests) it);
       survive = λ other is. again_survive;
       rests = All-from_recursion Rest again (all_insert Rest mid due.from now_child stays.rests (recursion_from_All Rest mid (turn_at_rest g {E = TurnFault} Change due.sums due.receipt.seq rest_of mid into_at (Err why) it rest_rests)));
       clean = λ clean gone.

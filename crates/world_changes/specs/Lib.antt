@@ -1,4 +1,5 @@
 pub mod Leaving
+pub mod Writing
 pub mod Turns
 pub mod Splits
 pub mod Merges

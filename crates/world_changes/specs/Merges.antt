@@ -1,4 +1,5 @@
 -- What a merge makes of the members of a world. Profile.
+use Rattle.std.specs.List.{remove}
 use Rattle.std.specs.Prelude.{◌≡◌, ℕ, ◌+◌, List, [], ◌∷◌, map, length, Some, slice_get, Result, Ok, Err, IfOk}
 use Rattle.sqlite.specs.Held.{Held, state}
 use Rattle.sqlite.specs.Store.{Ghosts}
@@ -8,6 +9,7 @@ use Rattle.store_sql.specs.Staying.{Stays}
 use Rattle.world_changes.specs.Leaving.{AllSurvive, AreClean, AreBeside, LeavesOneOf, WereRead}
 use Rattle.world_loans.specs.Loans.{IsReturned}
 use Rattle.world_members.specs.Members.{AllRest, AllClean, AllOpen, AreMembers}
+use Rattle.world_changes.specs.Writing.{AllStayButOne}
 use Rattle.world_changes.specs.Turns.{IsUncommitted}
 use Rattle.world_members.specs.Turning.{LeavesAsBefore}
 use Rattle.register_lending.specs.declared.turn_fault.TurnFault.{TurnFault}
@@ -33,6 +35,9 @@ module _ {S : Type 0} (g : Ghosts S) where
     -- and is that of the member which was to leave
     pub home : (merged : Receipt × Held S) → r ≡ Ok merged → (member : Member S)
         × (slice_get old due.from ≡ Some member) × Stays (state g member.conn) (state g merged.1)
+    -- of the others all but one at most were only read
+    pub others : (merged : Receipt × Held S) → r ≡ Ok merged → AllStayButOne g (remove old due.from) new
+    pub kept : (why : TurnFault) → r ≡ Err why → AllStayButOne g old new
     -- what a crash leaves of the child is beside the world after
     pub beside : (merged : Receipt × Held S) → r ≡ Ok merged → (w next : World) (count : ℕ) → AreMembers g old count w
         → IsReturned w next due → AllOpen g old → AreBeside g w.frame next.packages (left_by r)

@@ -1,7 +1,7 @@
 -- What a split makes of the members of a world, once the store of the child is there. Profile.
 use Rattle.std.specs.Prelude.{◌≡◌, ◌⊎◌, ◌≤◌, ℕ, ◌+◌, true, List, [], ◌∷◌, ◌++◌, map, length, Some, Result, Ok, Err, IfOk, IsTrue, ◌≢◌}
 use Rattle.sqlite.specs.Held.{Held, state}
-use Rattle.std.specs.List.{AllByRecursion}
+use Rattle.std.specs.List.{AllByRecursion, insert}
 use Rattle.sqlite.specs.Effect.{Database}
 use Rattle.sqlite.specs.State.{State, HasCleanDisk}
 use Rattle.sqlite.specs.Tree.{Trees}
@@ -18,6 +18,7 @@ use Rattle.register_lending.specs.Selecting.{IsSelectionOf, IsPart, MayCome}
 use Rattle.transfer.specs.Parcels.{with_cut}
 use Rattle.package_tables.specs.declared.fault.Fault.TheVariants as fault
 use Rattle.world_changes.specs.Leaving.{AllSurvive, AreBeside, LeavesOneOf}
+use Rattle.world_changes.specs.Writing.{AllStayButOne}
 use Rattle.world_loans.specs.Loans.{IsLent, loan}
 use Rattle.world_members.specs.Members.{AllRest, AllClean, AllOpen, AreMembers}
 use Rattle.world_changes.specs.Turns.{IsUncommitted}
@@ -70,6 +71,10 @@ module _ {S : Type 0} (g : Ghosts S) where
         → KeepsLoan w next due lent child → AreMembers g new (count + 1) next)
     pub opens : AllClean g new → IfOk r (λ receipt. AllOpen g old
         → (HasCleanDisk (state g child) → IsTrue (state g child).is_open) → AllOpen g new)
+    -- the child came, and of the others all but one at most were only read
+    pub came : (receipt : Receipt) → r ≡ Ok receipt → (mid : List (Member S)) × AllStayButOne g old mid
+        × (new ≡ insert mid due.child_at (member_of_child due child))
+    pub others : (why : TurnFault) → r ≡ Err why → AllStayButOne g old new
     pub failed : (why : TurnFault) → r ≡ Err why
         → (length new ≡ length old) × ((w : World) (count : ℕ) → AreMembers g old count w → AreMembers g new count w)
     pub kept : (why : TurnFault) → r ≡ Err why → why ≢ Before fault.OutOfMemory

@@ -10,7 +10,10 @@ use Rattle.register_lending.specs.declared.turn_fault.TurnFault.TheVariants.{Bef
 use Rattle.world_loans.specs.declared.loans.ServeFault.TheVariants.{Turn}
 use Rattle.world_changes.proofs.Lent.{none_beside}
 use Rattle.world_members.proofs.Standing.{all_still}
-use Rattle.world.proofs.CarriedOut.{carries_returned, carries_unbegun, carries_unreturned, comes_home}
+use Rattle.world.proofs.CarriedOut.{carries_returned, carries_unbegun, carries_unreturned, comes_home, home_written}
+use Rattle.world_changes.specs.Writing.{WritesTwoAtMost}
+use Rattle.world_changes.proofs.Writing.{none_written, one_written}
+use Rattle.world_decisions.specs.Deciding.{child_asked}
 use Rattle.world.proofs.ChangesMade.{turned_into}
 use Rattle.world.proofs.ServedAll.{counts_turn}
 use Rattle.world.proofs.applying.carry_out_merge.Goals as goal
@@ -21,8 +24,12 @@ child_at-requires g c = rw c.as_slice.ensures.value c.requires.place.from
 pub returns-in_default-clause-carries : goal.returns-in_default-clause-carries
 returns-in_default-clause-carries g c =
     let made = carries_unbegun g.S.Store g.met.S.Store.shut_if_dirty g.met.S.Store.settled (λ w next. IsReturned w next c.args.due) c.args.due.receipt c.args.members.now.items c.args.members.now.items [] c.args.count.now (Turn (Before StoreFault)) refl c.requires.rests c.requires.rests
-    (all_still g.S.Store g.met.S.Store.shut_if_dirty g.met.S.Store.settled c.args.members.now.items c.requires.rests) tt [] (omega arith) (λ clean w next are is_due was. none_beside g.S.Store w.frame w.packages) in
-    (made, none_home g.S.Store g.H.Shelf.takes c.args.members.now.items (λ uuid. (child_returned c.args.command.now ≡ Some uuid) × OfEachDue g.S.Store (λ w next. IsReturned w next c.args.due) c.args.members.now.items c.args.count.now (λ w next. IsNoPackage next uuid)) made.gone c.args.shelf.now (made.kept _ refl))
+    (all_still g.S.Store g.met.S.Store.shut_if_dirty g.met.S.Store.settled c.args.members.now.items c.requires.rests) tt [] (omega arith) (λ clean w next are is_due was. none_beside g.S.Store w.frame w.packages) in (
+      made,
+      none_home g.S.Store g.H.Shelf.takes c.args.members.now.items (λ uuid. (child_returned c.args.command.now ≡ Some uuid) × OfEachDue g.S.Store (λ w next. IsReturned w next c.args.due) c.args.members.now.items c.args.count.now (λ w next. IsNoPackage next uuid)) made.gone c.args.shelf.now (made.kept _ refl),
+      subst (WritesTwoAtMost g.S.Store (child_asked c.args.command.now) (child_returned c.args.command.now) c.args.members.now.items c.args.members.now.items) (sym (made.kept _ refl))
+          (none_written g.S.Store (child_asked c.args.command.now) (child_returned c.args.command.now) c.args.members.now.items c.args.members.now.items (all_still g.S.Store g.met.S.Store.shut_if_dirty g.met.S.Store.settled c.args.members.now.items c.requires.rests)),
+    )
 
 pub returns-in_default-clause-shelf : goal.returns-in_default-clause-shelf
 returns-in_default-clause-shelf g c = refl
@@ -34,6 +41,8 @@ returns-clause-carries g c =
       made.0,
       subst (λ gone. ComeHome g.S.Store g.H.Shelf.takes c.args.members.now.items (λ uuid. (child_returned c.args.command.now ≡ Some uuid) × OfEachDue g.S.Store (λ w next. IsReturned w next c.args.due) c.args.members.now.items c.args.count.now (λ w next. IsNoPackage next uuid)) gone c.args.shelf.now c.retire.new.self) (sym made.1)
           (comes_home g.S.Store g.met.S.Store.shut_if_dirty g.met.S.Store.settled c.args.due c.args.members.now.items c.merge_at.new.members.items c.args.count.now g.H.Shelf.takes c.in_ok-receipt.child c.args.command.now c.in-Some.uuid c.args.shelf.now c.retire.new.self (c.in_ok-receipt.ensures.merges.home _ refl) has c.in-Some.ensures.1 (c.into_store.result, c.into_store.ensures.quiet, c.retire.ensures.takes)),
+      subst (WritesTwoAtMost g.S.Store (child_asked c.args.command.now) (child_returned c.args.command.now) c.args.members.now.items c.merge_at.new.members.items) (sym made.1)
+          (home_written g.S.Store g.met.S.Store.shut_if_dirty g.met.S.Store.settled c.args.due c.args.members.now.items c.merge_at.new.members.items c.args.count.now c.in_ok-receipt.receipt c.in_ok-receipt.child c.args.command.now c.in-Some.uuid c.in_ok-receipt.ensures.merges has c.in-Some.ensures.1),
     )
 
 pub returns-in_err-receipt-clause-carries : goal.returns-in_err-receipt-clause-carries
@@ -41,8 +50,13 @@ returns-in_err-receipt-clause-carries g c =
     let told = turned_into _ _ c.from_residual.ensures.1 in
     let made : Carries g.S.Store (λ w next. IsReturned w next c.args.due) c.args.due.receipt c.args.members.now.items c.merge_at.new.members.items [] c.args.count.now c.args.count.now c.from_residual.result =
     subst (Carries g.S.Store (λ w next. IsReturned w next c.args.due) c.args.due.receipt c.args.members.now.items c.merge_at.new.members.items [] c.args.count.now c.args.count.now) (sym told)
-    (carries_unreturned g.S.Store g.met.S.Store.shut_if_dirty g.met.S.Store.settled c.args.due c.args.members.now.items c.merge_at.new.members.items c.args.count.now _ c.in_err-receipt.ensures.merges) in
-    (made, none_home g.S.Store g.H.Shelf.takes c.args.members.now.items (λ uuid. (child_returned c.args.command.now ≡ Some uuid) × OfEachDue g.S.Store (λ w next. IsReturned w next c.args.due) c.args.members.now.items c.args.count.now (λ w next. IsNoPackage next uuid)) made.gone c.args.shelf.now (made.kept _ told))
+    (carries_unreturned g.S.Store g.met.S.Store.shut_if_dirty g.met.S.Store.settled c.args.due c.args.members.now.items c.merge_at.new.members.items c.args.count.now _ c.in_err-receipt.ensures.merges) in (
+      made,
+      none_home g.S.Store g.H.Shelf.takes c.args.members.now.items (λ uuid. (child_returned c.args.command.now ≡ Some uuid) × OfEachDue g.S.Store (λ w next. IsReturned w next c.args.due) c.args.members.now.items c.args.count.now (λ w next. IsNoPackage next uuid)) made.gone c.args.shelf.now (made.kept _ told),
+      subst (WritesTwoAtMost g.S.Store (child_asked c.args.command.now) (child_returned c.args.command.now) c.args.members.now.items c.merge_at.new.members.items) (sym (made.kept _ told))
+          (one_written g.S.Store (child_asked c.args.command.now) (child_returned c.args.command.now) c.args.members.now.items c.args.members.now.items (all_still g.S.Store g.met.S.Store.shut_if_dirty g.met.S.Store.settled c.args.members.now.items c.requires.rests)
+          c.merge_at.new.members.items (c.in_err-receipt.ensures.merges.kept _ refl)),
+    )
 
 pub returns-clause-shorter : goal.returns-clause-shorter
 returns-clause-shorter g c = omega (arith, (c.in_ok-receipt.ensures.merges.done _ refl).1)

@@ -1,16 +1,18 @@
 -- Room is made, the child's store is filled, and then the parent lends.
-use Rattle.std.proofs.Common.{◌≡◌, inl, inr, refl, subst, sym, ap, ◌∙◌, arith, [], length, vec_len, Ok, Err}
+use Rattle.std.proofs.Common.{◌≡◌, inl, inr, refl, subst, sym, ap, ◌∙◌, arith, [], length, vec_len, None, Some, Ok, Err}
 use Rattle.sheet_types.specs.declared.receipt.Receipt.{Receipt}
 use Rattle.world_changes.specs.Carries.{Carries}
 use Rattle.world_loans.specs.Loans.{IsLent}
 use Rattle.world_members.specs.Members.{AllOpen, AllClean, AllStay, AreMembers}
-use Rattle.world_changes.specs.Splits.{Splits}
+use Rattle.world_changes.specs.Splits.{Splits, member_of_child}
 use Rattle.register_lending.specs.declared.turn_fault.TurnFault.TheVariants.{Before}
 use Rattle.world_loans.specs.declared.loans.ServeFault.TheVariants.{Turn}
 use Rattle.world.proofs.CarriedOut.{unkept, carries_unbegun, carries_lent, carries_unlent}
 use Rattle.world.proofs.ChangesMade.{turned_into}
 use Rattle.world_changes.proofs.Lent.{none_beside}
 use Rattle.world_members.proofs.Standing.{all_still, stay_length, clean_before}
+use Rattle.world_changes.specs.Writing.{WritesTwoAtMost}
+use Rattle.world_changes.proofs.Writing.{none_written, one_written, two_written}
 use Rattle.world.proofs.applying.carry_out_split.Goals as goal
 
 pub returns-in_err-make_room-clause-carries : goal.returns-in_err-make_room-clause-carries
@@ -96,3 +98,24 @@ returns-in_err-receipt-clause-asks g c = inr c.child_store.ensures.asks
 
 pub returns-clause-asks : goal.returns-clause-asks
 returns-clause-asks g c = inr c.child_store.ensures.asks
+
+pub returns-in_err-make_room-clause-writes : goal.returns-in_err-make_room-clause-writes
+returns-in_err-make_room-clause-writes g c =
+    subst (λ ms. WritesTwoAtMost g.S.Store (Some c.args.due.child) None c.args.members.now.items ms []) (sym c.make_room.ensures.members)
+    (none_written g.S.Store (Some c.args.due.child) None c.args.members.now.items c.args.members.now.items (all_still g.S.Store g.met.S.Store.shut_if_dirty g.met.S.Store.settled c.args.members.now.items c.requires.rests))
+
+pub returns-in_err-child-clause-writes : goal.returns-in_err-child-clause-writes
+returns-in_err-child-clause-writes g c =
+    let stay : AllStay g.S.Store c.args.members.now.items c.child_store.new.members.items = subst (λ ms. AllStay g.S.Store ms c.child_store.new.members.items) c.make_room.ensures.members c.child_store.ensures.stay in
+    none_written g.S.Store (Some c.args.due.child) None c.args.members.now.items c.child_store.new.members.items stay
+
+pub returns-in_err-receipt-clause-writes : goal.returns-in_err-receipt-clause-writes
+returns-in_err-receipt-clause-writes g c =
+    let stay : AllStay g.S.Store c.args.members.now.items c.child_store.new.members.items = subst (λ ms. AllStay g.S.Store ms c.child_store.new.members.items) c.make_room.ensures.members c.child_store.ensures.stay in
+    one_written g.S.Store (Some c.args.due.child) None c.args.members.now.items c.child_store.new.members.items stay c.lend_and_place.new.members.items (c.in_err-receipt.ensures.splits.others _ refl)
+
+pub returns-clause-writes : goal.returns-clause-writes
+returns-clause-writes g c =
+    let stay : AllStay g.S.Store c.args.members.now.items c.child_store.new.members.items = subst (λ ms. AllStay g.S.Store ms c.child_store.new.members.items) c.make_room.ensures.members c.child_store.ensures.stay in
+    let came = c.in_ok-receipt.ensures.splits.came c.in_ok-receipt.receipt refl in
+    two_written g.S.Store (Some c.args.due.child) None c.args.members.now.items c.child_store.new.members.items stay came.0 c.lend_and_place.new.members.items c.args.due.child_at (member_of_child c.args.due c.in_ok-child.child) came.1 refl came.2

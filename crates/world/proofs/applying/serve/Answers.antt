@@ -1,10 +1,10 @@
 -- What was decided, and where something was due what became of it.
-use Rattle.std.proofs.Common.{◌∙◌, refl, sym, ap, subst, arith, Result, Ok}
+use Rattle.std.proofs.Common.{◌∙◌, refl, sym, ap, subst, arith, [], Result, Ok, None, Some}
 use Rattle.sheet_types.specs.declared.receipt.Receipt.{Receipt}
 use Rattle.sheet_types.specs.declared.refusal.Refusal.{Refusal}
 use Rattle.world_changes.specs.Carries.{ServesAll, OfEachSeen}
 use Rattle.world_members.specs.Members.{AllClean}
-use Rattle.world.specs.Asked.{IsNoPackage}
+use Rattle.world.specs.Asked.{IsNoPackage, child_returned}
 use Rattle.world_decisions.specs.Deciding.{HasPlace, IsNoted}
 use Rattle.register_lending.specs.declared.turn_fault.TurnFault.TheVariants.{Before}
 use Rattle.world_loans.specs.declared.loans.ServeFault.TheVariants.{Turn}
@@ -12,6 +12,7 @@ use Rattle.world_decisions.specs.Deciding.{child_asked, Makes}
 use Rattle.world.proofs.Asks.{asks_due}
 use Rattle.world.proofs.ServedAll.{split_apart, all_undecided, all_answered, change_served, change_failed, split_served, split_failed, merge_served, merge_failed, merge_with, with_asked, with_nothing, none_gone, counts_turn, counts_handed}
 use Rattle.world.proofs.ChangesMade.{turned_into}
+use Rattle.world_changes.proofs.Writing.{asked_written, none_written, one_written, written_since}
 use Rattle.world_members.proofs.Standing.{stay_length}
 use Rattle.world.proofs.applying.serve.Goals as goal
 
@@ -21,11 +22,13 @@ returns-in_err-reply-clause-serves g c =
     let all = subst (ServesAll g.S.Store c.args.frame.now c.args.request.now c.args.members.now.items c.decide_and_note.new.members.items c.args.strays.now.items c.args.known.now c.decide_and_note.new.known c.args.count.now c.args.count.now) (sym (turned_into _ _ c.from_residual.ensures.1))
     (all_undecided g.S.Store g.met.S.Store.shut_if_dirty g.met.S.Store.settled c.args.frame.now c.args.request.now c.args.members.now.items c.decide_and_note.new.members.items c.args.known.now c.decide_and_note.new.known c.decide_and_note.ensures.grows c.requires.rests c.args.count.now c.requires.counted c.decide_and_note.ensures.asks c.args.strays.now.items (Turn (Before c.in_err-reply.field-0.0)) c.requires.none tt) in
     with_nothing g.S.Store g.H.Shelf.asks g.H.Shelf.takes c.args.shelf.now all (none_gone g.S.Store g.H.Shelf.asks g.H.Shelf.takes told all)
+    (none_written g.S.Store (child_asked c.args.request.now.command) (child_returned c.args.request.now.command) c.args.members.now.items c.decide_and_note.new.members.items c.decide_and_note.ensures.asks.stay)
 
 pub returns-in-Answered-clause-serves : goal.returns-in-Answered-clause-serves
 returns-in-Answered-clause-serves g c =
     let both = all_answered g.S.Store g.met.S.Store.shut_if_dirty g.met.S.Store.settled c.args.frame.now c.args.request.now c.args.members.now.items c.decide_and_note.new.members.items c.args.known.now c.decide_and_note.new.known c.decide_and_note.ensures.grows c.requires.rests c.args.count.now c.requires.counted c.decide_and_note.ensures.asks c.args.strays.now.items c.in-Answered.reply c.requires.none (c.in_ok-reply.was ∙ ap Ok c.in-Answered.is) in
     with_nothing g.S.Store g.H.Shelf.asks g.H.Shelf.takes c.args.shelf.now both.0 both.1
+    (none_written g.S.Store (child_asked c.args.request.now.command) (child_returned c.args.request.now.command) c.args.members.now.items c.decide_and_note.new.members.items c.decide_and_note.ensures.asks.stay)
 
 pub returns-in_err-receipt-in-ChangeDue-clause-serves : goal.returns-in_err-receipt-in-ChangeDue-clause-serves
 returns-in_err-receipt-in-ChangeDue-clause-serves g c =
@@ -33,11 +36,13 @@ returns-in_err-receipt-in-ChangeDue-clause-serves g c =
     let all = subst (ServesAll g.S.Store c.args.frame.now c.args.request.now c.args.members.now.items c.carry_out_change.new.members.items c.args.strays.now.items c.args.known.now c.decide_and_note.new.known c.args.count.now c.carry_out_change.new.count) (sym (turned_into _ _ c.from_residual-in_err-receipt-in-ChangeDue.ensures.1))
     (change_failed g.S.Store g.met.S.Store.shut_if_dirty g.met.S.Store.settled c.args.frame.now c.args.request.now c.args.members.now.items c.decide_and_note.new.members.items c.args.known.now c.decide_and_note.new.known c.decide_and_note.ensures.grows c.requires.rests c.args.count.now c.requires.counted c.decide_and_note.ensures.asks c.carry_out_change.new.members.items c.args.strays.now.items c.carry_out_change.new.count c.in-ChangeDue.change c.in_err-receipt-in-ChangeDue.field-0.0 c.requires.none (c.in_ok-reply.was ∙ ap Ok c.in-ChangeDue.is) c.in_err-receipt-in-ChangeDue.ensures.changes) in
     with_nothing g.S.Store g.H.Shelf.asks g.H.Shelf.takes c.args.shelf.now all (none_gone g.S.Store g.H.Shelf.asks g.H.Shelf.takes told all)
+    (one_written g.S.Store (child_asked c.args.request.now.command) (child_returned c.args.request.now.command) c.args.members.now.items c.decide_and_note.new.members.items c.decide_and_note.ensures.asks.stay c.carry_out_change.new.members.items c.in_err-receipt-in-ChangeDue.ensures.changes.others)
 
 pub returns-in_ok-receipt-in-ChangeDue-clause-serves : goal.returns-in_ok-receipt-in-ChangeDue-clause-serves
 returns-in_ok-receipt-in-ChangeDue-clause-serves g c =
     let both = change_served g.S.Store g.met.S.Store.shut_if_dirty g.met.S.Store.settled c.args.frame.now c.args.request.now c.args.members.now.items c.decide_and_note.new.members.items c.args.known.now c.decide_and_note.new.known c.decide_and_note.ensures.grows c.requires.rests c.args.count.now c.requires.counted c.decide_and_note.ensures.asks c.carry_out_change.new.members.items c.args.strays.now.items c.carry_out_change.new.count c.in-ChangeDue.change c.in_ok-receipt-in-ChangeDue.receipt (subst (IsNoted c.decide_and_note.new.known) c.in-ChangeDue.is c.in_ok-reply.ensures.noted) c.requires.none (c.in_ok-reply.was ∙ ap Ok c.in-ChangeDue.is) (subst (HasPlace c.decide_and_note.new.members.items c.args.count.now) c.in-ChangeDue.is c.in_ok-reply.ensures.place).2 c.in_ok-receipt-in-ChangeDue.ensures.changes in
     with_nothing g.S.Store g.H.Shelf.asks g.H.Shelf.takes c.args.shelf.now both.0 both.1
+    (one_written g.S.Store (child_asked c.args.request.now.command) (child_returned c.args.request.now.command) c.args.members.now.items c.decide_and_note.new.members.items c.decide_and_note.ensures.asks.stay c.carry_out_change.new.members.items c.in_ok-receipt-in-ChangeDue.ensures.changes.others)
 
 pub returns-in_err-receipt-in-ChangeDue-clause-room : goal.returns-in_err-receipt-in-ChangeDue-clause-room
 returns-in_err-receipt-in-ChangeDue-clause-room g c =
@@ -59,6 +64,9 @@ returns-in_err-receipt-in-SplitDue-clause-serves g c =
     with_asked g.S.Store g.H.Shelf.asks g.H.Shelf.takes c.args.shelf.now c.carry_out_split.new.shelf all (none_gone g.S.Store g.H.Shelf.asks g.H.Shelf.takes told all)
     (asks_due g.H.Shelf.asks (child_asked c.args.request.now.command) c.in-SplitDue.due.child (λ child. AllClean g.S.Store c.carry_out_split.new.members.items → OfEachSeen g.S.Store c.args.frame.now c.args.known.now c.args.members.now.items c.args.count.now (λ w. IsNoPackage w child)) _ _ (subst (Makes (child_asked c.args.request.now.command)) c.in-SplitDue.is c.in_ok-reply.ensures.makes)
     (λ clean w same are. split_apart g.S.Store g.met.S.Store.shut_if_dirty g.met.S.Store.settled c.args.frame.now c.args.request.now c.args.members.now.items c.decide_and_note.new.members.items c.args.known.now c.decide_and_note.new.known c.decide_and_note.ensures.grows c.requires.rests c.args.count.now c.requires.counted c.decide_and_note.ensures.asks c.in-SplitDue.due (c.in_ok-reply.was ∙ ap Ok c.in-SplitDue.is) (c.carry_out_split.ensures.clean clean) w same are) c.carry_out_split.ensures.asks)
+    (written_since g.S.Store (child_asked c.args.request.now.command) (child_returned c.args.request.now.command) c.args.members.now.items c.decide_and_note.new.members.items c.decide_and_note.ensures.asks.stay c.carry_out_split.new.members.items []
+    (asked_written g.S.Store (Some c.in-SplitDue.due.child) (child_asked c.args.request.now.command) None (child_returned c.args.request.now.command) c.decide_and_note.new.members.items c.carry_out_split.new.members.items
+    (sym (subst (Makes (child_asked c.args.request.now.command)) c.in-SplitDue.is c.in_ok-reply.ensures.makes)) c.carry_out_split.ensures.writes))
 
 pub returns-in_ok-receipt-in-SplitDue-clause-serves : goal.returns-in_ok-receipt-in-SplitDue-clause-serves
 returns-in_ok-receipt-in-SplitDue-clause-serves g c =
@@ -66,6 +74,9 @@ returns-in_ok-receipt-in-SplitDue-clause-serves g c =
     with_asked g.S.Store g.H.Shelf.asks g.H.Shelf.takes c.args.shelf.now c.carry_out_split.new.shelf both.0 (both.1 ∙ c.in_ok-receipt-in-SplitDue.ensures.carries.1)
     (asks_due g.H.Shelf.asks (child_asked c.args.request.now.command) c.in-SplitDue.due.child (λ child. AllClean g.S.Store c.carry_out_split.new.members.items → OfEachSeen g.S.Store c.args.frame.now c.args.known.now c.args.members.now.items c.args.count.now (λ w. IsNoPackage w child)) _ _ (subst (Makes (child_asked c.args.request.now.command)) c.in-SplitDue.is c.in_ok-reply.ensures.makes)
     (λ clean w same are. split_apart g.S.Store g.met.S.Store.shut_if_dirty g.met.S.Store.settled c.args.frame.now c.args.request.now c.args.members.now.items c.decide_and_note.new.members.items c.args.known.now c.decide_and_note.new.known c.decide_and_note.ensures.grows c.requires.rests c.args.count.now c.requires.counted c.decide_and_note.ensures.asks c.in-SplitDue.due (c.in_ok-reply.was ∙ ap Ok c.in-SplitDue.is) (c.carry_out_split.ensures.clean clean) w same are) c.carry_out_split.ensures.asks)
+    (written_since g.S.Store (child_asked c.args.request.now.command) (child_returned c.args.request.now.command) c.args.members.now.items c.decide_and_note.new.members.items c.decide_and_note.ensures.asks.stay c.carry_out_split.new.members.items []
+    (asked_written g.S.Store (Some c.in-SplitDue.due.child) (child_asked c.args.request.now.command) None (child_returned c.args.request.now.command) c.decide_and_note.new.members.items c.carry_out_split.new.members.items
+    (sym (subst (Makes (child_asked c.args.request.now.command)) c.in-SplitDue.is c.in_ok-reply.ensures.makes)) c.carry_out_split.ensures.writes))
 
 pub carry_out_split-requires-clause-room : goal.carry_out_split-requires-clause-room
 carry_out_split-requires-clause-room g c =
@@ -84,13 +95,13 @@ returns-in_err-receipt-in-MergeDue-clause-serves g c =
     let told = turned_into _ _ c.from_residual-in_err-receipt-in-MergeDue.ensures.1 in
     let all = subst (ServesAll g.S.Store c.args.frame.now c.args.request.now c.args.members.now.items c.carry_out_merge.new.members.items c.args.strays.now.items c.args.known.now c.decide_and_note.new.known c.args.count.now c.carry_out_merge.new.count) (sym (turned_into _ _ c.from_residual-in_err-receipt-in-MergeDue.ensures.1))
     (merge_failed g.S.Store g.met.S.Store.shut_if_dirty g.met.S.Store.settled c.args.frame.now c.args.request.now c.args.members.now.items c.decide_and_note.new.members.items c.args.known.now c.decide_and_note.new.known c.decide_and_note.ensures.grows c.requires.rests c.args.count.now c.requires.counted c.decide_and_note.ensures.asks c.carry_out_merge.new.members.items c.args.strays.now.items c.carry_out_merge.new.count c.in-MergeDue.due c.in_err-receipt-in-MergeDue.field-0.0 c.requires.none (c.in_ok-reply.was ∙ ap Ok c.in-MergeDue.is) c.in_err-receipt-in-MergeDue.ensures.carries.0) in
-    merge_with g.S.Store g.met.S.Store.shut_if_dirty g.met.S.Store.settled c.args.frame.now c.args.request.now c.args.members.now.items c.decide_and_note.new.members.items c.args.known.now c.decide_and_note.new.known c.decide_and_note.ensures.grows c.requires.rests c.args.count.now c.requires.counted c.decide_and_note.ensures.asks c.carry_out_merge.new.members.items c.args.strays.now.items c.carry_out_merge.new.count g.H.Shelf.asks g.H.Shelf.takes c.args.shelf.now c.carry_out_merge.new.shelf c.in-MergeDue.due (c.in_ok-reply.was ∙ ap Ok c.in-MergeDue.is) c.in_err-receipt-in-MergeDue.ensures.carries.0 c.in_err-receipt-in-MergeDue.ensures.carries.1 all
+    merge_with g.S.Store g.met.S.Store.shut_if_dirty g.met.S.Store.settled c.args.frame.now c.args.request.now c.args.members.now.items c.decide_and_note.new.members.items c.args.known.now c.decide_and_note.new.known c.decide_and_note.ensures.grows c.requires.rests c.args.count.now c.requires.counted c.decide_and_note.ensures.asks c.carry_out_merge.new.members.items c.args.strays.now.items c.carry_out_merge.new.count g.H.Shelf.asks g.H.Shelf.takes c.args.shelf.now c.carry_out_merge.new.shelf c.in-MergeDue.due (c.in_ok-reply.was ∙ ap Ok c.in-MergeDue.is) c.in_err-receipt-in-MergeDue.ensures.carries.0 c.in_err-receipt-in-MergeDue.ensures.carries.1 c.in_err-receipt-in-MergeDue.ensures.carries.2 all
     (none_gone g.S.Store g.H.Shelf.asks g.H.Shelf.takes told all ∙ sym (c.in_err-receipt-in-MergeDue.ensures.carries.0.kept _ refl))
 
 pub returns-in_ok-receipt-in-MergeDue-clause-serves : goal.returns-in_ok-receipt-in-MergeDue-clause-serves
 returns-in_ok-receipt-in-MergeDue-clause-serves g c =
     let both = merge_served g.S.Store g.met.S.Store.shut_if_dirty g.met.S.Store.settled c.args.frame.now c.args.request.now c.args.members.now.items c.decide_and_note.new.members.items c.args.known.now c.decide_and_note.new.known c.decide_and_note.ensures.grows c.requires.rests c.args.count.now c.requires.counted c.decide_and_note.ensures.asks c.carry_out_merge.new.members.items c.args.strays.now.items c.carry_out_merge.new.count c.in-MergeDue.due c.in_ok-receipt-in-MergeDue.receipt (subst (IsNoted c.decide_and_note.new.known) c.in-MergeDue.is c.in_ok-reply.ensures.noted) c.requires.none (c.in_ok-reply.was ∙ ap Ok c.in-MergeDue.is) (subst (HasPlace c.decide_and_note.new.members.items c.args.count.now) c.in-MergeDue.is c.in_ok-reply.ensures.place).counted c.in_ok-receipt-in-MergeDue.ensures.carries.0 in
-    merge_with g.S.Store g.met.S.Store.shut_if_dirty g.met.S.Store.settled c.args.frame.now c.args.request.now c.args.members.now.items c.decide_and_note.new.members.items c.args.known.now c.decide_and_note.new.known c.decide_and_note.ensures.grows c.requires.rests c.args.count.now c.requires.counted c.decide_and_note.ensures.asks c.carry_out_merge.new.members.items c.args.strays.now.items c.carry_out_merge.new.count g.H.Shelf.asks g.H.Shelf.takes c.args.shelf.now c.carry_out_merge.new.shelf c.in-MergeDue.due (c.in_ok-reply.was ∙ ap Ok c.in-MergeDue.is) c.in_ok-receipt-in-MergeDue.ensures.carries.0 c.in_ok-receipt-in-MergeDue.ensures.carries.1 both.0 both.1
+    merge_with g.S.Store g.met.S.Store.shut_if_dirty g.met.S.Store.settled c.args.frame.now c.args.request.now c.args.members.now.items c.decide_and_note.new.members.items c.args.known.now c.decide_and_note.new.known c.decide_and_note.ensures.grows c.requires.rests c.args.count.now c.requires.counted c.decide_and_note.ensures.asks c.carry_out_merge.new.members.items c.args.strays.now.items c.carry_out_merge.new.count g.H.Shelf.asks g.H.Shelf.takes c.args.shelf.now c.carry_out_merge.new.shelf c.in-MergeDue.due (c.in_ok-reply.was ∙ ap Ok c.in-MergeDue.is) c.in_ok-receipt-in-MergeDue.ensures.carries.0 c.in_ok-receipt-in-MergeDue.ensures.carries.1 c.in_ok-receipt-in-MergeDue.ensures.carries.2 both.0 both.1
 
 pub returns-in_err-receipt-in-MergeDue-clause-room : goal.returns-in_err-receipt-in-MergeDue-clause-room
 returns-in_err-receipt-in-MergeDue-clause-room g c =
