@@ -16,7 +16,7 @@ use Rattle.world_decisions.specs.Deciding.{child_asked}
 use Rattle.world_members.specs.declared.members.Member.{Member}
 use Rattle.world.specs.Asked.{AsksFor, AreStepsWith, IsHomeBy, IsNewTo, IsRunWith, IsStepWith, UsesFor, child_returned}
 use Rattle.world.specs.Worlds.{Seen}
-use Rattle.promises.specs.Clean.{IsGivenBy, IsGivenByEach, IsGivenFromNew, IsRecorded, HaveCleanDisks}
+use Rattle.promises.specs.Clean.{IsGivenBy, IsGivenByEach, IsGivenFromNew, IsGivenNone, IsRecorded, HaveCleanDisks}
 use Rattle.promises.proofs.Disks.{both_clean}
 
 -- whatever was to hold of the package that it was asked for
@@ -76,6 +76,18 @@ module _ {S : Type 0} {H : Type 0} (Asked : List ℕ → H → H → Type 0) (Ta
     recorded_by_each (q ∷ qs) s t stores used =
         recorded_by_each qs used.0 t used.2 used.5 ∙ ap (λ x. x ++ used.2) (recorded_by q s used.0 used.1 used.4)
         ∙ append_assoc (record_of s) used.1 used.2 ∙ ap (λ x. record_of s ++ x) (sym used.3)
+
+  -- only merges give it one
+  none_by : (q : Request) (s t : H) (stores : List S) → child_returned q.command ≡ None
+      → IsGivenBy Asked Taken q s t stores → stores ≡ []
+  none_by q s t [] none used = refl
+  none_by q s t (store ∷ others) none used = absurd (let both : None ≡ Some used.1 = sym none ∙ used.2 in cc)
+
+  pub given_none : IsGivenNone Asked Taken
+  given_none [] s t stores none used = used.0
+  given_none (q ∷ qs) s t stores none used =
+      used.3 ∙ ap (λ x. x ++ used.2) (none_by q s used.0 used.1 none.0 used.4)
+      ∙ given_none qs used.0 t used.2 none.1 used.5
 
   -- whatever record a shelf keeps
   pub recorded : IsRecorded Asked Taken

@@ -1,5 +1,5 @@
 -- The one premise on stores: they gave back what was written to them. Profile.
-use Rattle.std.specs.Prelude.{◌≡◌, ℕ, ⊤, List, [], ◌∷◌, ◌++◌, Some}
+use Rattle.std.specs.Prelude.{◌≡◌, ℕ, ⊤, List, [], ◌∷◌, ◌++◌, None, Some}
 use Rattle.std.specs.List.{AllByRecursion}
 use Rattle.sqlite.specs.Store.{Ghosts}
 use Rattle.sqlite_trees.specs.View.{IsClean}
@@ -38,6 +38,11 @@ module _ {S : Type 0} {H : Type 0} (Asked : List ℕ → H → H → Type 0) (Ta
       → record_of after ≡ record_of before ++ store ∷ [])
       → (qs : List Request) (before after : H) (stores : List S) → IsGivenByEach qs before after stores
       → record_of after ≡ record_of before ++ stores
+
+  -- Where no request takes a package home it was given none.
+  abbrev pub IsGivenNone : Type 0
+  IsGivenNone = (qs : List Request) (before after : H) (stores : List S)
+      → AllByRecursion (λ q. child_returned q.command ≡ None) qs → IsGivenByEach qs before after stores → stores ≡ []
 
 module _ {S : Type 0} (g : Ghosts S) where
   -- the disk of each has given back what was written
