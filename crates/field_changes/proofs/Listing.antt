@@ -27,6 +27,15 @@ asked_more f g xs i x old now new y lt is was step one =
     ∙ ap (λ l. old ++ map f l) (sym (map-append g (take i xs) (x ∷ [])))
     ∙ ap (λ l. old ++ map f (map g l)) (sym (one_more xs i x lt is))
 
+-- the same of a list that is used up
+pub asked_next : {X C Y : Type 0} (f : C → Y) (g : X → C) (all : List Y) (rest left : List X) (x : X) (now new : List Y) (y : Y) → rest ≡ x ∷ left → new ≡ now ++ y ∷ [] → y ≡ f (g x)
+    → all ≡ now ++ map f (map g rest) → all ≡ new ++ map f (map g left)
+asked_next f g all rest left x now new y is step one was =
+    was ∙ ap (λ l. now ++ map f (map g l)) is
+    ∙ ap (λ z. now ++ z ∷ map f (map g left)) (sym one)
+    ∙ sym (append_assoc now (y ∷ []) (map f (map g left)))
+    ∙ ap (λ l. l ++ map f (map g left)) (sym step)
+
 -- one row more of those that a loop goes over, and what was made of it
 pub zip_more : {A B : Type 0} (R : A → B → Type 0) (rows : List A) (i : ℕ) (d row : A) (made now : List B) (x : B) → i < length rows → row ≡ get_or rows i d → now ≡ made ++ x ∷ [] → AllZip R (take i rows) made → R row x → AllZip R (take (i + 1) rows) now
 zip_more R rows i d row made now x less is pushed all one =

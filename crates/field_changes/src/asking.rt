@@ -65,22 +65,22 @@ fn ask_deletes(
     Ok(())
 }
 
-// The requests that add items, behind the others.
+// The requests that add items, behind the others. No content is copied.
 fn ask_adds(
     alloc: Global,
     asker: &Asker<'_>,
     requests: &mut Vec<Request>,
-    items: &[Item],
+    items: Vec<Item>,
 ) -> Result<(), OutOfMemory>
-    ensures { IfOk result (λ _. requests.new.items ≡ requests.old.items ++ map (request_of asker.now.package asker.now.ticket asker.now.at.now) (map (adding asker.now.package) items.now)) }
+    ensures { IfOk result (λ _. requests.new.items ≡ requests.old.items ++ map (request_of asker.now.package asker.now.ticket asker.now.at.now) (map (adding asker.now.package) items.items)) }
 {
     for item in items {
-        let content = item.content.try_clone()?;
+        let Item { identity, content } = item;
         let request = asker.ask(
             alloc,
             Command::Add {
                 package: asker.package,
-                identity: item.identity,
+                identity,
                 content,
             },
         )?;
@@ -118,17 +118,19 @@ fn ask_links(
 /// # Errors
 ///
 /// Want of memory.
-pub fn requests(
-    alloc: Global,
-    asker: &Asker<'_>,
-    parts: &Parts,
-) -> Result<Vec<Request>, OutOfMemory>
-    ensures { IfOk result (λ requests. requests.items ≡ map (request_of asker.now.package asker.now.ticket asker.now.at.now) (commands asker.now.package parts.now)) }
+pub fn requests(alloc: Global, asker: &Asker<'_>, parts: Parts) -> Result<Vec<Request>, OutOfMemory>
+    ensures { IfOk result (λ requests. requests.items ≡ map (request_of asker.now.package asker.now.ticket asker.now.at.now) (commands asker.now.package parts)) }
 {
+    let Parts {
+        unlinks,
+        deletes,
+        adds,
+        links,
+    } = parts;
     let mut requests = Vec::new(alloc);
-    ask_unlinks(alloc, asker, &mut requests, parts.unlinks.as_slice())?;
-    ask_deletes(alloc, asker, &mut requests, parts.deletes.as_slice())?;
-    ask_adds(alloc, asker, &mut requests, parts.adds.as_slice())?;
-    ask_links(alloc, asker, &mut requests, parts.links.as_slice())?;
+    ask_unlinks(alloc, asker, &mut requests, unlinks.as_slice())?;
+    ask_deletes(alloc, asker, &mut requests, deletes.as_slice())?;
+    ask_adds(alloc, asker, &mut requests, adds)?;
+    ask_links(alloc, asker, &mut requests, links.as_slice())?;
     Ok(requests)
 }

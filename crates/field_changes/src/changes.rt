@@ -138,5 +138,5 @@ pub fn changes(
     ensures { IfOk result (λ requests. AreChanges asker.now.package asker.now.ticket asker.now.at.now holdings.now.items.now holdings.now.links.now more file.items held.now requests.items) }
 {
     let parts = parts_for(alloc, asker, holdings, more, file, held)?;
-    Ok(requests(alloc, asker, &parts)?)
+    Ok(requests(alloc, asker, parts)?)
 }

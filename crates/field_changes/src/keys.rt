@@ -1,6 +1,6 @@
 //! Keys of maps, which tell contents apart byte by byte and copy none.
 ghost use Rattle.std.specs.Prelude.{◌≡◌, Some, [], refl, length, nat_eq, ℤ};
-ghost use Rattle.std.specs.Ordering.{nat_cmp};
+ghost use Rattle.std.specs.Ordering.{nat_cmp, ordering_then};
 ghost use Rattle.std.specs.Cmp.{partial_equiv_from_equiv};
 ghost use Rattle.std.specs.Cmp.Lexicographic.{pointwise, slice_cmp, nat_list_eq_equiv, nat_list_cmp_total, texts_ties, texts_po};
 ghost use Rattle.sheet_types.specs.World.{link_key};
@@ -121,15 +121,26 @@ fn body_of(content: &Content) -> &[u8]
     }
 }
 
-// The order of contents, by which two are equal where all of them is.
+// The order of what stands behind heads.
+fn rest_order(a: &Content, b: &Content) -> Ordering
+    ensures { result ≡ ordering_then (slice_cmp nat_cmp (words_of a.now) (words_of b.now))
+        (slice_cmp nat_cmp (body_of a.now) (body_of b.now)) }
+{
+    let words = words_of(a).cmp(words_of(b));
+    let bodies = body_of(a).cmp(body_of(b));
+    words.then(bodies)
+}
+
+// The order of contents, by which two are equal where all of them is. Bytes are compared only where the heads are one.
 #[tactic(auto, using(crate::proofs::KeyOrder::content_order))]
 fn content_order(a: &Content, b: &Content) -> Ordering
     ensures { result ≡ slice_cmp nat_cmp (content_key a.now) (content_key b.now) }
 {
-    let heads = head_of(a).cmp(&head_of(b));
-    let words = words_of(a).cmp(words_of(b));
-    let bodies = body_of(a).cmp(body_of(b));
-    heads.then(words.then(bodies))
+    match head_of(a).cmp(&head_of(b)) {
+        Ordering::Equal => rest_order(a, b),
+        Ordering::Less => Ordering::Less,
+        Ordering::Greater => Ordering::Greater,
+    }
 }
 
 // The order of the bytes, of which both have as many.
@@ -177,8 +188,11 @@ impl<'a> Ord for Key<'a> {
     fn cmp(&self, other: &Key<'a>) -> Ordering {
         let ranks = self.rank.cmp(&other.rank);
         let bases = bytes_order(self.base.as_bytes(), other.base.as_bytes());
-        let contents = content_order(self.content, other.content);
-        ranks.then(bases.then(contents))
+        match ranks.then(bases) {
+            Ordering::Equal => content_order(self.content, other.content),
+            Ordering::Less => Ordering::Less,
+            Ordering::Greater => Ordering::Greater,
+        }
     }
 }
 

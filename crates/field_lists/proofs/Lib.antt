@@ -1,3 +1,4 @@
+mod DigitFacts
 mod EntryFacts
 mod ListFacts
 mod NoneFacts

@@ -1,12 +1,15 @@
 -- The header of a list, and its records one after the other.
-use Rattle.std.proofs.Common.{◌≡◌, ◌⊎◌, ◌<◌, ◌+◌, ◌++◌, ℕ, zero, suc, Bool, true, false, List, [], ◌∷◌, Some, map, length, get_or, IsTrue, Bor, refl, inl, inr, arith}
+use Rattle.std.proofs.Common.{◌≡◌, ◌⊎◌, ◌<◌, ◌+◌, ◌++◌, ℕ, zero, suc, Bool, true, false, List, [], ◌∷◌, Some, map, length, get_or, IsTrue, Bor, refl, sym, inl, inr, arith}
 use Rattle.std.specs.Bool.{MatchBool}
 use Rattle.std.specs.List.{AllWithin, AllZip, HoldsAt, enumerate_from}
+use Rattle.std.proofs.lemmas.Slice.Zip.{all_zipped_more}
 use Rattle.std.proofs.lemmas.List.FromFn.{length-enumerate_from, get_or-enumerate_from}
 use Rattle.csv.specs.Records.{field_at}
 use Rattle.field_lists.specs.declared.entries.Listed.{Listed}
 use Rattle.request_csv.specs.Requests.{IsTextAt}
-use Rattle.field_lists.specs.HoldsLists.{Lists, IsFaultFrom}
+use Rattle.field_lists.specs.HoldsLists.{AreBegun, AreList, Lists, IsFaultFrom, IsFaultOf}
+use Rattle.field_lists.specs.Listed.{header}
+use Rattle.std.proofs.lemmas.Bool.{false≢true}
 use Rattle.field_lists.specs.declared.lists.ListFault.{ListFault}
 use Rattle.field_lists.specs.declared.lists.ListFault.TheVariants.{Memory}
 
@@ -53,12 +56,6 @@ fields_decided false fields (t ∷ ts) long (k, low, not_there) = (λ yes. absur
     not_at : fields ≡ map (λ text. text.now) (t ∷ ts) → ⊥
     not_at e = (rw (entry (t ∷ ts) k t below) at (not_there (0, t))) (rw e (text_there (t ∷ ts) k t below))
 
--- the fault of a record is met there, whatever follows
-pub fault_here : (number : ℕ) (row : List (List ℕ)) (rest : List (List (List ℕ))) (met : ListFault) → IsFaultFrom number (row ∷ []) met → IsFaultFrom number (row ∷ rest) met
-fault_here number row rest met (inl unread) = inl unread
-fault_here number row rest met (inr (inl none)) = inr (inl none)
-fault_here number row rest met (inr (inr asked)) = absurd asked.2
-
 -- it is met first where the records before it are entries
 pub fault_after : (number : ℕ) (before : List (List (List ℕ))) (entries : List Listed) (rest : List (List (List ℕ))) (met : ListFault) → AllZip Lists before entries
     → IsFaultFrom (number + length entries) rest met → IsFaultFrom number (before ++ rest) met
@@ -71,10 +68,43 @@ fault_after number (b ∷ bs) (q ∷ qs) rest met asked fault =
     let place : number + length (q ∷ qs) ≡ (number + 1) + length qs = omega arith in
     inr (inr (q, asked.0, fault_after (number + 1) bs qs rest met asked.1 (rw place at fault)))
 
--- the fault of the record after those that are entries, in the whole list
-pub fault_met : (before : List (List (List ℕ))) (entries : List Listed) (count : ℕ) (row : List (List ℕ)) (rest all : List (List (List ℕ))) (met : ListFault) → AllZip Lists before entries → count ≡ length entries
-    → all ≡ before ++ (row ∷ rest) → (met ≡ Memory) ⊎ IsFaultFrom (count + 1) (row ∷ []) met → (met ≡ Memory) ⊎ IsFaultFrom 1 all met
-fault_met before entries count row rest all met asked counted e (inl want) = inl want
-fault_met before entries count row rest all met asked counted e (inr fault) =
-    let place : count + 1 ≡ 1 + length entries = omega (arith, counted) in
-    inr (rw e (fault_after 1 before entries (row ∷ rest) met asked (fault_here (1 + length entries) row rest met (rw place at fault))))
+-- an entry more is read
+pub entry_more : (rows : List (List (List ℕ))) (entries : List Listed) (fields : List (List ℕ)) (entry : Listed) → AreList rows entries → Lists fields entry
+    → AreList (rows ++ fields ∷ []) (entries ++ entry ∷ [])
+entry_more [] entries fields entry asked one = absurd asked
+entry_more (first ∷ rows) entries fields entry asked one = (asked.0, all_zipped_more Lists _ _ _ _ asked.1 one)
+
+-- the fault of the record after those that are entries
+pub fault_next : (rows : List (List (List ℕ))) (entries : List Listed) (number : ℕ) (fields : List (List ℕ)) (met : ListFault) → number ≡ length entries + 1 → AreList rows entries
+    → IsFaultFrom number (fields ∷ []) met → IsFaultOf (rows ++ fields ∷ []) met
+fault_next [] entries number fields met counted asked fault = absurd asked
+fault_next (first ∷ rows) entries number fields met counted asked fault =
+    let place : number ≡ 1 + length entries = omega (arith, counted) in
+    inr (inr (asked.0, fault_after 1 rows entries (fields ∷ []) met asked.1 (rw place at fault)))
+
+pub entry_fault : (entries : List Listed) (number : ℕ) (fields : List (List ℕ)) (met : ListFault) → number ≡ length entries + 1 → (met ≡ Memory) ⊎ IsFaultFrom number (fields ∷ []) met
+    → (met ≡ Memory) ⊎ ((rows : List (List (List ℕ))) → AreList rows entries → IsFaultOf (rows ++ fields ∷ []) met)
+entry_fault entries number fields met counted (inl want) = inl want
+entry_fault entries number fields met counted (inr fault) = inr (λ rows asked. fault_next rows entries number fields met counted asked fault)
+
+-- the header is read
+pub header_more : (rows : List (List (List ℕ))) (entries : List Listed) (fields : List (List ℕ)) (b : Bool) → b ≡ false → AreBegun b rows entries → fields ≡ header
+    → AreList (rows ++ fields ∷ []) entries
+header_more rows entries fields true e begun is = absurd (false≢true (sym e))
+header_more rows entries fields false e begun is = rw (begun.0, begun.1) (is, tt)
+
+-- the first record is none
+pub header_fault : (rows : List (List (List ℕ))) (entries : List Listed) (fields : List (List ℕ)) (b : Bool) (met : ListFault) → b ≡ false → AreBegun b rows entries → IsFaultOf (fields ∷ []) met
+    → IsFaultOf (rows ++ fields ∷ []) met
+header_fault rows entries fields true met e begun fault = absurd (false≢true (sym e))
+header_fault rows entries fields false met e begun fault = rw begun.0 fault
+
+-- the header was read
+pub begun_list : (rows : List (List (List ℕ))) (entries : List Listed) (b : Bool) → b ≡ true → AreBegun b rows entries → AreList rows entries
+begun_list rows entries true e begun = begun
+begun_list rows entries false e begun = absurd (false≢true e)
+
+-- nothing was read
+pub begun_none : (rows : List (List (List ℕ))) (entries : List Listed) (b : Bool) → b ≡ false → AreBegun b rows entries → rows ≡ []
+begun_none rows entries true e begun = absurd (false≢true (sym e))
+begun_none rows entries false e begun = begun.0

@@ -1,5 +1,5 @@
 -- Which text is a list of which entries, and which fault of a text is met first (profile, over RFC 4180 as `csv` reads it).
-use Rattle.std.specs.Prelude.{◌≡◌, ◌≢◌, ◌⊎◌, ◌+◌, ℕ, List, [], ◌∷◌, length}
+use Rattle.std.specs.Prelude.{◌≡◌, ◌≢◌, ◌⊎◌, ◌+◌, ℕ, Bool, true, false, List, [], ◌∷◌, length}
 use Rattle.std.specs.List.{AllZip}
 use Rattle.csv.specs.Reading.{AreRecords, Reached, default_config, strip_bom}
 use Rattle.csv.specs.Records.{AllText}
@@ -8,9 +8,7 @@ use Rattle.csv.specs.declared.parser.State.TheVariants as st
 use Rattle.field_lists.specs.declared.entries.Listed.{Listed}
 use Rattle.field_lists.specs.Listed.{header, IsListed}
 use Rattle.field_lists.specs.declared.lists.ListFault.{ListFault}
-use Rattle.field_lists.specs.declared.lists.ListFault.TheVariants.{Header, Record, Read}
-use Rattle.field_lists.specs.declared.records.Ending.{Ending}
-use Rattle.field_lists.specs.declared.records.Ending.TheVariants as ending
+use Rattle.field_lists.specs.declared.lists.ListFault.TheVariants.{Header, Record, Read, Memory}
 
 -- a record that can be judged: UTF-8, with a field for each column
 abbrev pub IsReadable : List (List ℕ) → Type 0
@@ -43,15 +41,14 @@ IsFaultOf (first ∷ rows) fault = ((fault ≡ Read) × ¬ AllText first)
     ⊎ ((fault ≡ Header) × AllText first × (first ≢ header))
     ⊎ ((first ≡ header) × IsFaultFrom 1 rows fault)
 
--- nothing in these records is a fault, whatever follows
-abbrev pub AreFaultless : List (List (List ℕ)) → Type 0
-AreFaultless rows = (rows ≡ []) ⊎ ((entries : List Listed) × AreList rows entries)
+-- the records so far have no fault: none came, or there is a header, and one record for each of these entries
+abbrev pub AreBegun : Bool → List (List (List ℕ)) → List Listed → Type 0
+AreBegun false rows entries = (rows ≡ []) × (entries ≡ [])
+AreBegun true rows entries = AreList rows entries
 
--- the fault that the end of the records brings: none came, or the reader failed after them
-abbrev pub IsFaultOfEnd : List (List (List ℕ)) → Ending → ListFault → Type 0
-IsFaultOfEnd rows ending.End fault = (fault ≡ Header) × (rows ≡ [])
-IsFaultOfEnd rows ending.Failed fault = (fault ≡ Read) × AreFaultless rows
-IsFaultOfEnd rows ending.Memory fault = ⊥
+-- the fault of a reader that gave no more: it failed, unless it never does, or memory was wanting
+abbrev pub IsOfReader : Type 0 → ListFault → Type 0
+IsOfReader NeverFails fault = (fault ≡ Memory) ⊎ ((fault ≡ Read) × ¬ NeverFails)
 
 -- these are the first records of a text
 abbrev pub AreFirstRecords : List ℕ → List (List (List ℕ)) → Type 0

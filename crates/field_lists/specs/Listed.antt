@@ -1,15 +1,11 @@
 -- Which record of a list of what a file holds is which entry. Profile, over RFC 9562 for UUIDs.
-use Rattle.std.specs.Prelude.{◌≡◌, ℕ, ℤ, List, [], ◌∷◌, length, Option, Some, None, codes}
+use Rattle.std.specs.Prelude.{◌≡◌, ℕ, ℤ, List, [], ◌∷◌, Option, Some, None, codes}
 use Rattle.sheet_types.specs.Reading.{frame_text, IsInRange}
 use Rattle.sheet_types.specs.Texts.{kind_of, kind_word, mapping_word}
 use Rattle.sheet_types.specs.declared.command.Content.{Content}
 use Rattle.sheet_types.specs.declared.command.Content.TheVariants.{Tile, Media, Row}
 use Rattle.sheet_types.specs.declared.frame.Frame.{Frame}
 use Rattle.request_csv.specs.Requests.{IsTextAt, IsUuidAt, IsNumberAt, IsHexAt, AreEmpty}
-use Rattle.field_changes.specs.declared.held.BadRecord.{BadRecord}
-use Rattle.field_changes.specs.declared.held.Export.{Export}
-use Rattle.field_changes.specs.declared.held.HeldItem.{HeldItem}
-use Rattle.field_changes.specs.declared.held.HeldLink.{HeldLink}
 use Rattle.field_lists.specs.declared.entries.Listed.{Listed}
 use Rattle.field_lists.specs.declared.entries.Listed.TheVariants.{Exported, System, Framed, Item, Link, Bad, End}
 

@@ -10,8 +10,8 @@ ghost use Rattle.sheet_types.specs.declared.frame.Frame.{Frame};
 ghost use Rattle.sheet_types.specs.Texts.{kind_word};
 ghost use Rattle.sheet_types.specs.declared.receipt.MovedKind.{MovedKind};
 
+use crate::digits::decoded;
 use csv::StringRecord;
-use hex::FromHexError;
 use sheet_types::collections::Text;
 use sheet_types::error::OutOfMemory;
 use sheet_types::frame::Frame;
@@ -71,11 +71,7 @@ pub(crate) fn hex_at(
     let Some(text) = row.get(column) else {
         return Ok(None);
     };
-    match hex::decode(alloc, text) {
-        Ok(bytes) => Ok(Some(bytes)),
-        Err(FromHexError::OutOfMemory) => Err(OutOfMemory),
-        Err(_) => Ok(None),
-    }
+    decoded(alloc, text.as_bytes())
 }
 
 /// The kind that this column names.

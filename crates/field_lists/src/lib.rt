@@ -2,7 +2,7 @@
 #![tactic(auto)]
 
 mod columns;
+mod digits;
 pub mod entries;
 mod fields;
 pub mod lists;
-mod records;

@@ -1,22 +1,17 @@
 //! A list of what a file holds as a whole: its header, its entries, and the fault that is met first.
-ghost use Rattle.std.specs.Prelude.{◌≡◌, ◌≢◌, ◌⊎◌, ◌↔◌, [], ◌∷◌, map, IsTrue, IfOk, IfErr, IfSome};
-ghost use Rattle.std.specs.List.{AllZip};
-ghost use Rattle.std.specs.Vec.Iter.{into_iter_items};
+ghost use Rattle.std.specs.Prelude.{◌≡◌, ◌⊎◌, ◌↔◌, ℕ, List, [], ◌∷◌, ◌++◌, map, IsTrue, IfOk, IfErr, IfSome};
 ghost use Rattle.csv.specs.Records.{fields_of};
 ghost use Rattle.field_lists.specs.Listed.{header};
-ghost use Rattle.field_lists.specs.HoldsLists.{AreList, Lists, IsFaultFrom, IsFaultOf, IsFaultOfEnd, IsList, MeetsFirst};
-ghost use Rattle.field_lists.specs.declared.records.Ending.TheVariants as ending;
+ghost use Rattle.field_lists.specs.HoldsLists.{AreAllRecords, AreBegun, AreFirstRecords, AreList, Lists, IsFaultFrom, IsFaultOf, IsList, IsOfReader, MeetsFirst};
 ghost use Rattle.field_lists.specs.declared.lists.ListFault.TheVariants as fault;
 
 use crate::columns::COUNT;
 use crate::entries::{Listed, entry_of};
 use crate::fields::has_text;
-use crate::records::{Ending, read_records};
-use csv::{ByteRecord, StringRecord};
+use csv::{ByteRecord, ReaderBuilder, StringRecord};
 use request_csv::sources::ListSource;
 use sheet_types::error::OutOfMemory;
 use std::alloc::Global;
-use std::vec::IntoIter;
 use thiserror::Error;
 
 /// Why a list was not read. Of the first three the one that is met first in reading order.
@@ -103,60 +98,80 @@ fn check_header(row: ByteRecord) -> Result<(), ListFault>
     }
 }
 
-/// The entries that the records after the header are.
-fn entries_in(alloc: Global, rows: IntoIter<ByteRecord>) -> Result<Vec<Listed>, ListFault>
-    ensures asks { IfOk result (λ entries. AllZip Lists (map fields_of (into_iter_items rows)) entries.items) }
-    ensures fault { IfErr result (λ met. (met ≡ fault.Memory) ⊎ IsFaultFrom 1 (map fields_of (into_iter_items rows)) met) }
+/// Reads an entry more.
+fn add_entry(alloc: Global, entries: &mut Vec<Listed>, row: ByteRecord) -> Result<(), ListFault>
+    ensures more { IfOk result (λ _. (rows : List (List (List ℕ))) → AreList rows entries.old.items
+        → AreList (rows ++ fields_of row ∷ []) entries.new.items) }
+    ensures fault { IfErr result (λ met. (met ≡ fault.Memory) ⊎ ((rows : List (List (List ℕ)))
+        → AreList rows entries.old.items → IsFaultOf (rows ++ fields_of row ∷ []) met)) }
 {
+    let number = entries.len() as u64 + 1;
+    let entry = entry_in(alloc, number, row)?;
+    if entries.push(entry).is_err() {
+        return Err(ListFault::Memory);
+    }
+    Ok(())
+}
+
+/// Reads a record more: the header, where it was not read yet, or else an entry.
+fn add_record(
+    alloc: Global,
+    has_header: bool,
+    entries: &mut Vec<Listed>,
+    row: ByteRecord,
+) -> Result<(), ListFault>
+    ensures more { IfOk result (λ _. (rows : List (List (List ℕ))) → AreBegun has_header rows entries.old.items
+        → AreList (rows ++ fields_of row ∷ []) entries.new.items) }
+    ensures fault { IfErr result (λ met. (met ≡ fault.Memory) ⊎ ((rows : List (List (List ℕ)))
+        → AreBegun has_header rows entries.old.items → IsFaultOf (rows ++ fields_of row ∷ []) met)) }
+{
+    if has_header {
+        add_entry(alloc, entries, row)
+    } else {
+        check_header(row)
+    }
+}
+
+/// Why a reader gave no more. One that cannot fail met a want of memory, whatever else was told.
+fn reader_fault<R: ListSource>(is_of_reader: bool) -> ListFault
+    ensures { IsOfReader R.never_fails result }
+{
+    if is_of_reader && R::may_fail() {
+        ListFault::Read
+    } else {
+        ListFault::Memory
+    }
+}
+
+/// Whether there is a header, and the entries after it. One record is in memory at a time.
+fn read_records<R: ListSource + Drop>(
+    alloc: Global,
+    reader: R,
+) -> Result<(bool, Vec<Listed>), ListFault>
+    ensures list { IfOk result (λ read. IfSome (R.remaining reader) (λ text. (rows : List (List (List ℕ)))
+        × AreAllRecords text rows × AreBegun read.0 rows read.1.items)) }
+    ensures fault { IfErr result (λ met. IsOfReader R.never_fails met
+        ⊎ IfSome (R.remaining reader) (λ text. (rows : List (List (List ℕ))) × AreFirstRecords text rows × IsFaultOf rows met)) }
+{
+    let source = ReaderBuilder::new()
+        .has_headers(false)
+        .flexible(true)
+        .from_reader(alloc, reader);
+    let mut has_header = false;
     let mut entries = Vec::new(alloc);
-    for row in rows {
-        let number = entries.len() as u64 + 1;
-        let entry = entry_in(alloc, number, row)?;
-        if entries.push(entry).is_err() {
-            return Err(ListFault::Memory);
+    for row in source.into_byte_records() {
+        match row {
+            Ok(row) => {
+                add_record(alloc, has_header, &mut entries, row)?;
+                has_header = true;
+            }
+            Err(fault) => return Err(reader_fault::<R>(fault.is_io_error())),
         }
     }
-    Ok(entries)
+    Ok((has_header, entries))
 }
 
-/// The entries of a list, of its records and how they ended. A fault of the records comes before one of their end: Header where there is no record at all, Read where the reader failed after records that have no fault.
-pub(crate) fn entries_of(
-    alloc: Global,
-    rows: Vec<ByteRecord>,
-    ended: Ending,
-) -> Result<Vec<Listed>, ListFault>
-    ensures list { IfOk result (λ entries. (ended ≡ ending.End) × AreList (map fields_of rows.items) entries.items) }
-    ensures fault { IfErr result (λ met. (met ≡ fault.Memory) ⊎ IsFaultOf (map fields_of rows.items) met ⊎ IsFaultOfEnd (map fields_of rows.items) ended met) }
-{
-    let mut rest = rows.into_iter();
-    let Some(first) = rest.next() else {
-        return Err(match ended {
-            Ending::End => ListFault::Header,
-            Ending::Failed => ListFault::Read,
-            Ending::Memory => ListFault::Memory,
-        });
-    };
-    check_header(first)?;
-    let entries = entries_in(alloc, rest)?;
-    match ended {
-        Ending::End => Ok(entries),
-        Ending::Failed => Err(ListFault::Read),
-        Ending::Memory => Err(ListFault::Memory),
-    }
-}
-
-/// How the records of a source ended. One that cannot fail met a want of memory, whatever else was told.
-fn ending_of<R: ListSource>(ended: Ending) -> Ending
-    ensures end { result ≡ ending.End → ended ≡ ending.End }
-    ensures sound { R.never_fails → result ≢ ending.Failed }
-{
-    if ended == Ending::Failed && !R::may_fail() {
-        return Ending::Memory;
-    }
-    ended
-}
-
-/// The entries of a list: a record of the names of the columns, and after it one record for each entry. Everything is read and judged before any entry is answered. A byte order mark at the start and blank lines are passed over; CR, LF and CR LF end records (RFC 4180, section 2, and beyond it as `csv` reads). A reader that fails is Read, unless a record before it is a fault. Of a text in memory Read is told of nothing but a record that cannot be read.
+/// The entries of a list: a record of the names of the columns, and after it one record for each entry. A byte order mark at the start and blank lines are passed over; CR, LF and CR LF end records (RFC 4180, section 2, and beyond it as `csv` reads). A reader that fails is Read, unless a record before it is a fault. Of a text in memory Read is told of nothing but a record that cannot be read.
 pub fn read_entries<R: ListSource + Drop>(
     alloc: Global,
     reader: R,
@@ -165,6 +180,10 @@ pub fn read_entries<R: ListSource + Drop>(
     ensures fault { IfErr result (λ met. (met ≡ fault.Read) ⊎ (met ≡ fault.Memory) ⊎ IfSome (R.remaining reader) (λ text. MeetsFirst text met)) }
     ensures cause { R.never_fails → IfErr result (λ met. (met ≡ fault.Memory) ⊎ IfSome (R.remaining reader) (λ text. MeetsFirst text met)) }
 {
-    let (rows, ended) = read_records(alloc, reader);
-    entries_of(alloc, rows, ending_of::<R>(ended))
+    let (has_header, entries) = read_records(alloc, reader)?;
+    if has_header {
+        Ok(entries)
+    } else {
+        Err(ListFault::Header)
+    }
 }
