@@ -1,14 +1,23 @@
 -- What is printed of a file that is refused, and of a list in short. Profile.
 use Rattle.std.specs.Prelude.{ℕ, Bool, true, false, List, [], ◌++◌, codes, count_by, decimal, string_bytes}
+use Rattle.sheet_types.specs.Texts.{uuid_text}
 use Rattle.sheet_types.specs.declared.command.Command.{Command}
 use Rattle.sheet_types.specs.declared.command.Command.TheVariants.{Add, Delete, Link, Unlink}
 use Rattle.sheet_types.specs.declared.command.Request.{Request}
 use Rattle.command_words.specs.Endings.{line_of}
 use Rattle.command_field.specs.declared.asking.Answer.{Answer}
-use Rattle.command_field.specs.declared.asking.Answer.TheVariants.{Asked, NoSuchPackage, NoList, OtherPackage, Stale, OtherSystem, OtherFrame, Items, TwoAlike}
+use Rattle.command_field.specs.declared.asking.Answer.TheVariants.{Asked, NoSuchPackage, NoList, OtherPackage, Stale, OtherSystem, OtherFrame, Items, TwoAlike, NotFree}
+use Rattle.command_field.specs.declared.freedom.Taken.{Taken}
+use Rattle.command_field.specs.declared.freedom.Taken.TheVariants.{Identity, Request as SameRequest, TooMany}
 
 abbrev pub refused : List ℕ → List ℕ
 refused words = line_of (codes "refused") words
+
+-- what is taken
+abbrev pub taken_words : Taken → List ℕ
+taken_words (Identity id) = codes "identity " ++ uuid_text id
+taken_words (SameRequest id) = codes "request " ++ uuid_text id
+taken_words TooMany = codes "too many"
 
 abbrev pub refusal_text : Answer → List ℕ
 refusal_text (Asked requests) = []
@@ -20,6 +29,7 @@ refusal_text OtherSystem = refused (codes "system")
 refusal_text OtherFrame = refused (codes "frame")
 refusal_text (Items lines) = refused (codes "items") ++ string_bytes lines
 refusal_text TwoAlike = refused (codes "identity")
+refusal_text (NotFree taken) = refused (taken_words taken)
 
 -- ---- the parts of a list
 

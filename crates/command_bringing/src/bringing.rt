@@ -142,7 +142,8 @@ fn end_answer<S: Alter + Drop, H: Shelf<S>, W: Write, T: Teller>(
         | Answer::OtherSystem
         | Answer::OtherFrame
         | Answer::Items(_)
-        | Answer::TwoAlike => refuse(alloc, answer, writer),
+        | Answer::TwoAlike
+        | Answer::NotFree(_) => refuse(alloc, answer, writer),
     }
 }
 

@@ -1,11 +1,23 @@
 //! What is printed of a file that is refused, and of a list in short.
 ghost use Rattle.std.specs.Prelude.{◌≡◌, ◌++◌, IfOk, codes, count_by, decimal, string_bytes};
-ghost use Rattle.command_bringing.specs.Telling.{is_add, is_delete, is_link, is_unlink, refusal_text, summary_text};
+ghost use Rattle.command_bringing.specs.Telling.{is_add, is_delete, is_link, is_unlink, refusal_text, refused, summary_text, taken_words};
 
 use command_field::asking::Answer;
+use command_field::freedom::Taken;
 use sheet_types::command::{Command, Request};
 use sheet_types::error::OutOfMemory;
 use std::alloc::{AllocError, Global};
+
+/// The line `refused: ` and what is taken.
+fn taken_text(alloc: Global, taken: Taken) -> Result<String, OutOfMemory>
+    ensures { IfOk result (λ text. string_bytes text ≡ refused (taken_words taken)) }
+{
+    match taken {
+        Taken::Identity(id) => Ok(format!(in alloc; "refused: identity {id}\n")?),
+        Taken::Request(id) => Ok(format!(in alloc; "refused: request {id}\n")?),
+        Taken::TooMany => Ok("refused: too many\n".to_string(alloc)?),
+    }
+}
 
 /// The line `refused: ` and what is refused; behind it the lines of records.
 ///
@@ -25,6 +37,7 @@ pub(crate) fn refusal_text(alloc: Global, answer: &Answer) -> Result<String, Out
         Answer::TwoAlike => "refused: identity\n",
         Answer::Stale(ticket) => return Ok(format!(in alloc; "refused: stale {ticket}\n")?),
         Answer::Items(lines) => return Ok(format!(in alloc; "refused: items\n{lines}")?),
+        Answer::NotFree(taken) => return taken_text(alloc, *taken),
     };
     Ok(text.to_string(alloc)?)
 }
@@ -99,6 +112,21 @@ pub(crate) fn summary_text(alloc: Global, requests: &[Request]) -> Result<String
     Ok(text)
 }
 
+/// What it means that something is taken.
+fn note_of_taken(taken: Taken) -> &'static str {
+    match taken {
+        Taken::Identity(_) => {
+            "a new item would get the identity of an item that is or was there. Nothing was changed. Make some other change of the package, export it again, and edit that file"
+        }
+        Taken::Request(_) => {
+            "a request of the list came before, and would not be carried out again. Nothing was changed. Make some other change of the package, export it again, and edit that file"
+        }
+        Taken::TooMany => {
+            "a limit would be passed: 1,000,000 items of a kind or 4,000,000 links of a package, 256 packages, or 1,000,000,000 receipts. Nothing was changed"
+        }
+    }
+}
+
 /// What a refusal means, in plain words for standard error; empty where there is none.
 pub(crate) fn note_of(answer: &Answer) -> &'static str {
     match answer {
@@ -129,5 +157,6 @@ pub(crate) fn note_of(answer: &Answer) -> &'static str {
 Mend or delete these records in the file, and bring it again. Nothing was changed"
         }
         Answer::TwoAlike => "two new items would get one identity",
+        Answer::NotFree(taken) => note_of_taken(*taken),
     }
 }

@@ -1,2 +1,6 @@
+mod Merging
 pub mod Tickets
 pub mod Told
+mod Ids
+mod Counts
+mod Free

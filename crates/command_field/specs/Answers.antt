@@ -1,5 +1,6 @@
 -- What is answered of an edited file, for a package of a world. Profile.
 use Rattle.std.specs.Prelude.{◌≡◌, ◌⊎◌, ℕ, Bool, true, false, List, [], Option, Some, None, IfSome, string_bytes}
+use Rattle.std.specs.List.{AllByRecursion}
 use Rattle.sheet_types.specs.Custody.{ticket}
 use Rattle.sheet_types.specs.World.{World, holdings, is_live}
 use Rattle.sheet_types.specs.declared.command.Item.{Item}
@@ -7,6 +8,7 @@ use Rattle.sheet_types.specs.declared.command.Relation.{Relation}
 use Rattle.sheet_types.specs.declared.frame.Frame.{Frame}
 use Rattle.field_changes.specs.Asked.{AreChanges}
 use Rattle.field_changes.specs.declared.held.Held.{Held}
+use Rattle.world.specs.Asked.{child_returned}
 use Rattle.field_lists.specs.HoldsLists.{IsList, MeetsFirst}
 use Rattle.field_lists.specs.declared.entries.Listed.{Listed}
 use Rattle.field_lists.specs.declared.lists.ListFault.{ListFault}
@@ -15,10 +17,13 @@ use Rattle.field_faults.specs.Files.{IsHeld}
 use Rattle.field_faults.specs.Heads.{head_fault}
 use Rattle.field_faults.specs.Lines.{fault_lines}
 use Rattle.field_faults.specs.declared.heads.HeadFault.{HeadFault}
+use Rattle.field_home_laws.specs.Free.{IsEmptyOrFree}
 use Rattle.field_faults.specs.declared.heads.HeadFault.TheVariants as head
 use Rattle.command_field.specs.declared.asking.Answer.{Answer}
-use Rattle.command_field.specs.declared.asking.Answer.TheVariants.{Asked, NoSuchPackage, NoList, OtherPackage, Stale, OtherSystem, OtherFrame, Items, TwoAlike}
+use Rattle.command_field.specs.declared.asking.Answer.TheVariants.{Asked, NoSuchPackage, NoList, OtherPackage, Stale, OtherSystem, OtherFrame, Items, TwoAlike, NotFree}
 use Rattle.command_field.specs.declared.asking.Ask.{Ask}
+use Rattle.command_field.specs.declared.freedom.Taken.{Taken}
+use Rattle.command_field.specs.Freedom.{IsFreeOrTaken, IsTaken}
 
 -- ---- of what a package holds
 
@@ -49,9 +54,25 @@ AnswersGiven f a number items linked h answer =
     ⊎ ((head_fault a.«package» number f a.more h ≡ None)
     × AnswersLines (fault_lines f items a.more h) a.«package» number a.at.now items linked a.more h answer)
 
--- of a package of a world
+-- ---- of a world
+
+-- what the requests of an answer ask for that is not free
+abbrev pub IsTakenOf : World → List Item → List Relation → Answer → Option Taken → Type 0
+IsTakenOf w items linked (Asked requests) found = IsFreeOrTaken w items linked requests.items found
+IsTakenOf w items linked first found = found ≡ None
+
+-- An answer stays where its requests are free, or are none; else it is told what is taken.
+abbrev pub StaysFree : World → List Item → List Relation → Answer → Answer → Type 0
+StaysFree w items linked (Asked requests) answer =
+    ((answer ≡ Asked requests) × IsEmptyOrFree w items linked requests.items)
+    ⊎ ((taken : Taken) × (answer ≡ NotFree taken) × IsTaken w items linked requests.items taken)
+StaysFree w items linked first answer = answer ≡ first
+
+-- of a package of a world: what is answered of what it holds stays free
 abbrev pub AnswersFile : World → Ask → Held → Answer → Type 0
-AnswersFile w a h answer = AnswersGiven w.frame a (ticket w a.«package») (holdings w a.«package»).items (holdings w a.«package»).links h answer
+AnswersFile w a h answer = (first : Answer)
+    × AnswersGiven w.frame a (ticket w a.«package») (holdings w a.«package»).items (holdings w a.«package»).links h first
+    × StaysFree w (holdings w a.«package»).items (holdings w a.«package»).links first answer
 
 -- ---- of a list
 
@@ -72,3 +93,10 @@ abbrev pub AnswersText : World → Ask → Option (List ℕ) → Answer → Type
 AnswersText w a text answer =
     ((answer ≡ NoSuchPackage) × (is_live w a.«package» ≡ false))
     ⊎ ((is_live w a.«package» ≡ true) × AnswersLive w a text answer)
+
+-- ---- whatever a store told
+
+-- no request takes a package home
+abbrev pub AsksNoMerge : Answer → Type 0
+AsksNoMerge (Asked requests) = AllByRecursion (λ q. child_returned q.command ≡ None) requests.items
+AsksNoMerge answer = Unit {0}

@@ -1,1 +1,2 @@
+pub mod Freedom
 pub mod Answers

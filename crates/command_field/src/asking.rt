@@ -10,8 +10,9 @@ ghost use Rattle.world.specs.Worlds.{IsRead, StandsFor, TellsOf};
 ghost use Rattle.command_requests.specs.Listing.{IsUntouched};
 ghost use Rattle.field_faults.specs.Lines.{fault_lines};
 ghost use Rattle.field_faults.specs.declared.heads.HeadFault.{HeadFault};
-ghost use Rattle.command_field.specs.Answers.{AnswersBy, AnswersFile, AnswersGiven, AnswersLines, AnswersText, AreHeldIn, head_answer};
+ghost use Rattle.command_field.specs.Answers.{AnswersBy, AnswersFile, AnswersGiven, AnswersLines, AnswersText, AreHeldIn, AsksNoMerge, IsTakenOf, StaysFree, head_answer};
 
+use crate::freedom::{Taken, taken_in};
 use field_changes::changes::{Holdings, Unasked, changes};
 use field_changes::held::Held;
 use field_changes::ids::Asker;
@@ -60,6 +61,8 @@ pub enum Answer {
     Items(String),
     /// Two new items were given one identity.
     TwoAlike,
+    /// The requests ask for something that is not free.
+    NotFree(Taken),
 }
 
 /// What the list of packages says of one.
@@ -169,6 +172,47 @@ fn answer_given(
     answer_with(alloc, frame, &asker, holdings, ask.more, held)
 }
 
+/// What the requests of an answer ask for that is not free, for a package that holds this.
+fn taken_of<S: Alter + Drop>(
+    alloc: Global,
+    world: &mut World<S>,
+    holdings: &Holdings<'_>,
+    first: &Answer,
+) -> Result<Option<Taken>, Fault>
+    ensures told { TellsOf S.Store (λ w found. IsTakenOf w holdings.now.items.now holdings.now.links.now first.now found) world.old world.new result }
+    ensures read { IsUntouched S.Store world.old world.new }
+{
+    match first {
+        Answer::Asked(requests) => taken_in(alloc, world, holdings, requests.as_slice()),
+        Answer::NoSuchPackage
+        | Answer::NoList
+        | Answer::OtherPackage
+        | Answer::Stale(_)
+        | Answer::OtherSystem
+        | Answer::OtherFrame
+        | Answer::Items(_)
+        | Answer::TwoAlike
+        | Answer::NotFree(_) => Ok(None),
+    }
+}
+
+/// An answer as it is where its requests are free in the world; else what is taken.
+fn keep_free<S: Alter + Drop>(
+    alloc: Global,
+    world: &mut World<S>,
+    holdings: &Holdings<'_>,
+    first: Answer,
+) -> Result<Answer, Fault>
+    ensures told { TellsOf S.Store (λ w answer. StaysFree w holdings.now.items.now holdings.now.links.now first answer) world.old world.new result }
+    ensures merges { IfOk result (λ answer. AsksNoMerge first → AsksNoMerge answer) }
+    ensures read { IsUntouched S.Store world.old world.new }
+{
+    match taken_of(alloc, world, holdings, &first)? {
+        Some(taken) => Ok(Answer::NotFree(taken)),
+        None => Ok(first),
+    }
+}
+
 /// What is answered of a file for a live package of a world. The world is only read.
 ///
 /// # Errors
@@ -183,6 +227,7 @@ pub fn answer_in<S: Alter + Drop>(
 ) -> Result<Answer, Fault>
     ensures told { TellsOf S.Store (λ w answer. is_live w ask.now.package ≡ true → number ≡ ticket w ask.now.package
         → AnswersFile w ask.now held answer) world.old world.new result }
+    ensures merges { IfOk result AsksNoMerge }
     ensures read { IsUntouched S.Store world.old world.new }
 {
     if world.has_failed() {
@@ -196,7 +241,8 @@ pub fn answer_in<S: Alter + Drop>(
         items: items.as_slice(),
         links: links.as_slice(),
     };
-    answer_given(alloc, &frame, ask, number, &holdings, held)
+    let first = answer_given(alloc, &frame, ask, number, &holdings, held)?;
+    keep_free(alloc, world, &holdings, first)
 }
 
 /// What the text of a reader lists; `None` where it is no list.
@@ -226,6 +272,7 @@ pub fn answer_of<S: Alter + Drop, R: Read + Drop>(
     reader: R,
 ) -> Result<Answer, Fault>
     ensures told { TellsOf S.Store (λ w answer. AnswersText w ask.now (R.remaining reader) answer) world.old world.new result }
+    ensures merges { IfOk result AsksNoMerge }
     ensures read { IsUntouched S.Store world.old world.new }
 {
     let Some(ticket) = ticket_of(alloc, world, ask.package)? else {

@@ -2,3 +2,6 @@
 #![tactic(auto)]
 
 pub mod asking;
+pub mod freedom;
+mod identities;
+mod limits;

@@ -254,10 +254,10 @@ The package must be as it was when it was exported. With --more nothing is delet
 program's. `changes` prints a list for `import`; `bring` carries it out at once, and prints its report.
 
 Exit status:
-  0  the list was printed; or it was carried out, whatever its report says
+  0  the list was printed; or it was carried out whole, and the package holds what the file holds
   1  nothing was done. Standard output has `refused: ` and `uuid`, `at`, `no such package`, `list`, `package`,
      `stale` and a number, `system`, `frame`, `items` and a line for each record that the package cannot hold,
-     or `identity`. Standard error says what that means
+     `identity` or `request` and a UUID that is not free, or `too many`. Standard error says what that means
   2  the command line is no use of the program
   3  memory, a store, a reader or a writer gave out";
 

@@ -23,3 +23,11 @@ module _ {S : Type 0} (g : Ghosts S) where
   pub stands_after : (a b : Seen S) → IsUntouched g a b → (w : World) → StandsFor g a w → StandsFor g b w
   stands_after a b (inl same) w stands = subst (λ s. StandsFor g s w) (sym same) stands
   stands_after a b (inr read) w stands = read.stands w stands
+
+  pub untouched_both : (a b c : Seen S) → IsUntouched g a b → IsUntouched g b c → IsUntouched g a c
+  untouched_both a b c first (inl same) = subst (λ s. IsUntouched g a s) (sym same) first
+  untouched_both a b c first (inr read) = untouched_then a b c first read
+
+  pub clean_before : (a b : Seen S) → IsUntouched g a b → AllClean g b.members → AllClean g a.members
+  clean_before a b (inl same) clean = subst (λ (s : Seen S). AllClean g s.members) same clean
+  clean_before a b (inr read) clean = read.clean clean

@@ -21,7 +21,7 @@ returns-in-Ok-clause-home g c =
     (g.H.Shelf.failures_of c.args.shelf.now) (g.H.Shelf.failures_of c.end_answer-ending.new.shelf)
     c.end_answer-ending.result
     c.args.purpose c.in-Ok.answer c.answer_of.new.world c.in-Ok.ensures.read
-    (λ clean w stands. c.in-Ok.ensures.told clean w stands) c.end_answer-ending.ensures
+    (λ clean w stands. c.in-Ok.ensures.told clean w stands) c.in-Ok.ensures.merges c.end_answer-ending.ensures
 
 pub returns-in-Err-clause-home : goal.returns-in-Err-clause-home
 returns-in-Err-clause-home g c = stopped_home g.S.Store c.args.ask.now (g.R.Read.remaining c.args.reader)
