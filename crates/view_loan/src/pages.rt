@@ -9,8 +9,7 @@ use crate::verdicts::put_verdict;
 use crate::words::{
     ACCOUNT_HEAD, BODY, CHECK, DUE_HEAD, LEDGER_HEAD, LENT_HEAD, NAVIGATION, SIGNATURES,
 };
-use sheet_ledger::accounting::account;
-use sheet_ledger::flows::flow_of;
+use sheet_ledger::flows::{flow_of, flows};
 use sheet_types::error::OutOfMemory;
 use sheet_types::receipt::Receipt;
 use std::alloc::{AllocError, Global};
@@ -91,8 +90,8 @@ fn put_own_account(
 ) -> Result<(), OutOfMemory>
     ensures { IfOk result (λ _. string_bytes text.new ≡ string_bytes text.old ++ account_section register.now live.now) }
 {
-    let account = account(alloc, &register.receipts)?;
-    let flow = flow_of(&account.flows, live.uuid);
+    let flows = flows(alloc, &register.receipts)?;
+    let flow = flow_of(&flows, live.uuid);
     put(text, ACCOUNT_HEAD)?;
     put_account(text, register, live, &flow)?;
     put(text, SIGNATURES)?;

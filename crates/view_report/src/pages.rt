@@ -17,7 +17,7 @@ use crate::words::{
     ACCOUNT_HEAD, BODY, CHECK, HEAD, HOLDERS_HEAD, HOLDINGS_HEAD, HOMES_HEAD, LEDGER_HEAD,
     NAVIGATION, RAW_HEAD, SHAPES, TABLE_END, VERDICT,
 };
-use sheet_ledger::accounting::account;
+use sheet_ledger::flows::flows;
 use sheet_types::error::OutOfMemory;
 use sheet_types::fingerprints::spell;
 use std::alloc::{AllocError, Global};
@@ -130,9 +130,9 @@ fn put_ledger(alloc: Global, text: &mut String, register: &Register) -> Result<(
 fn put_account(alloc: Global, text: &mut String, register: &Register) -> Result<(), OutOfMemory>
     ensures { IfOk result (λ _. string_bytes text.new ≡ string_bytes text.old ++ account_section register.now) }
 {
-    let account = account(alloc, &register.receipts)?;
+    let flows = flows(alloc, &register.receipts)?;
     put(text, ACCOUNT_HEAD)?;
-    put_accounts(text, register, &account.flows, &register.packages)?;
+    put_accounts(text, register, &flows, &register.packages)?;
     put(text, CHECK)?;
     Ok(())
 }
