@@ -95,6 +95,11 @@ class Field:
             lines.append(f"{number},{request['request']},{seq},{refusal}\n")
         return "".join(lines)
 
+    def carry(self, text):
+        """A list of requests, as a file of the session, is imported."""
+        path = self.session.name(f"lists/{self.folder}_{len(self.session.files)}.csv", text)
+        self.session.run(f"import {self.folder} {path}", self.report(read_requests(text)))
+
     def keep(self, text):
         """The list of a file, as a file of the session."""
         self.files += 1
@@ -319,12 +324,36 @@ def more(field):
     field.session.run(f"audit {field.folder}", f"good {len(field.world.receipts)}\n")
 
 
+def with_a_mark(field, x, code, text):
+    """The file of an export of now, with a mark more."""
+    file = exported(field.world, HOME)
+    file.add("row", x=x, y=5929000000, code=code, text=text)
+    return file.text()
+
+
+def not_free(field):
+    """The list that `changes` printed for the archive is written for a loan by hand, and carried out there. So the identity of the file's new mark
+    is used, and the file is refused. With another identity in that list it is the request that came before. After any other change of the package
+    the file of a new export comes home: its mark gets another identity."""
+    for text, other in (("beacon", {}), ("withies", {"identity": nordmark.mark("withies")})):
+        path = field.run("changes", HOME, with_a_mark(field, 514000500, 410, text))
+        (request,) = changes_of_words(field.world, HOME, MOMENTS[0], field.session.files[path]).requests
+        field.carry(list_of([{**request, "package": nordmark.BOAT, **other}]).encode())
+        field.run("changes", HOME, path)
+        field.run("bring", HOME, path, ["--dry-run", "--summary"])
+        field.run("bring", HOME, path)
+    field.session.run(f"audit {field.folder}", f"good {len(field.world.receipts)}\n")
+    field.run("bring", HOME, with_a_mark(field, 514000250, 430, "dolphin"))
+    field.run("bring", HOME, with_a_mark(field, 514000500, 410, "beacon"))
+    field.session.run(f"audit {field.folder}", f"good {len(field.world.receipts)}\n")
+
+
 def sessions(session):
     """All of them."""
     session.show("")
     session.show("# An export is edited, and comes home.")
     field = Field(session, "field", begun())
-    for part in (a_round, twins, of_a_loan, bad_records, no_lists, refused_words, more):
+    for part in (a_round, twins, of_a_loan, bad_records, no_lists, refused_words, more, not_free):
         session.show("")
         session.show("# " + " ".join(part.__doc__.split()) if part.__doc__ else "# Words that are refused.")
         part(field)

@@ -70,15 +70,14 @@ def forged():
     return f"UPDATE sheet_receipts SET line = 'delete {line[1]} {line[2]}' WHERE seq = 4"
 
 
-def put_in():
-    """The first receipt, by which one thing moved, as rows of another store."""
-    first = rehearsed().replies[0]
-    thing = first.moved[0]
-    ends = [first.source or "", first.target or "", *first.sums()]
-    receipt = (first.seq, first.request, first.at, first.line, *ends)
-    moved = (first.seq, 0, thing.kind, thing.base, thing.other or "", thing.size, thing.fingerprint)
+def put_in(seq):
+    """The receipt of a number, by which one thing moved, as rows of another store."""
+    found = rehearsed().replies[seq - 1]
+    thing = found.moved[0]
+    ends = [found.source or "", found.target or "", *found.sums()]
+    receipt = (found.seq, found.request, found.at, found.line, *ends)
+    moved = (found.seq, 0, thing.kind, thing.base, thing.other or "", thing.size, thing.fingerprint)
     return [f"INSERT INTO sheet_receipts VALUES {receipt}", f"INSERT INTO sheet_items VALUES {moved}"]
-
 
 
 def in_other_words(table, columns):
@@ -110,6 +109,18 @@ SAME_KEYS = [
     ),
 ]
 
+# No key keeps a number from being given twice.
+FOUR_TWICE = [
+    *in_other_words(
+        "sheet_receipts",
+        "seq INTEGER NOT NULL, request TEXT NOT NULL UNIQUE, at TEXT NOT NULL, line TEXT NOT NULL,"
+        " source TEXT NOT NULL, target TEXT NOT NULL, n_tiles INTEGER NOT NULL, n_media INTEGER NOT NULL, n_rows INTEGER NOT NULL,"
+        " n_links INTEGER NOT NULL, n_bytes INTEGER NOT NULL",
+    ),
+    "UPDATE sheet_receipts SET seq = 4 WHERE seq = 5",
+]
+
+
 def named(name, *statements):
     """The loan's package under another name, or with another lender."""
     return [f"UPDATE sheet_package SET package = '{name[:-5]}'", *statements]
@@ -117,14 +128,24 @@ def named(name, *statements):
 
 def worked_on(name):
     """The same, in which a link was taken out: its lender has not the receipt of that."""
-    uuid, ends = name[:-5], " ".join(worked_lists.uuid_of(word) for word in ("i1", "i2"))
-    tile, medium = ends.split(" ")
+    uuid, (tile, medium) = name[:-5], (worked_lists.uuid_of(0, number) for number in (1, 2))
     return [
         *named(name),
         "DELETE FROM tiles_media",
-        f"INSERT INTO sheet_receipts VALUES (7, '{worked_lists.uuid_of('q7')}', '{worked_lists.MOMENTS['U']}',"
-        f" 'unlink tiles_media {uuid} {ends}', '{uuid}', '', 0, 0, 0, 1, 0)",
+        f"INSERT INTO sheet_receipts VALUES (7, '{worked_lists.uuid_of(9, 10)}', '{worked_lists.MOMENTS['U']}',"
+        f" 'unlink tiles_media {uuid} {tile} {medium}', '{uuid}', '', 0, 0, 0, 1, 0)",
         f"INSERT INTO sheet_items VALUES (7, 0, 4, '{tile}', '{medium}', 0, '')",
+    ]
+
+
+def taken_out():
+    """The row of the archive is deleted, by the receipt of the next number."""
+    row, uuid = rehearsed().replies[2].moved[0], ARCHIVE[:-5]
+    return [
+        *LOST,
+        f"INSERT INTO sheet_receipts VALUES (7, '{worked_lists.uuid_of(9, 9)}', '{worked_lists.MOMENTS['U']}',"
+        f" 'delete {uuid} {row.base}', '{uuid}', '', 0, 0, 1, 0, {row.size})",
+        f"INSERT INTO sheet_items VALUES (7, 0, {row.kind}, '{row.base}', '', {row.size}, '{row.fingerprint}')",
     ]
 
 
@@ -172,8 +193,14 @@ CASES = {
     "altered": ("Altered", {ARCHIVE: lent(CHANGED), LOAN: loan()}),
     "passed_over": ("OutOfAccount", {ARCHIVE: lent(*PASSED_OVER), LOAN: loan()}),
     "forged_line": ("OutOfAccount", {ARCHIVE: lent(forged()), LOAN: loan()}),
-    "moved_receipt": ("OutOfAccount", {ARCHIVE: lent(*TAKEN_AWAY), LOAN: loan(*put_in())}),
+    "moved_receipt": ("OutOfAccount", {ARCHIVE: lent(*TAKEN_AWAY), LOAN: loan(*put_in(1))}),
+    "number_twice": ("OutOfAccount", {ARCHIVE: lent(), LOAN: loan(*put_in(4))}),
+    "number_twice_in_one": ("NotAPackage", {ARCHIVE: lent(*FOUR_TWICE), LOAN: loan()}),
     "higher_frame": ("ForeignFrame", {ARCHIVE: lent(), LOAN: loan(*HIGHER)}),
+    # Two copies of a folder went on apart: the loan gave the number 7, and so did the archive in the other.
+    "loan_went_on": (None, {ARCHIVE: lent(), LOAN: loan(*worked_on(LOAN))}),
+    "archive_went_on": (None, {ARCHIVE: lent(*taken_out()), LOAN: loan()}),
+    "went_on_apart": ("OutOfAccount", {ARCHIVE: lent(*taken_out()), LOAN: loan(*worked_on(LOAN))}),
     "deep": (None, deep("abcde")),
     "lost_below": ("MissingPackage", deep("abde")),
     "same_keys": (None, {ARCHIVE: lent(*SAME_KEYS), LOAN: loan(*SAME_KEYS)}),

@@ -330,6 +330,29 @@ def names_called():
     return {record["uuid"]: record["name"] for record in csv.DictReader(names_read().decode().splitlines())}
 
 
+UNTIED = "has a row without identity, an identity without row, or a link without row"
+UNFORMED = "lacks a table of its form, or has a value out of its range"
+FOREIGN = "has not the archive's frame, or is not one level below its lender"
+
+
+def damages():
+    """Of folders that are damaged: the fault, and what is known of it."""
+    archive, loan = (worked_lists.uuid_of(digit) for digit in "ab")
+    item = worked_lists.uuid_of(0, 4)
+    unbalanced = ("OutOfAccount", "the receipts do not add up to what the packages hold")
+    return {
+        "altered": ("Altered", f"item {item} has not the content that its receipt names"),
+        "missing_package": ("MissingPackage", f"package {loan} is named by an open split and has no file"),
+        "no_archive": ("NoArchive", "no file says that it is the archive's"),
+        "two_archives": ("TwoArchives", "two files say that they are the archive's"),
+        "two_copies": ("TwoCopies", f"package {loan} is there twice"),
+        "dangling": ("Dangling", f"package {archive} {UNTIED}"),
+        "number_twice_in_one": ("NotAPackage", f"package {archive} {UNFORMED}"),
+        "higher_frame": ("ForeignFrame", f"package {loan} {FOREIGN}"),
+        **dict.fromkeys(("number_twice", "forged_line", "moved_receipt", "went_on_apart"), unbalanced),
+    }
+
+
 def papers(session):
     """The custody page of a loan, with names and without; what is none; and the pages of folders that do not open."""
     world = rehearsed(told()[0].text().encode()).world
@@ -346,10 +369,8 @@ def papers(session):
     for name, text in (("header", "uuid;name\n"), ("record", f"uuid,name\n{CREW},crew\nharbour,crew\n"), ("fields", f"uuid,name\n{CREW}\n"), ("nothing", "")):
         session.run(f"report maps --names {session.name(f'samples/names_{name}.csv', text.encode())}", "refused: names\n", 1)
     session.run("report maps --names samples/nowhere.csv", "refused: names\n", 1)
-    item, loan = ("00000000-0000-4000-8000-000000000004", "b0000000-0000-4000-8000-000000000000")
-    session.run("report folders/altered", fault_page_of("Altered", f"item {item} has not the content that its receipt names"), 3)
-    session.run("report folders/missing_package", fault_page_of("MissingPackage", f"package {loan} is named by an open split and has no file"), 3)
-    session.run("report folders/no_archive", fault_page_of("NoArchive", "no file says that it is the archive's"), 3)
+    for folder, fault in damages().items():
+        session.run(f"report folders/{folder}", fault_page_of(*fault), 3)
     session.run("report folders/no_database", "", 3)
     session.run("map folders/altered", "", 3)
 

@@ -10,7 +10,7 @@ from collections import Counter, namedtuple
 from .contents import ENDS, KINDS, fingerprint_of, is_moment, line_of, place_of, size_of
 from .held_lists import read_held
 from .lists import HEADER, UUID, NoList, spelled_record
-from .reasons import GREATEST_CODE, GREATEST_DATA, GREATEST_LABEL, GREATEST_TYPE
+from .reasons import GREATEST_CODE, GREATEST_DATA, GREATEST_LABEL, GREATEST_TYPE, MOST_ITEMS, MOST_LINKS, MOST_PACKAGES, MOST_RECEIPTS
 
 Changes = namedtuple("Changes", "requests names")
 
@@ -189,6 +189,28 @@ def check_requests(requests):
         raise Refused("identity")
 
 
+def is_past_limits(world, package, requests):
+    """Whether the list would leave too much, or there is too much already."""
+    of = {command: [request for request in requests if request["command"] == command] for command in ("unlink", "delete", "add", "link")}
+    gone = {request["identity"] for request in of["delete"]}
+    kinds = Counter(item["kind"] for identity, item in package.items.items() if identity not in gone)
+    kinds.update(request["kind"] for request in of["add"])
+    links = len(package.links) - len(of["unlink"]) + len(of["link"])
+    receipts = len(world.receipts) + len(requests)
+    return max(kinds.values(), default=0) > MOST_ITEMS or links > MOST_LINKS or len(world.packages) > MOST_PACKAGES or receipts > MOST_RECEIPTS
+
+
+def check_free(world, package, requests):
+    """That nothing is asked for that an item or a request had before, and that the limits are kept. An empty list asks for nothing."""
+    for request in requests:
+        if request["command"] == "add" and request["identity"] in world.used:
+            raise Refused(f"identity {request['identity']}")
+        if request["request"] in world.kept:
+            raise Refused(f"request {request['request']}")
+    if requests and is_past_limits(world, package, requests):
+        raise Refused("too many")
+
+
 def changes_for(world, uuid, at, held, more=False):
     """The requests, and what the items of the file are called; Refused where there are none."""
     if uuid not in world.packages:
@@ -204,6 +226,7 @@ def changes_for(world, uuid, at, held, more=False):
     for request in requests:
         request["request"] = derived("sheetdesk request", uuid, ticket, line_of(request))
     check_requests(requests)
+    check_free(world, package, requests)
     return Changes(requests, names)
 
 
