@@ -14,7 +14,7 @@ use sheet_types::error::OutOfMemory;
 use std::alloc::Global;
 
 /// Takes bytes until the input has so many, or the source ends; whether it has them.
-fn gather_body<R: Source>(
+pub fn gather_body<R: Source>(
     source: &mut R,
     input: &mut Vec<u8>,
     until: usize,

@@ -51,7 +51,7 @@ fn with_field<'a>(found: Values<'a>, input: &'a [u8], header: HeaderSpan, name: 
 }
 
 /// The values of the fields of this name.
-pub(crate) fn values_of<'a>(input: &'a [u8], headers: &[HeaderSpan], name: &[u8]) -> Values<'a>
+pub fn values_of<'a>(input: &'a [u8], headers: &[HeaderSpan], name: &[u8]) -> Values<'a>
     requires { All (IsHeaderWithin (length input.now)) headers.now }
     ensures { AreValues (values_of name.now (map (header_bytes input.now) headers.now)) result }
 {

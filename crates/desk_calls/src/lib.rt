@@ -1,12 +1,12 @@
 //! What the bytes of a connection ask of the desk: one request of HTTP/1.0 or 1.1 (RFC 9112), by the checks in their order. No world, no store.
 #![tactic(auto)]
 
-mod bodies;
+pub mod bodies;
 pub mod call_laws;
 pub mod calls;
-mod heads;
+pub mod heads;
 mod judging;
-mod lengths;
+pub mod lengths;
 mod origins;
 pub mod reading;
 mod routes;
