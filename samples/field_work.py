@@ -332,9 +332,11 @@ def with_a_mark(field, x, code, text):
 
 
 def not_free(field):
-    """The list that `changes` printed for the archive is written for a loan by hand, and carried out there. So the identity of the file's new mark
-    is used, and the file is refused. With another identity in that list it is the request that came before. After any other change of the package
-    the file of a new export comes home: its mark gets another identity."""
+    """The list that `changes` printed for the archive is written for a loan by hand, and carried out there.
+
+    So the identity of the file's new mark is used, and the file is refused. With another identity in that list it is
+    the request that came before. After any other change of the package the file of a new export comes home: its mark
+    gets another identity."""
     for text, other in (("beacon", {}), ("withies", {"identity": nordmark.mark("withies")})):
         path = field.run("changes", HOME, with_a_mark(field, 514000500, 410, text))
         (request,) = changes_of_words(field.world, HOME, MOMENTS[0], field.session.files[path]).requests

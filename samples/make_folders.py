@@ -114,7 +114,8 @@ FOUR_TWICE = [
     *in_other_words(
         "sheet_receipts",
         "seq INTEGER NOT NULL, request TEXT NOT NULL UNIQUE, at TEXT NOT NULL, line TEXT NOT NULL,"
-        " source TEXT NOT NULL, target TEXT NOT NULL, n_tiles INTEGER NOT NULL, n_media INTEGER NOT NULL, n_rows INTEGER NOT NULL,"
+        " source TEXT NOT NULL, target TEXT NOT NULL, n_tiles INTEGER NOT NULL,"
+        " n_media INTEGER NOT NULL, n_rows INTEGER NOT NULL,"
         " n_links INTEGER NOT NULL, n_bytes INTEGER NOT NULL",
     ),
     "UPDATE sheet_receipts SET seq = 4 WHERE seq = 5",

@@ -26,8 +26,9 @@ The outcomes, and how the two kinds of refusal are told apart:
 
 With --aside an edit that was refused by a proof alone is tried once more with the answers of its functions set aside, and so are the right
 bodies. It counts as refused where the prover then finds values, or where a goal is open that is closed for the right bodies in the same state.
-This is dear (each goal is searched), so it has its own limit, --aside-seconds. What still is not told apart needs somebody who reads the clauses and says
-which one the edit breaks: --looked CRATE EDIT CLAUSE makes it refused, and keeps both reasons.
+This is dear (each goal is searched), so it has its own limit, --aside-seconds. What still is not told apart needs
+somebody who reads the clauses and says which one the edit breaks: --looked CRATE EDIT CLAUSE makes it refused, and keeps
+both reasons.
 """
 import argparse
 import concurrent.futures
@@ -353,7 +354,8 @@ def sides(ran, line):
     at = ran.lines.index(line)
     told = " ".join(ran.lines[at : at + 3])
     found = re.search(
-        r"(\S+:\d+):\d+: error: `([^`]+)`:.*?differ only where one has `([^`]*)` \(expected\).*?the other has `([^`]*)`",
+        r"(\S+:\d+):\d+: error: `([^`]+)`:.*?"
+        r"differ only where one has `([^`]*)` \(expected\).*?the other has `([^`]*)`",
         told,
     )
     return (
@@ -519,9 +521,12 @@ def show_open(rows, there):
 
 
 def show_table(rows, there):
-    """Prints a line a crate of which edits were tried. What was refused is told by who saw it: the prover, somebody who read the clauses, or nobody."""
+    """Prints a line a crate of which edits were tried.
+
+    What was refused is told by who saw it: the prover, somebody who read the clauses, or nobody."""
     print(
-        "| Crate | Edits | Tried | Refused: by the prover | somebody looked | not told apart | By a proof alone | Let through | Do not apply | No verdict |"
+        "| Crate | Edits | Tried | Refused: by the prover | somebody looked | not told apart "
+        "| By a proof alone | Let through | Do not apply | No verdict |"
     )
     print("|---|" + "---|" * 9)
     total = [0] * 9

@@ -33,7 +33,8 @@ def run(words, status=0, output=None, error="", given=None):
     found = re.fullmatch(output, done.stdout) if output is not None else True
     if done.returncode != status or not found or not re.fullmatch(error, done.stderr):
         sys.exit(
-            f"verbs: '{words}' ends with {done.returncode}:\n{done.stdout}{done.stderr}and not with {status}:\n{output}\n{error}"
+            f"verbs: '{words}' ends with {done.returncode}:\n{done.stdout}{done.stderr}"
+            f"and not with {status}:\n{output}\n{error}"
         )
     COUNT += 1
     return found.groups() if output is not None else done.stdout

@@ -10,7 +10,8 @@ from collections import Counter, namedtuple
 from .contents import ENDS, KINDS, fingerprint_of, is_moment, line_of, place_of, size_of
 from .held_lists import read_held
 from .lists import HEADER, UUID, NoList, spelled_record
-from .reasons import GREATEST_CODE, GREATEST_DATA, GREATEST_LABEL, GREATEST_TYPE, MOST_ITEMS, MOST_LINKS, MOST_PACKAGES, MOST_RECEIPTS
+from .reasons import GREATEST_CODE, GREATEST_DATA, GREATEST_LABEL, GREATEST_TYPE
+from .reasons import MOST_ITEMS, MOST_LINKS, MOST_PACKAGES, MOST_RECEIPTS
 
 Changes = namedtuple("Changes", "requests names")
 
@@ -191,17 +192,22 @@ def check_requests(requests):
 
 def is_past_limits(world, package, requests):
     """Whether the list would leave too much, or there is too much already."""
-    of = {command: [request for request in requests if request["command"] == command] for command in ("unlink", "delete", "add", "link")}
+    of = {command: [] for command in ("unlink", "delete", "add", "link")}
+    for request in requests:
+        of[request["command"]].append(request)
     gone = {request["identity"] for request in of["delete"]}
     kinds = Counter(item["kind"] for identity, item in package.items.items() if identity not in gone)
     kinds.update(request["kind"] for request in of["add"])
     links = len(package.links) - len(of["unlink"]) + len(of["link"])
     receipts = len(world.receipts) + len(requests)
-    return max(kinds.values(), default=0) > MOST_ITEMS or links > MOST_LINKS or len(world.packages) > MOST_PACKAGES or receipts > MOST_RECEIPTS
+    in_package = max(kinds.values(), default=0) > MOST_ITEMS or links > MOST_LINKS
+    return in_package or len(world.packages) > MOST_PACKAGES or receipts > MOST_RECEIPTS
 
 
 def check_free(world, package, requests):
-    """That nothing is asked for that an item or a request had before, and that the limits are kept. An empty list asks for nothing."""
+    """That nothing is asked for that an item or a request had before, and that the limits are kept.
+
+    An empty list asks for nothing."""
     for request in requests:
         if request["command"] == "add" and request["identity"] in world.used:
             raise Refused(f"identity {request['identity']}")
