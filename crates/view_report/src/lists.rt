@@ -5,7 +5,7 @@ ghost use Rattle.view_report.specs.Registers.{name_of, thing_found};
 
 use crate::registers::{Name, Thing};
 use std::alloc::{AllocError, Global};
-use std::collections::BTreeMap;
+use std::collections::HashMap;
 use std::marker::Model;
 use uuid::Uuid;
 
@@ -13,7 +13,7 @@ use uuid::Uuid;
 #[derive(Drop)]
 pub struct Things {
     list: Vec<Thing>,
-    places: BTreeMap<Uuid, usize>,
+    places: HashMap<Uuid, usize>,
 }
 
 impl Model for Things {
@@ -29,11 +29,11 @@ impl Model for Things {
 }
 
 /// Where each item stands, by its identity.
-fn places_of_things(alloc: Global, list: &[Thing]) -> Result<BTreeMap<Uuid, usize>, AllocError>
+fn places_of_things(alloc: Global, list: &[Thing]) -> Result<HashMap<Uuid, usize>, AllocError>
     ensures { IfOk result (λ places. ArePlaces (λ t. t.identity) places list.now) }
 {
-    let mut places = BTreeMap::new(alloc);
     let mut left = list.len();
+    let mut places = HashMap::with_capacity(alloc, left)?;
     while left > 0 {
         left -= 1;
         places.insert(list[left].identity, left)?;
@@ -81,7 +81,7 @@ impl Things {
 #[derive(Drop)]
 pub struct Names {
     list: Vec<Name>,
-    places: BTreeMap<Uuid, usize>,
+    places: HashMap<Uuid, usize>,
 }
 
 impl Model for Names {
@@ -97,11 +97,11 @@ impl Model for Names {
 }
 
 /// Where each name stands, by its UUID.
-fn places_of_names(alloc: Global, list: &[Name]) -> Result<BTreeMap<Uuid, usize>, AllocError>
+fn places_of_names(alloc: Global, list: &[Name]) -> Result<HashMap<Uuid, usize>, AllocError>
     ensures { IfOk result (λ places. ArePlaces (λ n. n.uuid) places list.now) }
 {
-    let mut places = BTreeMap::new(alloc);
     let mut left = list.len();
+    let mut places = HashMap::with_capacity(alloc, left)?;
     while left > 0 {
         left -= 1;
         places.insert(list[left].uuid, left)?;
