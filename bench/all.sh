@@ -19,6 +19,7 @@ each rehearse - "$bench/rehearse_times.py" "$rounds" "${requests[@]}"
 each lending - "$bench/lending_times.py" $((quick ? 1 : 3))
 each opening - "$bench/opening_times.py" --folder "$disk" "$rounds" "${items[@]}"
 each desk - "$bench/desk_times.py" "$rounds" $((quick ? 1000 : 3000))
+each served_folder - "$bench/served_times.py" $((quick ? 1000 : 100000))
 each desk_three_clients - "$bench/desk_times.py" --clients 3 "$rounds" $((quick ? 1000 : 3000))
 each desk_files - "$bench/desk_times.py" --files "$disk" $((quick ? 1 : 3)) $((quick ? 300 : 3000))
 if [ -d /dev/shm ]; then

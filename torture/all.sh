@@ -22,6 +22,8 @@ each list_faults - "$torture/list_faults.py" --program "$program"
 each session 'curl sqlite3' "$torture/folder_session.sh"
 each desk 'curl jq' "$torture/desk_curl.sh"
 each desk_client - "$torture/desk_client.py"
+each served_folder - "$torture/served_folder.py" $((quick ? 50 : 1000))
+each odd_desks - "$torture/odd_desks.py"
 each foreign_page chromium "$torture/foreign_page.py"
 each hostile_clients - "$torture/hostile_clients.py" $((quick ? 500 : 10000))
 each stock_package - "$torture/stock_sqlite3.sh" --init "$program"

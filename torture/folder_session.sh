@@ -178,11 +178,12 @@ came() {
 printf '%s' "$(cat "$work/reply.3")" >"$work/reply.3.body"
 { cat "$work/twice.csv"; head -n 2 "$work/more"; } >"$work/long.csv"
 second --packages "$work/long.csv" | tr -d '\n' >"$work/packages"
-open_desk 3
+open_desk 5
 came "$work/packages" "http://127.0.0.1:$port/packages"
-# While the desk has the folder, no other process gets it.
-expect 3 "StoreFault$nl" "another process may hold the folder$nl" audit "$maps" </dev/null
-expect 3 '' "store: StoreFault${nl}another process may hold the folder$nl" apply "$maps" <"$work/request.3"
+# While the desk has the folder, commands ask it, and those that it does not carry out are kept out.
+expect 0 "good $((receipts + 2))$nl" '' audit "$maps" </dev/null
+expect 3 '' "store: StoreFault${nl}another process may hold the folder$nl" import "$maps" "$sample" </dev/null
+expect 0 "@$work/reply.3" '' apply "$maps" <"$work/request.3"
 came "$work/reply.3.body" --data-binary "@$work/request.3" "http://127.0.0.1:$port/requests"
 { cat "$work/twice.csv"; head -n 3 "$work/more"; } >"$work/long.csv"
 python3 "$top/samples/reference.py" "$archive" "$frame" <"$work/long.csv" >"$work/printed"

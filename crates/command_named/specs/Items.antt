@@ -25,3 +25,10 @@ module _ {S : Type 0} (g : Ghosts S) (word : Bor (List ℕ)) where
     pub read : IsUntouched g mid last
     pub told : AllClean g last.members → (w : World) → StandsFor g mid w
         → (hint ≡ None) ⊎ IsHintOf whose.Item w word hint
+
+  -- The same of a world that stays.
+  abbrev pub TellsItem : {W : Type 0} → Seen S → Seen S → W → W → Option (List ℕ) → Option (List ℕ) → Ending
+      → Option Hint → Type 0
+  TellsItem old new writer writer' before after ending hint =
+      (mid : Seen S) × Gets g word.now old mid writer writer' before after ending × IsUntouched g mid new
+      × (AllClean g new.members → (w : World) → StandsFor g mid w → (hint ≡ None) ⊎ IsHintOf whose.Item w word hint)

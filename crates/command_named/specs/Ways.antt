@@ -5,7 +5,7 @@ use Rattle.sqlite.specs.Held.{Held}
 use Rattle.sqlite.specs.Store.{Ghosts}
 use Rattle.package_tables.specs.declared.fault.Fault.{Fault}
 use Rattle.sheet_types.specs.World.{receipts_of}
-use Rattle.world.specs.Worlds.{Seen}
+use Rattle.world.specs.Worlds.{Seen, TellsOf}
 use Rattle.command_names.specs.declared.hints.Hint.{Hint}
 use Rattle.command_names.specs.declared.hints.Whose.TheVariants as whose
 use Rattle.command_names.specs.declared.searching.Found.{Found}
@@ -17,7 +17,7 @@ use Rattle.command_verbs.specs.declared.verbs.VerbFault.TheVariants.{Unfound}
 use Rattle.view_json.specs.declared.forms.Form.{Form}
 use Rattle.view_searches.specs.Ways.{IsNamedWay}
 use Rattle.view_searches.specs.declared.ways.NamedWay.{NamedWay}
-use Rattle.view_world.specs.Looks.{LooksInto}
+use Rattle.view_world.specs.Looks.{IsLookedAt, LooksInto}
 use Rattle.views.specs.Showing.{PrintsAll, stopped}
 use Rattle.views.specs.declared.endings.Ending.{Ending}
 use Rattle.views.specs.declared.endings.Ending.TheVariants.{NoSuchIdentity}
@@ -52,5 +52,14 @@ module _ {S : Type 0} (g : Ghosts S) (form : Form) (word : Bor (List ℕ)) where
       (before after : Option (List ℕ)) (ending : Ending) (hint : Option Hint) : Type 0 where
     pub way : Result NamedWay Fault
     pub looked : LooksInto g (λ w it. IsNamedWay form (receipts_of w) word.now it) seen stores way
+    pub told : TellsWay writer writer' before after way ending
+    pub hinted : hint ≡ way_hint word way
+
+  -- The same of a world that stays.
+  pub record TellsNamed {W : Type 0} (old new : Seen S) (writer writer' : W)
+      (before after : Option (List ℕ)) (ending : Ending) (hint : Option Hint) : Type 0 where
+    pub way : Result NamedWay Fault
+    pub looked : TellsOf g (λ w it. IsNamedWay form (receipts_of w) word.now it) old new way
+    pub read : IsLookedAt g old new
     pub told : TellsWay writer writer' before after way ending
     pub hinted : hint ≡ way_hint word way

@@ -6,7 +6,7 @@ ghost use Rattle.world_members.specs.Members.{AllClean};
 ghost use Rattle.world.specs.Worlds.{StandsFor};
 ghost use Rattle.command_requests.specs.Listing.{IsUntouched};
 ghost use Rattle.command_searches.specs.Hints.{IsHintOf};
-ghost use Rattle.command_named.specs.Items.{ShowsItem};
+ghost use Rattle.command_named.specs.Items.{ShowsItem, TellsItem};
 
 use command_folder::endings::Ending as CommandEnding;
 use command_names::hints::Hint;
@@ -53,4 +53,19 @@ pub fn item_in<'t, S: Alter + Drop, W: Write>(
     let ending = get_in(alloc, &mut world, word, writer);
     let hint = hint_after(alloc, &mut world, word, &ending);
     (ending, hint, world.into_stores())
+}
+
+/// The same of a world that stays.
+pub fn tell_item<'t, S: Alter + Drop, W: Write>(
+    alloc: Global,
+    world: &mut World<S>,
+    word: &'t str,
+    writer: &mut W,
+) -> (Ending, Option<Hint<'t>>)
+    ensures { TellsItem S.Store word.entry world.old world.new writer.old writer.new
+        (W.contents writer.old) (W.contents writer.new) result.0 result.1 }
+{
+    let ending = get_in(alloc, world, word, writer);
+    let hint = hint_after(alloc, world, word, &ending);
+    (ending, hint)
 }

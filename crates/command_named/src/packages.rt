@@ -26,7 +26,7 @@ pub enum PackageLook {
 }
 
 /// The look at this package.
-fn look_of<'t>(what: PackageLook, id: Uuid) -> Look<'t>
+pub fn look_of<'t>(what: PackageLook, id: Uuid) -> Look<'t>
     ensures { result ≡ look_of what id }
 {
     match what {

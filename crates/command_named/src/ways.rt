@@ -1,7 +1,7 @@
 //! The way of the item that a word names. The item may be deleted since.
 ghost use Rattle.std.specs.Prelude.{◌≡◌, IfOk, IsOkAnd, option_map, string_bytes};
 ghost use Rattle.view_searches.specs.Ways.{IsNamedWay};
-ghost use Rattle.command_named.specs.Ways.{ShowsNamed, TellsFound, TellsWay, way_hint};
+ghost use Rattle.command_named.specs.Ways.{ShowsNamed, TellsFound, TellsNamed, TellsWay, way_hint};
 ghost use Rattle.views.specs.Showing.{PrintsAll};
 
 use crate::telling::{stopped, tell_fault};
@@ -12,7 +12,7 @@ use command_searches::hints::hint_of;
 use command_tidying::register::Register;
 use command_verbs::names::NameFault;
 use command_verbs::verbs::VerbFault;
-use commands::registers::register_of;
+use commands::registers::{register_in, register_of};
 use manifest_csv::sending::send;
 use package_tables::fault::Fault;
 use sqlite::{Alter, Connection};
@@ -103,4 +103,22 @@ pub fn named_way_in<'t, S: Alter + Drop, W: Write>(
     let hint = hint_after(word, &way);
     let ending = tell_way(alloc, &way, writer);
     (ending, hint, stores)
+}
+
+/// The same of a world that stays.
+pub fn tell_named_way<'t, S: Alter + Drop, W: Write>(
+    alloc: Global,
+    world: &mut World<S>,
+    form: Form,
+    word: &'t str,
+    writer: &mut W,
+) -> (Ending, Option<Hint<'t>>)
+    ensures { TellsNamed S.Store form word.entry world.old world.new writer.old writer.new
+        (W.contents writer.old) (W.contents writer.new) result.0 result.1 }
+{
+    let register = register_in(alloc, world);
+    let found = way_by(alloc, form, &register, word);
+    let hint = hint_after(word, &found);
+    let ending = tell_way(alloc, &found, writer);
+    (ending, hint)
 }

@@ -8,7 +8,7 @@ use Rattle.sheet_types.specs.Answers.{package_sights}
 use Rattle.sheet_types.specs.World.{World}
 use Rattle.view_world.specs.Looks.{LooksInto}
 use Rattle.world.specs.Reading.{sight_of}
-use Rattle.world.specs.Worlds.{Seen, StandsFor}
+use Rattle.world.specs.Worlds.{Seen, StandsFor, TellsOf}
 use Rattle.world.specs.declared.reading.PackageSight.{PackageSight}
 
 map_map : {X Y Z : Type 0} (f : X → Y) (h : Y → Z) (xs : List X) → map h (map f xs) ≡ map (λ x. h (f x)) xs
@@ -40,3 +40,14 @@ joined g P Q A left right seen stores first second (Ok m) so known it is = recor
       (subst (λ r. IfOk r (λ x. (w : World) → StandsFor g seen w → Q w x)) is.1 (it.told clean) w stands);
 }
 joined g P Q A left right seen stores first second (Err fault) so known it is = record { read = it.read; told = λ clean. tt }
+
+-- the same of a world that stays
+pub tells_joined : {S L R M : Type 0} (g : Ghosts S) (P : World → L → Type 0) (Q : World → R → Type 0) (A : World → M → Type 0) (left : M → L) (right : M → R)
+    (old new : Seen S) (first : Result L Fault) (second : Result R Fault) (made : Result M Fault)
+    → ((w : World) (m : M) → P w (left m) → Q w (right m) → A w m)
+    → IfOk first (λ x. (w : World) → StandsFor g old w → P w x) → TellsOf g {X = R} {E = Fault} Q old new second
+    → IfOk made (λ m. (first ≡ Ok (left m)) × (second ≡ Ok (right m))) → TellsOf g {X = M} {E = Fault} A old new made
+tells_joined g P Q A left right old new first second (Ok m) so known tells is = λ clean w stands.
+    so w m (subst (λ r. IfOk r (λ x. (w : World) → StandsFor g old w → P w x)) is.0 known w stands)
+    (subst (λ r. IfOk r (λ x. (w : World) → StandsFor g old w → Q w x)) is.1 (tells clean) w stands)
+tells_joined g P Q A left right old new first second (Err fault) so known tells is = λ clean. tt

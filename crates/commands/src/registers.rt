@@ -2,8 +2,8 @@
 ghost use Rattle.std.specs.Prelude.{◌≡◌, IfOk, MatchResult, Ok, OnOk, length, map};
 ghost use Rattle.sheet_types.specs.World.{World as ModelWorld};
 ghost use Rattle.view_history.specs.Told.{ledger_of};
-ghost use Rattle.view_world.specs.Looks.{Asks, LooksInto};
-ghost use Rattle.world.specs.Worlds.{StandsFor};
+ghost use Rattle.view_world.specs.Looks.{Asks, IsLookedAt, LooksInto};
+ghost use Rattle.world.specs.Worlds.{StandsFor, TellsOf};
 ghost use Rattle.commands.specs.Registers.{IsRegisterOf};
 
 use command_tidying::register::Register;
@@ -13,6 +13,7 @@ use sqlite::{Alter, Connection};
 use std::alloc::{AllocError, Global};
 use uuid::Uuid;
 use view_history::ledgers::ledger_of;
+use view_world::ledgers::ledger_in;
 use view_world::usable::{are_ready, usable};
 use world::reading::PackageSight;
 use world::world::World;
@@ -82,4 +83,18 @@ pub fn register_of<S: Alter + Drop>(
     let mut stores = world.into_stores();
     let receipts = receipts_of(&live, &mut stores, alloc);
     (joined(live, receipts), stores)
+}
+
+/// The same of a world that stays.
+///
+/// # Errors
+///
+/// Want of memory, a store that failed, or a world that has. The world has not failed by that.
+pub fn register_in<S: Alter + Drop>(alloc: Global, world: &mut World<S>) -> Result<Register, Fault>
+    ensures told { TellsOf S.Store IsRegisterOf world.old world.new result }
+    ensures read { IsLookedAt S.Store world.old world.new }
+{
+    let live = live_of(alloc, world);
+    let receipts = ledger_in(alloc, world);
+    joined(live, receipts)
 }

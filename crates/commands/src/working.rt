@@ -10,6 +10,7 @@ use command_folder::endings::Ending;
 use command_folder::folders::{OpenFolder, open_folder};
 use command_words::arguments::{Desk, DeskWords, read_desk};
 use command_words::statuses::{Outcome, What};
+use desk_http::clerks::Clerk;
 use desk_http::telling::DeskTeller;
 use manifest_csv::progress::Teller;
 use sqlite::{Alter, Connection};
@@ -55,8 +56,9 @@ fn read_asked(asked: Asked<'_>) -> Option<Work<'_>>
     }
 }
 
-/// Does it over a world and a shelf. The teller is told of each request of a list that is done, and of each connection of a desk.
-fn worked<S: Alter + Drop, H: Shelf<S>, R: Read + Drop, W: Write, T: Teller + DeskTeller>(
+/// Does it over a world and a shelf. The teller is told of each request of a list that is done, and of each connection of a desk. The clerk carries out the commands
+/// that are asked of a desk.
+fn worked<S: Alter + Drop, H: Shelf<S>, R: Read + Drop, W: Write, T: Teller + DeskTeller, K: Clerk>(
     rt: &HostRuntime,
     world: &mut World<S>,
     shelf: &mut H,
@@ -64,6 +66,7 @@ fn worked<S: Alter + Drop, H: Shelf<S>, R: Read + Drop, W: Write, T: Teller + De
     reader: R,
     writer: &mut W,
     teller: &mut T,
+    clerk: &mut K,
 ) -> Ending
     ensures { Worked S.Store (R.remaining reader) world.old world.new
         writer.old writer.new (W.contents writer.old) (W.contents writer.new) work.entry result }
@@ -71,12 +74,19 @@ fn worked<S: Alter + Drop, H: Shelf<S>, R: Read + Drop, W: Write, T: Teller + De
     match work {
         Work::Apply => apply_in(rt.alloc(), world, shelf, reader, writer),
         Work::Import(file) => import_file(rt, world, shelf, file, writer, teller),
-        Work::Serve(desk) => serve_world(rt, world, shelf, desk, teller),
+        Work::Serve(desk) => serve_world(rt, world, shelf, desk, teller, clerk),
     }
 }
 
 /// The same of a world that ends with it: its stores are handed on.
-fn work_in<S: Alter + Drop, H: Shelf<S>, R: Read + Drop, W: Write, T: Teller + DeskTeller>(
+fn work_in<
+    S: Alter + Drop,
+    H: Shelf<S>,
+    R: Read + Drop,
+    W: Write,
+    T: Teller + DeskTeller,
+    K: Clerk,
+>(
     rt: &HostRuntime,
     mut world: World<S>,
     shelf: &mut H,
@@ -84,11 +94,12 @@ fn work_in<S: Alter + Drop, H: Shelf<S>, R: Read + Drop, W: Write, T: Teller + D
     reader: R,
     writer: &mut W,
     teller: &mut T,
+    clerk: &mut K,
 ) -> (Ending, Vec<Connection<S>>)
     ensures { EndsWork S.Store (R.remaining reader) world result.1.items
         writer.old writer.new (W.contents writer.old) (W.contents writer.new) work.entry result.0 }
 {
-    let ending = worked(rt, &mut world, shelf, work, reader, writer, teller);
+    let ending = worked(rt, &mut world, shelf, work, reader, writer, teller, clerk);
     (ending, world.into_stores())
 }
 
@@ -96,13 +107,14 @@ fn work_in<S: Alter + Drop, H: Shelf<S>, R: Read + Drop, W: Write, T: Teller + D
 ///
 /// The one place where a folder's stores are handed to a function over any store: the check pays
 /// for their type at each such call anew.
-fn work_at<R: Read + Drop, W: Write, T: Teller + DeskTeller>(
+fn work_at<R: Read + Drop, W: Write, T: Teller + DeskTeller, K: Clerk>(
     rt: &HostRuntime,
     folder: &str,
     work: Work<'_>,
     reader: R,
     writer: &mut W,
     teller: &mut T,
+    clerk: &mut K,
 ) -> Ending
     ensures { OpensFor ⟦<FolderStore as Store>⟧ (R.remaining reader) work.entry
         writer.old writer.new (W.contents writer.old) (W.contents writer.new) result }
@@ -116,7 +128,9 @@ fn work_at<R: Read + Drop, W: Write, T: Teller + DeskTeller>(
             },
         ) => {
             let mut shelf = FolderShelf::new(rt, folder);
-            let (ending, stores) = work_in(rt, world, &mut shelf, work, reader, writer, teller);
+            let (ending, stores) = work_in(
+                rt, world, &mut shelf, work, reader, writer, teller, clerk,
+            );
             close_stores(stores);
             ending
         }
@@ -127,19 +141,20 @@ fn work_at<R: Read + Drop, W: Write, T: Teller + DeskTeller>(
 /// Does what words ask for over the packages of a folder. The words are read first: where they
 /// cannot be, nothing is opened and nothing is written.
 /// The folder is opened before anything is read.
-pub fn work_for<R: Read + Drop, W: Write, T: Teller + DeskTeller>(
+pub fn work_for<R: Read + Drop, W: Write, T: Teller + DeskTeller, K: Clerk>(
     rt: &HostRuntime,
     folder: &str,
     asked: Asked<'_>,
     reader: R,
     writer: &mut W,
     teller: &mut T,
+    clerk: &mut K,
 ) -> Ending
     ensures { Works ⟦<FolderStore as Store>⟧ (R.remaining reader) asked.entry
         writer.old writer.new (W.contents writer.old) (W.contents writer.new) result }
 {
     match read_asked(asked) {
-        Some(work) => work_at(rt, folder, work, reader, writer, teller),
+        Some(work) => work_at(rt, folder, work, reader, writer, teller, clerk),
         None => Ending::Usual(Outcome::Refused(What::BadNumber)),
     }
 }

@@ -1,4 +1,4 @@
 mod AnswerFacts
 mod DueFacts
 mod ListingFacts
-mod ServedBy
+pub mod ServedBy

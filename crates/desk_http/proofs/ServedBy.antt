@@ -9,10 +9,10 @@ use Rattle.sheet_types.specs.declared.command.Request.{Request}
 use Rattle.sheet_types.specs.declared.receipt.Receipt.{Receipt}
 use Rattle.sheet_types.specs.declared.refusal.Refusal.{Refusal}
 use Rattle.world_changes.specs.Leaving.{AreClean}
-use Rattle.world.specs.Worlds.{IsRead, RunsOverRegisters, Seen}
+use Rattle.world.specs.Worlds.{IsRead, IsStep, RunsOverRegisters, Seen}
 use Rattle.world_changes.proofs.HeldStores.{left_clean, right_clean}
 use Rattle.desk_calls.specs.declared.calls.Call.TheVariants as call
-use Rattle.desk_http.specs.Served.{Applies, IsDue, Serving, Tells}
+use Rattle.desk_http.specs.Served.{IsDue, Serving}
 use Rattle.desk_http.specs.declared.serving.Served.{Served}
 use Rattle.desk_http.specs.declared.serving.Served.TheVariants.{Nothing, Answered}
 use Rattle.desk_http.specs.declared.serving.ServeFault.{ServeFault}
@@ -35,33 +35,37 @@ module _ {S : Type 0} (g : Ghosts S) where
   served_none seen = record { requests = []; few = omega arith; replies = []; gone = []; clean = λ clean gone. clean; run = λ clean gone w stands. (w, (refl, stands.members.register), stands) }
 
   -- the same, where the world was only read
-  read_by : (old new : Seen S) → IsRead g old new → IsServedBy g 1 old new
+  pub read_by : (old new : Seen S) → IsRead g old new → IsServedBy g 1 old new
   read_by old new read = record { requests = []; few = omega arith; replies = []; gone = []; clean = λ clean gone. read.clean clean; run = λ clean gone w stands. (w, (refl, stands.members.register), read.stands w stands) }
 
   pub same_by : (old new : Seen S) → new ≡ old → IsServedBy g 1 old new
   same_by old new same = subst (λ seen. IsServedBy g 1 old seen) (sym same) (record { requests = []; few = omega arith; replies = []; gone = []; clean = λ clean gone. clean; run = λ clean gone w stands. (w, (refl, stands.members.register), stands) })
 
-  told_by : (old new : Seen S) → (new ≡ old) ⊎ IsRead g old new → IsServedBy g 1 old new
+  read_none : (old new : Seen S) → (new ≡ old) ⊎ IsRead g old new → IsServedBy g 0 old new
+  read_none old new (inl same) = subst (λ seen. IsServedBy g 0 old seen) (sym same) (served_none old)
+  read_none old new (inr read) = record { requests = []; few = omega arith; replies = []; gone = []; clean = λ clean gone. read.clean clean; run = λ clean gone w stands. (w, (refl, stands.members.register), read.stands w stands) }
+
+  pub told_by : (old new : Seen S) → (new ≡ old) ⊎ IsRead g old new → IsServedBy g 1 old new
   told_by old new (inl same) = same_by old new same
   told_by old new (inr read) = read_by old new read
 
   -- a request
-  applied_by : (q : Request) (old new : Seen S) (reply : Result Receipt Refusal) (before after : ℕ) → Applies g q old reply new before after → IsServedBy g 1 old new
-  applied_by q old new reply before after applies = record {
+  pub step_by : (q : Request) (old new : Seen S) (reply : Result Receipt Refusal) → IsStep g q old reply new → IsServedBy g 1 old new
+  step_by q old new reply made = record {
     requests = q ∷ [];
     few = omega arith;
     replies = reply ∷ [];
-    gone = applies.step.gone;
-    clean = applies.step.clean;
+    gone = made.gone;
+    clean = made.clean;
     run = λ clean gone w stands.
-        let is = applies.step.step clean gone w stands in
-        (is.0, (stands.members.register, (is.0, is.1, (refl, applies.step.register is.0 is.2))), is.2);
+        let is = made.step clean gone w stands in
+        (is.0, (stands.members.register, (is.0, is.1, (refl, made.register is.0 is.2))), is.2);
   }
 
   due_by : (own : List ℕ) (text : Option (List ℕ)) (old new : Seen S) (out : List ℕ) (before after : ℕ)
       → IsDue g own text old out new before after → IsServedBy g 1 old new
   due_by own known old new out before after (inl (call.Refused flaw, is, (same, text))) = same_by old new same
-  due_by own known old new out before after (inl (call.Apply q, is, (reply, applies, text))) = applied_by q old new reply before after applies
+  due_by own known old new out before after (inl (call.Apply q, is, (reply, applies, text))) = step_by q old new reply applies.step
   due_by own known old new out before after (inl (call.Packages, is, tells)) = told_by old new tells.read
   due_by own known old new out before after (inl (call.Manifest id, is, tells)) = told_by old new tells.read
   due_by own known old new out before after (inl (call.Receipt id, is, tells)) = told_by old new tells.read
@@ -88,6 +92,14 @@ module _ {S : Type 0} (g : Ghosts S) where
         let is = next.run clean (right_clean g first.gone next.gone gone) was.0 was.2 in
         (is.0, runs_then w was.0 is.0 first.requests next.requests first.replies next.replies was.1 is.1, is.2);
   }
+
+  -- a world that was only read, if at all, and then served
+  pub read_first : (old mid new : Seen S) → (mid ≡ old) ⊎ IsRead g old mid → IsServedBy g 1 mid new → IsServedBy g 1 old new
+  read_first old mid new read next = served_then 0 1 old mid new (read_none old mid read) next
+
+  -- and one that was served, and then only read, if at all
+  pub read_last : (old mid new : Seen S) → IsServedBy g 1 old mid → (new ≡ mid) ⊎ IsRead g mid new → IsServedBy g 1 old new
+  read_last old mid new first read = served_then 1 0 old mid new first (read_none mid new read)
 
   -- so many, of more that were to be served
   served_up_to : (n most : ℕ) (old new : Seen S) → n ≤ most → IsServedBy g n old new → IsServedBy g most old new

@@ -1,10 +1,12 @@
 //! Connections served one after the other.
 ghost use Rattle.desk_http.specs.Connections.{IsServedBy, Serves};
 
+use crate::clerks::{Clerk, NoClerk};
+use crate::commands::{COMMAND_LINE, serve_command};
 use crate::deadline::Timed;
 use crate::fronts::{first_line, status_in};
 use crate::listening::own_address;
-use crate::serving::{Served, serve_one};
+use crate::serving::{ServeFault, Served, serve_one};
 use crate::telling::DeskTeller;
 use desk_calls::source::Outer;
 use sqlite::Alter;
@@ -84,8 +86,32 @@ fn tell<T: DeskTeller>(teller: &mut T, came: &[u8], went: &[u8]) {
     }
 }
 
+/// Whether a request comes for the clerk, and there is one.
+fn is_for_clerk<C: Clock, K: Clerk>(clerk: &K, reader: &mut Outer<Timed<'_, C>>) -> bool {
+    clerk.key().is_some() && reader.0.begins_with(COMMAND_LINE)
+}
+
+/// Serves one request: one for the clerk, where there is one, or any other.
+fn serve_either<S: Alter + Drop, H: Shelf<S>, C: Clock, K: Clerk>(
+    alloc: Global,
+    world: &mut World<S>,
+    shelf: &mut H,
+    own: &[u8],
+    reader: &mut Outer<Timed<'_, C>>,
+    writer: &mut Timed<'_, C>,
+    clerk: &mut K,
+) -> Result<Served, ServeFault>
+    ensures { IsServedBy S.Store 1 world.old world.new }
+{
+    if is_for_clerk(&*clerk, &mut *reader) {
+        writer.renew_each();
+        return serve_command(alloc, world, shelf, own, reader, writer, clerk);
+    }
+    serve_one(alloc, world, shelf, own, reader, writer)
+}
+
 /// Serves one connection, whatever becomes of it, and tells of it. Answers whether a response went out and the other side has not closed yet.
-fn serve_stream<S: Alter + Drop, H: Shelf<S>, C: Clock, T: DeskTeller>(
+fn serve_stream<S: Alter + Drop, H: Shelf<S>, C: Clock, T: DeskTeller, K: Clerk>(
     clock: &C,
     alloc: Global,
     world: &mut World<S>,
@@ -93,6 +119,7 @@ fn serve_stream<S: Alter + Drop, H: Shelf<S>, C: Clock, T: DeskTeller>(
     own: &[u8],
     stream: &TcpStream,
     teller: &mut T,
+    clerk: &mut K,
 ) -> bool
     ensures { IsServedBy S.Store 1 world.old world.new }
 {
@@ -101,7 +128,7 @@ fn serve_stream<S: Alter + Drop, H: Shelf<S>, C: Clock, T: DeskTeller>(
     };
     let mut reader = Outer(Timed::new(stream, clock, begun));
     let mut writer = Timed::new(stream, clock, begun);
-    let served = serve_one(alloc, world, shelf, own, &mut reader, &mut writer);
+    let served = serve_either(alloc, world, shelf, own, &mut reader, &mut writer, clerk);
     tell(teller, reader.0.front(), writer.front());
     match served {
         Ok(Served::Answered) => stays_open(stream).unwrap_or(false),
@@ -110,7 +137,7 @@ fn serve_stream<S: Alter + Drop, H: Shelf<S>, C: Clock, T: DeskTeller>(
 }
 
 /// Serves the next connection of a listener, if one comes, and lets go of the one that was kept. Answers whether one came, and gives the next to be kept.
-fn serve_next<S: Alter + Drop, H: Shelf<S>, C: Clock, T: DeskTeller>(
+fn serve_next<S: Alter + Drop, H: Shelf<S>, C: Clock, T: DeskTeller, K: Clerk>(
     clock: &C,
     alloc: Global,
     world: &mut World<S>,
@@ -119,12 +146,13 @@ fn serve_next<S: Alter + Drop, H: Shelf<S>, C: Clock, T: DeskTeller>(
     listener: &TcpListener,
     kept: Option<TcpStream>,
     teller: &mut T,
+    clerk: &mut K,
 ) -> (bool, Option<TcpStream>)
     ensures { IsServedBy S.Store 1 world.old world.new }
 {
     match listener.accept() {
         Ok((stream, _)) => {
-            let stays = serve_stream(clock, alloc, world, shelf, own, &stream, teller);
+            let stays = serve_stream(clock, alloc, world, shelf, own, &stream, teller, clerk);
             let_go(kept);
             (true, if stays { Some(stream) } else { None })
         }
@@ -149,6 +177,37 @@ pub fn serve_each<S: Alter + Drop, H: Shelf<S>, C: Clock, T: DeskTeller>(
     ensures served { IsServedBy S.Store count world.old world.new }
     ensures ended { Serves S.Store count world.old world.new result }
 {
+    let mut nobody = NoClerk;
+    serve_with(
+        clock,
+        alloc,
+        world,
+        shelf,
+        listener,
+        count,
+        teller,
+        &mut nobody,
+    )
+}
+
+/// The same with a clerk, to whom the commands of a command line are handed. A long answer of his goes on as long as each piece of it is taken within twenty seconds.
+///
+/// # Errors
+///
+/// Those of `serve_each`.
+pub fn serve_with<S: Alter + Drop, H: Shelf<S>, C: Clock, T: DeskTeller, K: Clerk>(
+    clock: &C,
+    alloc: Global,
+    world: &mut World<S>,
+    shelf: &mut H,
+    listener: &TcpListener,
+    count: u32,
+    teller: &mut T,
+    clerk: &mut K,
+) -> Result<(), DeskFault>
+    ensures served { IsServedBy S.Store count world.old world.new }
+    ensures ended { Serves S.Store count world.old world.new result }
+{
     if world.has_failed() {
         return Err(DeskFault::World);
     }
@@ -167,6 +226,7 @@ pub fn serve_each<S: Alter + Drop, H: Shelf<S>, C: Clock, T: DeskTeller>(
             listener,
             kept,
             teller,
+            clerk,
         );
         misses = if came { 0 } else { misses.saturating_add(1) };
         if world.has_failed() {

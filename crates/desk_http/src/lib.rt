@@ -2,6 +2,8 @@
 #![tactic(auto)]
 
 mod answering;
+pub mod clerks;
+mod commands;
 pub mod connections;
 mod deadline;
 mod fronts;

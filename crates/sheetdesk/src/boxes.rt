@@ -15,7 +15,7 @@ use sheet_types::reading::read_number;
 use uuid::Uuid;
 
 /// The box and the zoom of the words; `None` where one of their numbers is none.
-fn box_of(given: &ArgMatches<'_>, words: &str) -> Option<(Ground, i64)> {
+pub(crate) fn box_of(given: &ArgMatches<'_>, words: &str) -> Option<(Ground, i64)> {
     let ground = read_box(words)?;
     let zoom = read_number(text_of(given, "zoom"))?;
     Some((ground, zoom))

@@ -1,5 +1,5 @@
 //! Words by which people call packages and items: the UUID that goes by a name stands in its place.
-use crate::running::{is_printed, text_of};
+use crate::running::{is_printed, print_error, text_of};
 use clap::ArgMatches;
 use command_folder::endings::{Ending, FAILED, NO_MEMORY};
 use command_names::hints::Whose;
@@ -7,6 +7,7 @@ use command_verbs::faults::verb_line;
 use command_verbs::names::NameFault;
 use command_verbs::verbs::VerbFault;
 use sheet_types::reading::read_uuid;
+use std::alloc::AllocError;
 use std::fmt::Display;
 use std::fs;
 use std::io::ErrorKind;
@@ -21,42 +22,87 @@ pub(crate) struct Named {
     pub(crate) other: String,
 }
 
-/// Says why there are no names, and answers how the program ends.
-fn unnamed<E: Display>(rt: &HostRuntime, path: &str, why: &E) -> Ending {
-    if !is_printed(rt, "refused: names\n") {
+/// Why words name nothing: how the program ends, and what standard output and standard error are told before.
+#[derive(Drop)]
+pub(crate) struct Unnamed {
+    pub(crate) ending: Ending,
+    pub(crate) output: String,
+    pub(crate) error: String,
+}
+
+/// An ending before which nothing is told.
+pub(crate) fn end_untold(rt: &HostRuntime, ending: Ending) -> Unnamed {
+    Unnamed {
+        ending,
+        output: String::new(rt.alloc()),
+        error: String::new(rt.alloc()),
+    }
+}
+
+/// One that refuses, with these texts.
+fn refuse(
+    rt: &HostRuntime,
+    output: Result<String, AllocError>,
+    error: Result<String, AllocError>,
+) -> Unnamed {
+    let Ok(output) = output else {
+        return end_untold(rt, NO_MEMORY);
+    };
+    let Ok(error) = error else {
+        return end_untold(rt, NO_MEMORY);
+    };
+    Unnamed {
+        ending: Ending::NoRequest,
+        output,
+        error,
+    }
+}
+
+/// Tells why words name nothing, and answers how the program ends.
+pub(crate) fn print_unnamed(rt: &HostRuntime, why: &Unnamed) -> Ending {
+    if !is_printed(rt, why.output.as_str()) {
         return FAILED;
     }
-    let _printed = eprintln!(rt; "names: {path}: {why}");
-    Ending::NoRequest
+    print_error(rt, why.error.as_str());
+    why.ending
+}
+
+/// Says why there are no names.
+fn refuse_names<E: Display>(rt: &HostRuntime, path: &str, why: &E) -> Unnamed {
+    let output = String::from_str(rt.alloc(), "refused: names\n");
+    refuse(rt, output, format!(in rt.alloc(); "names: {path}: {why}\n"))
 }
 
 /// The names in a file. One that nobody asked for need not be there.
-fn names_in(rt: &HostRuntime, path: &str, is_asked: bool) -> Result<Vec<Name>, Ending> {
+fn names_in(rt: &HostRuntime, path: &str, is_asked: bool) -> Result<Vec<Name>, Unnamed> {
     match fs::read(rt, path) {
         Ok(bytes) => match read_names(rt.alloc(), bytes.as_slice()) {
             Ok(names) => Ok(names),
-            Err(ListFault::Memory) => Err(NO_MEMORY),
-            Err(fault) => Err(unnamed(rt, path, &fault)),
+            Err(ListFault::Memory) => Err(end_untold(rt, NO_MEMORY)),
+            Err(fault) => Err(refuse_names(rt, path, &fault)),
         },
         Err(error) => {
             let is_absent = matches!(error.kind(), ErrorKind::NotFound | ErrorKind::NotADirectory);
             if is_absent && !is_asked {
                 return Ok(Vec::new(rt.alloc()));
             }
-            Err(unnamed(rt, path, &error))
+            Err(refuse_names(rt, path, &error))
         }
     }
 }
 
 /// The names for a command: of the file that is asked for, or of the folder's.
-pub(crate) fn names_for(rt: &HostRuntime, given: &ArgMatches<'_>) -> Result<Vec<Name>, Ending> {
+pub(crate) fn names_for(
+    rt: &HostRuntime,
+    folder: &str,
+    given: &ArgMatches<'_>,
+) -> Result<Vec<Name>, Unnamed> {
     if let Some(path) = given.get_str("names") {
         return names_in(rt, path, true);
     }
-    let folder = text_of(given, "folder");
     match format!(in rt.alloc(); "{folder}/names.csv") {
         Ok(path) => names_in(rt, path.as_str(), false),
-        Err(_) => Err(NO_MEMORY),
+        Err(_) => Err(end_untold(rt, NO_MEMORY)),
     }
 }
 
@@ -82,28 +128,25 @@ fn two_called(whose: Whose, first: Uuid, second: Uuid) -> VerbFault {
     }
 }
 
-/// Says that two go by a name, and answers how the program ends.
-fn tell_two(rt: &HostRuntime, fault: &VerbFault) -> Ending {
-    let Ok(line) = verb_line(rt.alloc(), fault) else {
-        return NO_MEMORY;
-    };
-    if is_printed(rt, line.as_str()) {
-        Ending::NoRequest
-    } else {
-        FAILED
+/// Says that two go by a name.
+fn tell_two(rt: &HostRuntime, fault: &VerbFault) -> Unnamed {
+    match verb_line(rt.alloc(), fault) {
+        Ok(line) => refuse(rt, Ok(line), Ok(String::new(rt.alloc()))),
+        Err(_) => end_untold(rt, NO_MEMORY),
     }
 }
 
 /// A word as it was typed, or the UUID that goes by this name. A whole UUID is no name.
 fn word_or_uuid(
     rt: &HostRuntime,
+    folder: &str,
     given: &ArgMatches<'_>,
     whose: Whose,
     word: &str,
-) -> Result<String, Ending> {
+) -> Result<String, Unnamed> {
     let mut found = None;
     if !word.is_empty() && read_uuid(word).is_none() {
-        let names = names_for(rt, given)?;
+        let names = names_for(rt, folder, given)?;
         match find_called(names.as_slice(), word) {
             Ok(called) => found = called,
             Err((first, second)) => {
@@ -117,7 +160,7 @@ fn word_or_uuid(
     };
     match text {
         Ok(text) => Ok(text),
-        Err(_) => Err(NO_MEMORY),
+        Err(_) => Err(end_untold(rt, NO_MEMORY)),
     }
 }
 
@@ -138,18 +181,19 @@ fn naming_word<'m>(name: &str, given: &ArgMatches<'m>) -> (Whose, &'m str) {
     }
 }
 
-/// The words of a command that name a package or items.
+/// The words of a command that name a package or items, by the names of a folder.
 pub(crate) fn named_words(
     rt: &HostRuntime,
+    folder: &str,
     name: &str,
     given: &ArgMatches<'_>,
-) -> Result<Named, Ending> {
+) -> Result<Named, Unnamed> {
     let (whose, first) = naming_word(name, given);
     let second = match name {
         "join" | "part" => text_of(given, "second"),
         _ => "",
     };
-    let word = word_or_uuid(rt, given, whose, first)?;
-    let other = word_or_uuid(rt, given, whose, second)?;
+    let word = word_or_uuid(rt, folder, given, whose, first)?;
+    let other = word_or_uuid(rt, folder, given, whose, second)?;
     Ok(Named { word, other })
 }

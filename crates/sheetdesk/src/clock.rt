@@ -53,6 +53,13 @@ pub(crate) fn new_uuid(rt: &HostRuntime) -> io::Result<Uuid> {
     Uuid::try_new_v4(rt)
 }
 
+/// A word that nobody can guess, of 32 hexadecimal digits.
+pub(crate) fn new_key(rt: &HostRuntime) -> io::Result<String> {
+    let uuid = new_uuid(rt)?;
+    let key = uuid.simple();
+    Ok(format!(in rt.alloc(); "{key}")?)
+}
+
 /// Identities that are new.
 #[derive(Drop)]
 pub(crate) struct NewIdentities<'r> {

@@ -1,10 +1,12 @@
 //! The program `sheetdesk`: the words that it is called with, and the exit status.
 #![tactic(auto)]
 
+mod asking;
 mod boxes;
 mod bringing;
 mod called;
 mod clock;
+mod desk_files;
 mod dropping;
 mod field;
 mod founding;
@@ -14,6 +16,7 @@ mod ordering;
 mod outputs;
 mod reporting;
 mod running;
+mod serving;
 mod sessions;
 mod showing;
 mod streams;

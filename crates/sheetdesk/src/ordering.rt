@@ -135,7 +135,7 @@ fn lend_verb<'m>(given: &ArgMatches<'m>, giver: &'m str, loan: Uuid) -> Verb<'m>
 }
 
 /// The verb of a command, if it is one. What it makes gets this identity.
-fn verb_of<'m>(
+pub(crate) fn verb_of<'m>(
     name: &str,
     given: &ArgMatches<'m>,
     named: &'m Named,
@@ -170,6 +170,14 @@ pub(crate) fn purpose_of(options: &ArgMatches<'_>) -> Purpose {
         Purpose::Show
     } else {
         Purpose::CarryOut
+    }
+}
+
+/// The same of a verb. Its options stand behind the kind of what is put, where there is one.
+pub(crate) fn purpose_given(given: &ArgMatches<'_>) -> Purpose {
+    match given.subcommand() {
+        Some((_, options)) => purpose_of(options),
+        None => purpose_of(given),
     }
 }
 

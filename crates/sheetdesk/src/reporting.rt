@@ -1,5 +1,5 @@
 //! The pages of `report`, and the drawing of `map`.
-use crate::called::names_for;
+use crate::called::{names_for, print_unnamed};
 use crate::naming::package_given;
 use crate::running::{ended, text_of};
 use clap::ArgMatches;
@@ -63,14 +63,14 @@ fn written(rt: &HostRuntime, name: &str, given: &ArgMatches<'_>, word: &str) -> 
         Ok(paper) => paper,
         Err(ending) => return ended(rt, &ending),
     };
-    match names_for(rt, given) {
+    let folder = text_of(given, "folder");
+    match names_for(rt, folder, given) {
         Ok(names) => {
-            let folder = text_of(given, "folder");
             ended(
                 rt,
                 &report_for(rt, folder, names, paper, &mut io::writer(rt)),
             )
         }
-        Err(ending) => ended(rt, &ending),
+        Err(why) => ended(rt, &print_unnamed(rt, &why)),
     }
 }

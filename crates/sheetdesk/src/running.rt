@@ -1,15 +1,19 @@
-//! A command, carried out: what it asks for is done in `cli`, `commands` and `views`.
+//! A command, carried out: what it asks for is done in `cli`, `commands` and `views`, or by a desk that serves the folder.
+use crate::asking::ask_desk;
 use crate::boxes::lend_box;
 use crate::bringing::{brought, is_bringing};
-use crate::called::{Named, named_words};
+use crate::called::{Named, named_words, print_unnamed};
+use crate::clock::new_key;
+use crate::desk_files::{DeskPlace, is_held};
 use crate::dropping::dropped;
 use crate::field::{listed, projected};
 use crate::founding::founded;
 use crate::naming::named_look;
 use crate::notes::{fault_note, print_refusals, tally_for};
-use crate::ordering::{if_given, is_verb, ordered};
+use crate::ordering::{if_given, is_verb, ordered, without};
 use crate::outputs::{verb_ended, verb_output};
 use crate::reporting::reported;
+use crate::serving::FolderClerk;
 use crate::showing::{Wish, shown};
 use crate::streams::{Input, Onlooker};
 use crate::trees::put_tree;
@@ -202,7 +206,7 @@ fn asked_look<'m>(name: &str, given: &ArgMatches<'m>, word: &'m str) -> Option<A
 }
 
 /// What a command wishes to look at, by a name or by its words, if it looks at a folder.
-fn wish_of<'m>(name: &str, given: &ArgMatches<'m>, word: &'m str) -> Option<Wish<'m>> {
+pub(crate) fn wish_of<'m>(name: &str, given: &ArgMatches<'m>, word: &'m str) -> Option<Wish<'m>> {
     match named_look(name, given, word) {
         Some(asked) => Some(Wish::Named(asked)),
         None => match asked_look(name, given, word) {
@@ -212,9 +216,29 @@ fn wish_of<'m>(name: &str, given: &ArgMatches<'m>, word: &'m str) -> Option<Wish
     }
 }
 
+/// The key of a desk, new; of another command it is empty.
+fn key_for(rt: &HostRuntime, name: &str) -> Result<String, Ending> {
+    if name != "serve" {
+        return Ok(String::new(rt.alloc()));
+    }
+    match new_key(rt) {
+        Ok(key) => Ok(key),
+        Err(error) => Err(without(rt, "no new key", &error, FAILED)),
+    }
+}
+
 /// Carries out a command that may change what is in a folder that holds packages, or has no folder. How far a list is, which of its records were refused, and of a desk, standard error is told.
 fn changed(rt: &HostRuntime, name: &str, given: &ArgMatches<'_>, reader: &mut Input<'_>) -> Ending {
-    let mut teller = Onlooker::new(rt, given.get_flag("log"));
+    let key = match key_for(rt, name) {
+        Ok(key) => key,
+        Err(ending) => return ending,
+    };
+    let folder = text_of(given, "folder");
+    let place = DeskPlace {
+        folder,
+        key: key.as_str(),
+    };
+    let mut teller = Onlooker::of_desk(rt, given.get_flag("log"), place);
     let Some(asked) = asked_work(name, given) else {
         return Ending::Usual(rehearsed(rt, given, reader, &mut teller));
     };
@@ -222,8 +246,20 @@ fn changed(rt: &HostRuntime, name: &str, given: &ArgMatches<'_>, reader: &mut In
         writer: io::writer(rt),
         tally: tally_for(rt, name),
     };
-    let folder = text_of(given, "folder");
-    let ending = work_for(rt, folder, asked, reader, &mut writer, &mut teller);
+    let mut clerk = FolderClerk::new(rt, folder, key.as_str());
+    let ending = work_for(
+        rt,
+        folder,
+        asked,
+        reader,
+        &mut writer,
+        &mut teller,
+        &mut clerk,
+    );
+    if name == "serve" {
+        // Where nobody else has the folder by now, the file of the desk goes.
+        let _held = is_held(rt, folder);
+    }
     print_refusals(rt, &writer.tally);
     ending
 }
@@ -328,6 +364,20 @@ fn carried_out_named<'m, W: AsStr>(
     }
 }
 
+/// Carries out the command of this name in this process, and answers the exit status.
+fn carry_out_here<W: AsStr>(
+    rt: &HostRuntime,
+    words: &[W],
+    name: &str,
+    given: &ArgMatches<'_>,
+    reader: &mut Input<'_>,
+) -> u8 {
+    match named_words(rt, text_of(given, "folder"), name, given) {
+        Ok(named) => carried_out_named(rt, words, &named, reader),
+        Err(why) => ended(rt, &print_unnamed(rt, &why)),
+    }
+}
+
 /// Carries out the command of this name, which a command line asks for, and answers the exit status.
 pub(crate) fn carried_out<W: AsStr>(
     rt: &HostRuntime,
@@ -339,9 +389,9 @@ pub(crate) fn carried_out<W: AsStr>(
     match name {
         "holds" => listed(rt, given),
         "completions" => printed(rt, BASH),
-        _ => match named_words(rt, name, given) {
-            Ok(named) => carried_out_named(rt, words, &named, reader),
-            Err(ending) => ended(rt, &ending),
+        _ => match ask_desk(rt, words, name, given, reader) {
+            Some(status) => status,
+            None => carry_out_here(rt, words, name, given, reader),
         },
     }
 }

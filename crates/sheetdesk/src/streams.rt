@@ -2,6 +2,7 @@
 ghost use Rattle.std.specs.Prelude.{None};
 
 use crate::clock::moment_now;
+use crate::desk_files::{DeskPlace, keep_desk};
 use crate::outputs::Headed;
 use command_words::desk_lines::{exchange_line, listening_line};
 use command_words::progress::{Progress, Teller};
@@ -72,6 +73,7 @@ pub(crate) struct Onlooker<'r> {
     rt: &'r HostRuntime,
     terminal: Option<Progress<Stderr>>,
     logs: bool,
+    place: Option<DeskPlace<'r>>,
 }
 
 impl<'r> Onlooker<'r> {
@@ -82,7 +84,21 @@ impl<'r> Onlooker<'r> {
         } else {
             None
         };
-        Onlooker { rt, terminal, logs }
+        Onlooker {
+            rt,
+            terminal,
+            logs,
+            place: None,
+        }
+    }
+
+    /// The same of a desk over a folder: a file there says where it listens. One without a key says so to nobody.
+    pub(crate) fn of_desk(rt: &'r HostRuntime, logs: bool, place: DeskPlace<'r>) -> Onlooker<'r> {
+        let mut onlooker = Onlooker::new(rt, logs);
+        if !place.key.is_empty() {
+            onlooker.place = Some(place);
+        }
+        onlooker
     }
 
     /// Writes the line of a port.
@@ -112,6 +128,9 @@ impl<'r> Teller for Onlooker<'r> {
 impl<'r> DeskTeller for Onlooker<'r> {
     fn tell_port(&mut self, port: u16) {
         // A desk serves where nobody can be told of it.
+        if let Some(place) = &self.place {
+            let _unkept = keep_desk(self.rt, place, port);
+        }
         let _untold = self.write_port(port);
     }
 

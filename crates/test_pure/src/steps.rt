@@ -2,6 +2,7 @@
 //! and one loop asks them all.
 
 use crate::accounts::{ledger_of, line_told};
+use crate::asking::asking_of;
 use crate::balances::world_of;
 use crate::bodies::body_of;
 use crate::calls::call_of;
@@ -137,6 +138,8 @@ pub(crate) enum Of {
     Calls,
     Replies,
     Bodies,
+    // What a desk is asked, and its answers.
+    Asking,
     Lists,
     Exports,
     // Free keys, and what a link becomes.
@@ -156,6 +159,7 @@ fn tell(alloc: Global, of: Of, question: &str, told: &mut Told) -> Result<(), Ou
         Of::Verdicts => verdict_of(alloc, question, told)?,
         Of::Calls => call_of(alloc, question, told)?,
         Of::Replies => reply_of(alloc, question, told)?,
+        Of::Asking => asking_of(alloc, question, told)?,
         Of::Bodies => body_of(alloc, question, told)?,
         Of::Lists => list_of(alloc, question, told)?,
         Of::Exports => export_of(alloc, question, told)?,

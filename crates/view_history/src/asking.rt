@@ -1,26 +1,12 @@
 //! One question, asked of each store in turn.
 ghost use Rattle.std.specs.Prelude.{◌<◌, length};
 ghost use Rattle.std.specs.List.{AllZip};
-ghost use Rattle.sqlite.specs.Held.{state};
-ghost use Rattle.store_sql.specs.Transactions.{Rests, Looks};
-ghost use Rattle.sheet_types.specs.World.{Package};
-ghost use Rattle.identity_register.specs.Calls.{Sees};
 ghost use Rattle.view_history.specs.Stores.{AreAtRest, AsksAt, AsksStores};
 
 use package_tables::fault::Fault;
 use sqlite::{Alter, Connection};
 use std::alloc::Global;
-
-/// What is asked of the store of one package.
-pub(crate) trait Question<S: Alter, A: Drop> {
-    /// This is the answer of a package.
-    ghost tells: { Self → Package → A → Type 0 };
-
-    /// Asks a store, which is as it was afterwards.
-    fn ask(&self, conn: &mut Connection<S>, alloc: Global) -> Result<A, Fault>
-        requires { Rests (state S.Store conn.old) }
-        ensures { Looks (Sees (λ f p x. tells self.now p x)) (state S.Store conn.old) (state S.Store conn.new) result };
-}
+use world::asking::Question;
 
 /// The answer of the store at a place.
 fn ask_at<S: Alter + Drop, A: Drop, Q: Question<S, A>>(

@@ -8,12 +8,13 @@ ghost use Rattle.identity_register.specs.Calls.{Sees};
 ghost use Rattle.view_history.specs.Stores.{AreAtRest, AsksStores};
 ghost use Rattle.view_history.specs.Told.{ledger_of};
 
-use crate::asking::{Question, ask_each};
+use crate::asking::ask_each;
 use package_receipts::receipts;
 use package_tables::fault::Fault;
 use sheet_types::receipt::Receipt;
 use sqlite::{Alter, Connection};
 use std::alloc::{AllocError, Global};
+use world::asking::Question;
 
 /// The receipts of the package of a store, in the order of their numbers.
 fn receipts_of<S: Alter>(conn: &mut Connection<S>, alloc: Global) -> Result<Vec<Receipt>, Fault>
@@ -26,8 +27,9 @@ fn receipts_of<S: Alter>(conn: &mut Connection<S>, alloc: Global) -> Result<Vec<
     }
 }
 
+/// All receipts of a package, in the order of their numbers.
 #[derive(Clone, Copy)]
-struct ReceiptsOf;
+pub struct ReceiptsOf;
 
 impl<S: Alter> Question<S, Vec<Receipt>> for ReceiptsOf {
     ghost tells = { λ question p found. found.items ≡ p.receipts };
@@ -38,7 +40,11 @@ impl<S: Alter> Question<S, Vec<Receipt>> for ReceiptsOf {
 }
 
 /// The receipts of all lists, in turn.
-fn all_of(alloc: Global, lists: Vec<Vec<Receipt>>) -> Result<Vec<Receipt>, AllocError>
+///
+/// # Errors
+///
+/// Want of memory.
+pub fn all_of(alloc: Global, lists: Vec<Vec<Receipt>>) -> Result<Vec<Receipt>, AllocError>
     ensures { IfOk result (λ all. all.items ≡ flat_map (λ list. list.items) lists.items) }
 {
     let mut all = Vec::new(alloc);
@@ -49,7 +55,11 @@ fn all_of(alloc: Global, lists: Vec<Vec<Receipt>>) -> Result<Vec<Receipt>, Alloc
 }
 
 /// The receipts in the order of their numbers.
-fn in_order(receipts: Vec<Receipt>) -> Result<Vec<Receipt>, AllocError>
+///
+/// # Errors
+///
+/// Want of memory.
+pub fn in_order(receipts: Vec<Receipt>) -> Result<Vec<Receipt>, AllocError>
     ensures { IfOk result (λ ledger. ledger.items ≡ arranged receipt_key receipts.items) }
 {
     let mut ledger = receipts;

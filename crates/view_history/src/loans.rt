@@ -6,12 +6,13 @@ ghost use Rattle.identity_register.specs.Calls.{Sees};
 ghost use Rattle.view_history.specs.Stores.{AreAtRest, AsksStores};
 ghost use Rattle.view_history.specs.Told.{IsLoanIn};
 
-use crate::asking::{Question, ask_each};
+use crate::asking::ask_each;
 use package_tables::fault::Fault;
 use package_tables::head::all_heads;
 use package_tables::rows::HeadRow;
 use sqlite::{Alter, Connection};
 use std::alloc::Global;
+use world::asking::Question;
 
 /// A number that a head says, which is not below zero.
 fn counted(number: i64) -> Result<u64, Fault>
@@ -43,8 +44,9 @@ fn loan_of<S: Alter>(conn: &mut Connection<S>, alloc: Global) -> Result<u64, Fau
     Ok(loan)
 }
 
+/// The number of the split that made a package, 0 of an archive.
 #[derive(Clone, Copy)]
-struct LoanOf;
+pub struct LoanOf;
 
 impl<S: Alter> Question<S, u64> for LoanOf {
     ghost tells = { λ question p loan. loan ≡ p.loan };

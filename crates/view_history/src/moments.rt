@@ -6,13 +6,14 @@ ghost use Rattle.identity_register.specs.Calls.{Sees};
 ghost use Rattle.view_history.specs.Stores.{AreAtRest, AsksStores};
 ghost use Rattle.view_history.specs.Told.{before_of, either, first_found, ledger_of, moment_in, moment_of};
 
-use crate::asking::{Question, ask_each};
+use crate::asking::ask_each;
 use package_tables::fault::Fault;
 use package_tables::receipts::receipt_after;
 use package_tables::rows::ReceiptRow;
 use sheet_types::collections::Text;
 use sqlite::{Alter, Connection};
 use std::alloc::Global;
+use world::asking::Question;
 
 const GREATEST_STORED: u64 = 9_223_372_036_854_775_807;
 
@@ -57,9 +58,10 @@ fn moment_at<S: Alter>(conn: &mut Connection<S>, number: u64) -> Result<Option<T
     }
 }
 
+/// The moment of the receipt of a number, if it stands in a package.
 #[derive(Clone, Copy)]
-struct MomentOf {
-    number: u64,
+pub struct MomentOf {
+    pub number: u64,
 }
 
 impl<S: Alter> Question<S, Option<Text>> for MomentOf {
@@ -84,7 +86,7 @@ fn either(one: Option<Text>, other: Option<Text>) -> Option<Text>
 }
 
 /// The first that is there.
-fn first_found(found: Vec<Option<Text>>) -> Option<Text>
+pub fn first_found(found: Vec<Option<Text>>) -> Option<Text>
     ensures { result ≡ first_found found.items }
 {
     found

@@ -25,11 +25,11 @@ pub map_map : {X Y Z : Type 0} (f : X → Y) (h : Y → Z) (xs : List X) → map
 map_map f h [] = refl
 map_map f h (x ∷ xs) = ap (λ ys. h (f x) ∷ ys) (map_map f h xs)
 
-front : {X : Type 0} → X → List X → X
+unfoldable pub front : {X : Type 0} → X → List X → X
 front d [] = d
 front d (z ∷ zs) = z
 
-behind : {X : Type 0} → List X → List X
+unfoldable pub behind : {X : Type 0} → List X → List X
 behind [] = []
 behind (z ∷ zs) = zs
 

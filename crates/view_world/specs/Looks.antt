@@ -5,9 +5,13 @@ use Rattle.sqlite.specs.Store.{Ghosts}
 use Rattle.sheet_types.specs.World.{World, Package}
 use Rattle.sheet_types.specs.declared.frame.Frame.{Frame}
 use Rattle.view_history.specs.Stores.{AreClean, AreOnlyRead, AreRead}
-use Rattle.world.specs.Worlds.{Seen, StandsFor, held}
+use Rattle.world.specs.Worlds.{IsRead, Seen, StandsFor, held}
 
 module _ {S : Type 0} (g : Ghosts S) where
+  -- The world is as it was, or it was only read.
+  abbrev pub IsLookedAt : Seen S → Seen S → Type 0
+  IsLookedAt old new = (new ≡ old) ⊎ IsRead g old new
+
   -- the stores are as they were, or each was only read
   abbrev pub IsUntouched : List (Held S) → List (Held S) → Type 0
   IsUntouched old new = (new ≡ old) ⊎ AreOnlyRead g old new

@@ -3,14 +3,18 @@ ghost use Rattle.std.specs.Prelude.{◌≡◌, length, string_bytes, Ok, OnOk};
 ghost use Rattle.view_history.specs.Stores.{AreAtRest, AsksStores};
 ghost use Rattle.view_history.specs.Told.{ledger_of};
 ghost use Rattle.view_json.specs.Forms.{told_excerpt};
-ghost use Rattle.view_world.specs.Looks.{Asks, LooksInto};
+ghost use Rattle.sheet_types.specs.World.{receipts_of};
+ghost use Rattle.world.specs.Worlds.{TellsOf};
+ghost use Rattle.view_world.specs.Looks.{Asks, IsLookedAt, LooksInto};
 ghost use Rattle.view_world.specs.Told.{log_text};
 
+use crate::asking::ask_each;
 use crate::usable::{are_ready, count_of};
 use package_tables::fault::Fault;
+use sheet_types::receipt::Receipt;
 use sqlite::{Alter, Connection};
 use std::alloc::Global;
-use view_history::ledgers::ledger_of;
+use view_history::ledgers::{ReceiptsOf, all_of, in_order, ledger_of};
 use view_json::forms::{Form, told_excerpt};
 use view_text::ledgers::Excerpt;
 use world::world::World;
@@ -66,4 +70,41 @@ pub fn log_of<S: Alter + Drop>(
     let mut stores = world.into_stores();
     let text = log_in(count, &mut stores, alloc, form, excerpt);
     (text, stores)
+}
+
+/// All receipts of a world, by number. They are in memory at once. The world stays.
+///
+/// # Errors
+///
+/// Want of memory, a store that failed, or a world that has. The world has not failed by that.
+pub fn ledger_in<S: Alter + Drop>(
+    alloc: Global,
+    world: &mut World<S>,
+) -> Result<Vec<Receipt>, Fault>
+    ensures told { TellsOf S.Store (λ w ledger. ledger.items ≡ receipts_of w) world.old world.new result }
+    ensures read { IsLookedAt S.Store world.old world.new }
+{
+    let lists = ask_each(alloc, world, &ReceiptsOf)?;
+    let all = all_of(alloc, lists)?;
+    let ledger = in_order(all)?;
+    Ok(ledger)
+}
+
+/// The receipts of a world that are asked for, by number. The world stays.
+///
+/// # Errors
+///
+/// Those of `ledger_in`.
+pub fn log_text_in<S: Alter + Drop>(
+    alloc: Global,
+    world: &mut World<S>,
+    form: Form,
+    excerpt: &Excerpt<'_>,
+) -> Result<String, Fault>
+    ensures told { TellsOf S.Store (λ w text. string_bytes text ≡ log_text form w excerpt.now) world.old world.new result }
+    ensures read { IsLookedAt S.Store world.old world.new }
+{
+    let ledger = ledger_in(alloc, world)?;
+    let told = told_excerpt(alloc, form, &ledger, excerpt)?;
+    Ok(told)
 }

@@ -3,11 +3,14 @@ ghost use Rattle.std.specs.Prelude.{◌≡◌, length, map, string_bytes, IfOk, 
 ghost use Rattle.sheet_types.specs.World.{World as ModelWorld};
 ghost use Rattle.sheet_types.specs.Answers.{sums_of};
 ghost use Rattle.view_history.specs.Stores.{AreAtRest, AsksStores};
-ghost use Rattle.world.specs.Worlds.{StandsFor};
+ghost use Rattle.sheet_types.specs.World.{receipts_of};
+ghost use Rattle.view_history.specs.Told.{moment_of};
+ghost use Rattle.world.specs.Worlds.{StandsFor, TellsOf};
 ghost use Rattle.view_world.specs.Kept.{AreAsked, AreKept};
-ghost use Rattle.view_world.specs.Looks.{Asks, LooksInto};
+ghost use Rattle.view_world.specs.Looks.{Asks, IsLookedAt, LooksInto};
 ghost use Rattle.view_world.specs.Told.{package_rows, status_text};
 
+use crate::asking::ask_each;
 use crate::usable::{are_ready, usable};
 use package_tables::fault::Fault;
 use sheet_types::collections::Text;
@@ -15,8 +18,8 @@ use sheet_types::error::OutOfMemory;
 use sheet_types::receipt::Sums;
 use sqlite::{Alter, Connection};
 use std::alloc::{AllocError, Global};
-use view_history::loans::loans_of;
-use view_history::moments::moments_of;
+use view_history::loans::{LoanOf, loans_of};
+use view_history::moments::{MomentOf, first_found, moments_of};
 use view_json::forms::{Form, told_status};
 use view_text::packages::PackageRow;
 use world::reading::PackageSight;
@@ -167,4 +170,57 @@ pub fn status_of<S: Alter + Drop>(
     let mut stores = world.into_stores();
     let text = table_of(kept, &mut stores, alloc, form, strays);
     (text, stores)
+}
+
+/// The moment of the receipt of a number, if there is one. Each package is asked by the key of its receipts.
+fn moment_in<S: Alter + Drop>(
+    alloc: Global,
+    world: &mut World<S>,
+    number: u64,
+) -> Result<Option<Text>, Fault>
+    ensures told { TellsOf S.Store (λ w found. found ≡ moment_of (receipts_of w) number) world.old world.new result }
+    ensures read { IsLookedAt S.Store world.old world.new }
+{
+    let found = ask_each(alloc, world, &MomentOf { number })?;
+    Ok(first_found(found))
+}
+
+/// The same of each of these numbers, in turn.
+fn moments_in<S: Alter + Drop>(
+    alloc: Global,
+    world: &mut World<S>,
+    numbers: &[u64],
+) -> Result<Vec<Option<Text>>, Fault>
+    ensures told { TellsOf S.Store (λ w moments. moments.items ≡ map (moment_of (receipts_of w)) numbers.now) world.old world.new result }
+    ensures read { IsLookedAt S.Store world.old world.new }
+{
+    let mut moments = Vec::new(alloc);
+    for at in 0..numbers.len() {
+        let moment = moment_in(alloc, world, numbers[at])?;
+        moments.push(moment)?;
+    }
+    Ok(moments)
+}
+
+/// The same table of a world that stays.
+///
+/// # Errors
+///
+/// Want of memory, a store that failed, or a world that has. The world has not failed by that.
+pub fn status_text_in<S: Alter + Drop>(
+    alloc: Global,
+    world: &mut World<S>,
+    form: Form,
+    strays: u64,
+) -> Result<String, Fault>
+    ensures told { TellsOf S.Store (λ w text. string_bytes text ≡ status_text form w strays) world.old world.new result }
+    ensures read { IsLookedAt S.Store world.old world.new }
+{
+    let kept = kept_of(alloc, world)?;
+    let loans: Vec<u64> = ask_each(alloc, world, &LoanOf)?;
+    let tickets = tickets_of(alloc, &kept.sights)?;
+    let moments = moments_in(alloc, world, &tickets)?;
+    let rows = rows_of(alloc, &kept.sights, &kept.sums, &loans, &moments)?;
+    let told = told_status(alloc, form, &rows, strays)?;
+    Ok(told)
 }

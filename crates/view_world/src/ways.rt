@@ -6,9 +6,11 @@ ghost use Rattle.view_history.specs.Stores.{AreAtRest, AsksStores};
 ghost use Rattle.view_history.specs.Told.{ledger_of};
 ghost use Rattle.view_json.specs.Forms.{told_way};
 ghost use Rattle.view_text.specs.Ways.{speaks_of};
-ghost use Rattle.view_world.specs.Looks.{Asks, LooksInto};
+ghost use Rattle.view_world.specs.Looks.{Asks, IsLookedAt, LooksInto};
+ghost use Rattle.world.specs.Worlds.{TellsOf};
 ghost use Rattle.view_world.specs.Told.{way_answer};
 
+use crate::ledgers::ledger_in;
 use crate::usable::{are_ready, count_of};
 use package_tables::fault::Fault;
 use sqlite::{Alter, Connection};
@@ -69,4 +71,23 @@ pub fn way_of<S: Alter + Drop>(
     let mut stores = world.into_stores();
     let found = way_in(count, &mut stores, alloc, form, identity);
     (found, stores)
+}
+
+/// The same way, of a world that stays.
+///
+/// # Errors
+///
+/// Those of `ledger_in`.
+pub fn way_text_in<S: Alter + Drop>(
+    alloc: Global,
+    world: &mut World<S>,
+    form: Form,
+    identity: Uuid,
+) -> Result<Option<String>, Fault>
+    ensures told { TellsOf S.Store (λ w found. option_map string_bytes found ≡ way_answer form w identity) world.old world.new result }
+    ensures read { IsLookedAt S.Store world.old world.new }
+{
+    let ledger = ledger_in(alloc, world)?;
+    let found = told_way(alloc, form, &ledger, identity)?;
+    Ok(found)
 }

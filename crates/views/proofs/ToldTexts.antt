@@ -18,6 +18,10 @@ module _ {S : Type 0} (g : Ghosts S) {T : Type 0} (bytes : T → List ℕ) where
   looks_told_if text seen stores (Ok found) it = record { read = it.read; told = it.told }
   looks_told_if text seen stores (Err fault) it = record { read = it.read; told = λ clean. tt }
 
+  pub tells_told : (text : World → List ℕ) (old new : Seen S) (r : Result T Fault) → TellsOf g (λ w t. bytes t ≡ text w) old new r → TellsOf g (λ w t. t ≡ text w) old new (told bytes r)
+  tells_told text old new (Ok t) it = it
+  tells_told text old new (Err fault) it = λ clean. tt
+
   pub tells_told_if : (text : World → Option (List ℕ)) (old new : Seen S) (r : Result (Option T) Fault) → TellsOf g (λ w found. option_map bytes found ≡ text w) old new r → TellsOf g (λ w found. found ≡ text w) old new (told_if bytes r)
   tells_told_if text old new (Ok found) it = it
   tells_told_if text old new (Err fault) it = λ clean. tt

@@ -17,7 +17,7 @@ use Rattle.views.specs.Excerpts.{AsksExcerpt}
 use Rattle.views.specs.ExportEndings.{EndsExport}
 use Rattle.views.specs.MapEndings.{EndsMap}
 use Rattle.views.specs.Reports.{Audits, EndsManifest}
-use Rattle.views.specs.Views.{ShowsLog, ShowsReceipt, ShowsStatus, ShowsWay}
+use Rattle.views.specs.Views.{ShowsLog, ShowsReceipt, ShowsStatus, ShowsWay, TellsLog, TellsStatus, TellsWay}
 use Rattle.views.specs.Zooms.{AsksZoom}
 use Rattle.views.specs.declared.endings.Ending.{Ending}
 use Rattle.views.specs.declared.endings.Ending.TheVariants.{Usual}
@@ -84,6 +84,28 @@ module _ {S : Type 0} (g : Ghosts S) {W : Type 0} (strays : ℕ) (old : Seen S) 
       × EndsMap g zoom old new writer writer' before after ending
   Looked Audit ending =
       (told : CommandEnding) × (stores ≡ held g old) × (ending ≡ Usual told)
+      × Audits g old writer writer' before after told
+
+-- ---- of a world that stays
+
+module _ {S : Type 0} (g : Ghosts S) {W : Type 0} (strays : ℕ) (old new : Seen S)
+    (writer writer' : W) (before after : Option (List ℕ)) where
+  -- What is looked at was printed, and the program ends so. So many stores are beside the world.
+  abbrev pub LooksOver : Look → Ending → Type 0
+  LooksOver (Status form) ending = TellsStatus g form strays old new writer writer' before after ending
+  LooksOver (Log form excerpt) ending = TellsLog g form excerpt old new writer writer' before after ending
+  LooksOver (Get word) ending = Gets g word.now old new writer writer' before after ending
+  LooksOver (Explain form id) ending = TellsWay g form id old new writer writer' before after ending
+  LooksOver (Receipt id) ending = ShowsReceipt g id old new writer writer' before after ending
+  LooksOver (Manifest p) ending =
+      (told : CommandEnding) × (ending ≡ Usual told)
+      × EndsManifest g p old new writer writer' before after told
+  LooksOver (Export p) ending =
+      (told : CommandEnding) × (ending ≡ Usual told)
+      × EndsExport g p old new writer writer' before after told
+  LooksOver (Map zoom) ending = EndsMap g zoom old new writer writer' before after ending
+  LooksOver Audit ending =
+      (told : CommandEnding) × (new ≡ old) × (ending ≡ Usual told)
       × Audits g old writer writer' before after told
 
 -- ---- and of a folder

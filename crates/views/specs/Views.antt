@@ -4,7 +4,7 @@ use Rattle.sqlite.specs.Held.{Held}
 use Rattle.sqlite.specs.Store.{Ghosts}
 use Rattle.package_tables.specs.declared.fault.Fault.{Fault}
 use Rattle.world.specs.Worlds.{IsRead, Seen, TellsOf}
-use Rattle.view_world.specs.Looks.{LooksInto}
+use Rattle.view_world.specs.Looks.{IsLookedAt, LooksInto}
 use Rattle.view_json.specs.declared.forms.Form.{Form}
 use Rattle.view_text.specs.declared.ledgers.Excerpt.{Excerpt}
 use Rattle.view_world.specs.Told.{log_text, receipt_line, status_text, way_answer}
@@ -37,3 +37,24 @@ module _ {S : Type 0} (g : Ghosts S) where
     pub told : TellsOf g (λ w text. text ≡ receipt_line w id) old new found
     pub read : IsRead g old new
     pub shown : Shows found NoSuchRequest writer writer' before after ending
+
+  -- The same of a world that stays: the packages,
+  pub record TellsStatus {W : Type 0} (form : Form) (strays : ℕ) (old new : Seen S) (writer writer' : W) (before after : Option (List ℕ)) (ending : Ending) : Type 0 where
+    pub found : Result (List ℕ) Fault
+    pub told : TellsOf g (λ w text. text ≡ status_text form w strays) old new found
+    pub read : IsLookedAt g old new
+    pub shown : ShowsText found writer writer' before after ending
+
+  -- the receipts that are asked for,
+  pub record TellsLog {W : Type 0} (form : Form) (excerpt : Excerpt) (old new : Seen S) (writer writer' : W) (before after : Option (List ℕ)) (ending : Ending) : Type 0 where
+    pub found : Result (List ℕ) Fault
+    pub told : TellsOf g (λ w text. text ≡ log_text form w excerpt) old new found
+    pub read : IsLookedAt g old new
+    pub shown : ShowsText found writer writer' before after ending
+
+  -- and the way of an item.
+  pub record TellsWay {W : Type 0} (form : Form) (id : List ℕ) (old new : Seen S) (writer writer' : W) (before after : Option (List ℕ)) (ending : Ending) : Type 0 where
+    pub found : Result (Option (List ℕ)) Fault
+    pub told : TellsOf g (λ w text. text ≡ way_answer form w id) old new found
+    pub read : IsLookedAt g old new
+    pub shown : Shows found NoSuchIdentity writer writer' before after ending

@@ -2,19 +2,19 @@
 //! All that is made of a world stands in functions over any store.
 ghost use Rattle.std.specs.Prelude.{◌≡◌, MatchResult, Some};
 ghost use Rattle.uuid.specs.Text.{parsed_hyphenated};
-ghost use Rattle.views.specs.Looks.{Asks, IsNoUuid, IsUnread, Looked, Looks, OpensFor, unopened};
+ghost use Rattle.views.specs.Looks.{Asks, IsNoUuid, IsUnread, Looked, Looks, LooksOver, OpensFor, unopened};
 
 use crate::auditing::audit_in;
 use crate::contents::get_in;
 use crate::endings::Ending;
 use crate::excerpts::{LogWords, asked_excerpt};
-use crate::explaining::explain_in;
+use crate::explaining::{explain_in, tell_way};
 use crate::exporting::export_in;
-use crate::logging::log_in;
+use crate::logging::{log_in, tell_log};
 use crate::manifest::manifest_in;
 use crate::maps::map_in;
 use crate::receipts::receipt_in;
-use crate::status::status_in;
+use crate::status::{status_in, tell_status};
 use crate::zooms::asked_zoom;
 use command_folder::endings::{Ending as CommandEnding, OpenFault};
 use command_folder::folders::{OpenFolder, open_folder};
@@ -79,8 +79,12 @@ fn uuid_of(word: &str) -> Result<Uuid, What>
     }
 }
 
-/// What words ask to look at; or why they cannot be read.
-fn read_asked(asked: Asked<'_>) -> Result<Look<'_>, What>
+/// What words ask to look at.
+///
+/// # Errors
+///
+/// Why the words cannot be read.
+pub fn read_asked(asked: Asked<'_>) -> Result<Look<'_>, What>
     ensures { MatchResult result (Asks asked.entry) (IsUnread asked.entry) }
 {
     match asked {
@@ -141,6 +145,30 @@ pub fn look_in<S: Alter + Drop, W: Write>(
             let told = audit_in(alloc, &world, writer);
             (Ending::Usual(told), world.into_stores())
         }
+    }
+}
+
+/// Prints what is looked at of a world that stays. So many stores of its folder are not of it.
+pub fn look_over<S: Alter + Drop, W: Write>(
+    alloc: Global,
+    world: &mut World<S>,
+    strays: u64,
+    look: &Look<'_>,
+    writer: &mut W,
+) -> Ending
+    ensures { LooksOver S.Store strays world.old world.new
+        writer.old writer.new (W.contents writer.old) (W.contents writer.new) look.now result }
+{
+    match look {
+        Look::Status(form) => tell_status(alloc, world, *form, strays, writer),
+        Look::Log(form, excerpt) => tell_log(alloc, world, *form, excerpt, writer),
+        Look::Get(identity) => get_in(alloc, world, *identity, writer),
+        Look::Explain(form, identity) => tell_way(alloc, world, *form, *identity, writer),
+        Look::Receipt(request) => receipt_in(alloc, world, *request, writer),
+        Look::Manifest(package) => Ending::Usual(manifest_in(alloc, world, *package, writer)),
+        Look::Export(package) => Ending::Usual(export_in(alloc, world, *package, writer)),
+        Look::Map(zoom) => map_in(alloc, world, *zoom, writer),
+        Look::Audit => Ending::Usual(audit_in(alloc, world, writer)),
     }
 }
 

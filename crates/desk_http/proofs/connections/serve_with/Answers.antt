@@ -3,7 +3,7 @@ use Rattle.std.proofs.Common.{◌≡◌, ◌≤◌, ◌+◌, ◌∙◌, Ok, Err,
 use Rattle.desk_http.specs.Connections.{AreServed}
 use Rattle.desk_http.specs.declared.connections.DeskFault.TheVariants.{World, Listener}
 use Rattle.desk_http.proofs.ServedBy.{desk_ended, desk_served, one_more}
-use Rattle.desk_http.proofs.connections.serve_each.Goals as goal
+use Rattle.desk_http.proofs.connections.serve_with.Goals as goal
 
 pub connections-init : goal.connections-init
 connections-init g c = (refl, sym c.has_failed.ensures.told ∙ c.if-has_failed.false)

@@ -1,0 +1,77 @@
+-- What is made of a world that stays by a command, what is printed, and how it ends. Profile.
+use Rattle.std.specs.Prelude.{◌≡◌, ◌⊎◌, ℕ, List, Option, Some, None, Result, Ok, Err}
+use Rattle.sqlite.specs.Store.{Ghosts}
+use Rattle.world.specs.Worlds.{Seen}
+use Rattle.command_folder.specs.declared.endings.Ending.{Ending as CommandEnding}
+use Rattle.command_folder.specs.declared.endings.Ending.TheVariants as usual
+use Rattle.command_names.specs.declared.hints.Hint.{Hint}
+use Rattle.command_named.specs.Items.{TellsItem}
+use Rattle.command_named.specs.Packages.{look_of}
+use Rattle.command_named.specs.Ways.{TellsNamed}
+use Rattle.command_named.specs.declared.looking.NamedLook.{NamedLook}
+use Rattle.command_named.specs.declared.looking.NamedLook.TheVariants.{Get, Explain, Manifest, Export}
+use Rattle.command_named.specs.declared.packages.PackageLook.{PackageLook}
+use Rattle.command_named.specs.declared.packages.PackageLook.TheVariants as kind
+use Rattle.command_ordering.specs.Boxes.{LendsBox}
+use Rattle.command_ordering.specs.Naming.{NamesPackage}
+use Rattle.command_ordering.specs.Ordering.{HintsOrder}
+use Rattle.command_words.specs.declared.statuses.Outcome.TheVariants.{Refused}
+use Rattle.command_words.specs.declared.statuses.What.{What}
+use Rattle.commands.specs.Subcommands.{Applies}
+use Rattle.std.specs.Borrow.{Bor}
+use Rattle.views.specs.Looks.{Asks, IsUnread, LooksOver}
+use Rattle.views.specs.declared.endings.Ending.{Ending}
+use Rattle.views.specs.declared.endings.Ending.TheVariants.{Usual}
+use Rattle.views.specs.declared.looking.Asked.{Asked}
+use Rattle.views.specs.declared.looking.Look.{Look}
+use Rattle.command_desk.specs.declared.deeds.Deed.{Deed}
+use Rattle.command_desk.specs.declared.deeds.Deed.TheVariants as deed
+
+module _ {S : Type 0} (g : Ghosts S) {W : Type 0} (old new : Seen S) (writer writer' : W)
+    (before after : Option (List ℕ)) where
+  -- The words could not be read, and nothing was done; or what they ask was looked at, with so many stores beside.
+  abbrev pub IsLooked : Asked → Ending → Type 0
+  IsLooked words ending =
+      ((what : What) × IsUnread words what × (ending ≡ Usual (usual.Usual (Refused what))) × (new ≡ old)
+      × (writer' ≡ writer))
+      ⊎ ((look : Look) × (strays : ℕ) × Asks words look
+      × LooksOver g strays old new writer writer' before after look ending)
+
+  -- Who named a package had it looked at; of a word that names none, how it ends was answered before.
+  abbrev pub LooksNamed : W → Option (List ℕ) → Option Hint → PackageLook → Result (List ℕ) CommandEnding → Ending
+      → Option Hint → Type 0
+  LooksNamed mid between told what (Ok id) ending hint =
+      LooksOver g 0 old new mid writer' between after (look_of what id) ending × (hint ≡ None)
+  LooksNamed mid between told what (Err why) ending hint =
+      (ending ≡ Usual why) × (hint ≡ told) × (new ≡ old) × (writer' ≡ mid)
+
+  -- The package that the word names was looked at, or what comes nearest was told.
+  pub record IsPackageLooked (what : PackageLook) (word : Bor (List ℕ)) (ending : Ending) (hint : Option Hint) : Type 0 where
+    pub mid : W
+    pub between : Option (List ℕ)
+    pub named : Result (List ℕ) CommandEnding
+    pub told : Option Hint
+    pub names : NamesPackage g word old writer mid before between named told
+    pub looks : LooksNamed mid between told what named ending hint
+
+  -- What a word names was looked at.
+  abbrev pub IsNamedLooked : NamedLook → Ending → Option Hint → Type 0
+  IsNamedLooked (Get word) ending hint = TellsItem g word old new writer writer' before after ending hint
+  IsNamedLooked (Explain form word) ending hint =
+      TellsNamed g form word old new writer writer' before after ending hint
+  IsNamedLooked (Manifest word) ending hint = IsPackageLooked kind.Manifest word ending hint
+  IsNamedLooked (Export word) ending hint = IsPackageLooked kind.Export word ending hint
+
+  -- What was done over these bytes of standard input.
+  abbrev pub IsDone : List ℕ → Deed → Ending → Option Hint → Type 0
+  IsDone input deed.Apply ending hint =
+      (told : CommandEnding) × (ending ≡ Usual told) × (hint ≡ None)
+      × Applies g (Some input) old new writer writer' before after told
+  IsDone input (deed.Look asked) ending hint = IsLooked asked ending × (hint ≡ None)
+  IsDone input (deed.Named asked) ending hint = IsNamedLooked asked ending hint
+  IsDone input (deed.Order order purpose) ending hint =
+      (told : CommandEnding) × (ending ≡ Usual told)
+      × HintsOrder g (Some input) order purpose old new writer writer' before after told hint
+  IsDone input (deed.LendBox boxed purpose) ending hint =
+      (told : CommandEnding) × (ending ≡ Usual told)
+      × LendsBox g boxed purpose old new writer writer' before after told hint

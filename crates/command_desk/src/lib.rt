@@ -1,0 +1,7 @@
+//! A command of the command line, asked of a desk: the bytes in which it is asked and answered, and what is made of a
+//! world that stays.
+#![tactic(auto)]
+
+pub mod deeds;
+pub mod frames;
+pub mod words;

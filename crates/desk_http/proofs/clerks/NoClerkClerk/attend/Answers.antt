@@ -1,0 +1,7 @@
+-- Nothing was done.
+use Rattle.std.proofs.Common.{refl}
+use Rattle.desk_http.proofs.ServedBy.{same_by}
+use Rattle.desk_http.proofs.clerks.NoClerkClerk.attend.Goals as goal
+
+pub returns : goal.returns
+returns g c = same_by g.S.Store c.args.world.now c.args.world.now refl

@@ -1,0 +1,224 @@
+//! A connection that asks for a command of the command line, handed to the clerk of the desk.
+ghost use Rattle.std.specs.Prelude.{◌≤◌, All, IfOk, length};
+ghost use Rattle.httparse.specs.Spans.{IsHeaderWithin, IsRequestWithin};
+ghost use Rattle.desk_http.specs.Connections.{IsServedBy};
+
+use crate::clerks::Clerk;
+use crate::serving::{ServeFault, Served};
+use desk_calls::bodies::gather_body;
+use desk_calls::calls::CallFault;
+use desk_calls::heads::{Gathered, gather_head};
+use desk_calls::lengths::{Values, values_of};
+use desk_calls::source::Source;
+use desk_replies::fixed::{Fixed, fixed_response};
+use httparse::spans::{EMPTY_HEADER_SPAN, HeaderSpan, RequestSpans};
+use manifest_csv::sending::send;
+use sheet_types::reading::read_number;
+use sqlite::Alter;
+use std::alloc::Global;
+use std::io::Write;
+use std::str::from_utf8;
+use store_shelf::shelf::Shelf;
+use world::world::World;
+
+/// How the request of a command begins.
+pub(crate) const COMMAND_LINE: &[u8] = b"POST /commands ";
+
+/// The most bytes of a body: the standard input of a command has as many as a request may have, and its words the rest.
+const MOST_BODY: i64 = 2_300_000;
+
+/// What goes out before the frames of an answer.
+const ANSWER_HEAD: &[u8] =
+    b"HTTP/1.1 200 OK\r\ncontent-type: application/octet-stream\r\nconnection: close\r\n\r\n";
+
+/// What goes out where the key is not the clerk's.
+const BAD_KEY: &[u8] =
+    b"HTTP/1.1 403 Forbidden\r\ncontent-type: application/json\r\ncontent-length: 19\r\nconnection: close\r\n\r\n{\"fault\":\"bad key\"}";
+
+/// Why no command is handed to the clerk.
+#[derive(Clone, Copy, Debug, PartialEq, Eq)]
+enum Bar {
+    /// The reader failed.
+    Unread,
+    /// The key is not the clerk's.
+    Key,
+    /// Something else is not as it has to be.
+    Other(Fixed),
+}
+
+impl From<CallFault> for Bar {
+    ghost use Rattle.std.specs.Prelude.{⊤};
+
+    // Which bar it is goes into the answer alone.
+    ghost from_gives = { λ fault bar. ⊤ };
+
+    fn from(fault: CallFault) -> Bar {
+        match fault {
+            CallFault::Failed => Bar::Unread,
+            CallFault::Memory => Bar::Other(Fixed::OutOfMemory),
+        }
+    }
+}
+
+/// Whether the fields of this name are one with this value.
+fn has_only(input: &[u8], headers: &[HeaderSpan], name: &[u8], value: &[u8]) -> bool
+    requires { All (IsHeaderWithin (length input.now)) headers.now }
+{
+    match values_of(input, headers, name) {
+        Values::One(given) => given == value,
+        Values::None | Values::More => false,
+    }
+}
+
+/// The size of a body that a Content-Length announces.
+fn size_of(text: &[u8]) -> Result<usize, Bar>
+    ensures { IfOk result (λ size. size ≤ 2300000) }
+{
+    let Ok(digits) = from_utf8(text) else {
+        return Err(Bar::Other(Fixed::BadRequest));
+    };
+    let Some(size) = read_number(digits) else {
+        return Err(Bar::Other(Fixed::BadRequest));
+    };
+    if size < 0 {
+        return Err(Bar::Other(Fixed::BadRequest));
+    }
+    if size > MOST_BODY {
+        return Err(Bar::Other(Fixed::TooLarge));
+    }
+    Ok(size as usize)
+}
+
+/// The size of the body that the fields of a head announce, where nothing bars it: no page asks, the key is the clerk's,
+/// and the host is this desk.
+fn size_passed(own: &[u8], key: &[u8], input: &[u8], headers: &[HeaderSpan]) -> Result<usize, Bar>
+    requires { All (IsHeaderWithin (length input.now)) headers.now }
+    ensures { IfOk result (λ size. size ≤ 2300000) }
+{
+    if !matches!(values_of(input, headers, b"origin"), Values::None) {
+        return Err(Bar::Other(Fixed::BadOrigin));
+    }
+    if !has_only(input, headers, b"sheetdesk-key", key) {
+        return Err(Bar::Key);
+    }
+    let host = own.strip_prefix(b"http://").unwrap_or(own);
+    if !has_only(input, headers, b"host", host) {
+        return Err(Bar::Other(Fixed::BadRequest));
+    }
+    match values_of(input, headers, b"content-length") {
+        Values::One(text) => size_of(text),
+        Values::None => Err(Bar::Other(Fixed::NoLength)),
+        Values::More => Err(Bar::Other(Fixed::BadRequest)),
+    }
+}
+
+/// The same of the head that was found in the input.
+fn size_in(
+    own: &[u8],
+    key: &[u8],
+    input: &[u8],
+    headers: &[HeaderSpan],
+    head: RequestSpans,
+) -> Result<usize, Bar>
+    requires { IsRequestWithin input.now headers.now head }
+    ensures { IfOk result (λ size. size ≤ 2300000) }
+{
+    size_passed(own, key, input, &headers[..head.headers])
+}
+
+/// Reads what is left of a request whose head was read. Answers its bytes, and where its body begins and ends.
+fn read_rest<R: Source>(
+    own: &[u8],
+    key: &[u8],
+    reader: &mut R,
+    mut input: Vec<u8>,
+    headers: &[HeaderSpan],
+    head: RequestSpans,
+) -> Result<(Vec<u8>, usize, usize), Bar>
+    requires within { IsRequestWithin input.items headers.now head }
+    requires short { head.len ≤ 16384 }
+    ensures { IfOk result (λ whole. (whole.1 ≤ whole.2) × (whole.2 ≤ length whole.0.items)) }
+{
+    let size = size_in(own, key, input.as_slice(), headers, head)?;
+    let end = head.len + size;
+    if !gather_body(reader, &mut input, end)? {
+        return Err(Bar::Other(Fixed::BadRequest));
+    }
+    Ok((input, head.len, end))
+}
+
+/// The same of a request of which nothing was read, where nothing bars it.
+fn read_whole<R: Source>(
+    alloc: Global,
+    own: &[u8],
+    key: &[u8],
+    reader: &mut R,
+) -> Result<(Vec<u8>, usize, usize), Bar>
+    ensures { IfOk result (λ whole. (whole.1 ≤ whole.2) × (whole.2 ≤ length whole.0.items)) }
+{
+    let mut input = Vec::new(alloc);
+    let mut headers = [EMPTY_HEADER_SPAN; 64];
+    match gather_head(reader, &mut input, &mut headers)? {
+        Gathered::Head(head) => read_rest(own, key, reader, input, &headers, head),
+        Gathered::Nothing | Gathered::Bad => Err(Bar::Other(Fixed::BadRequest)),
+    }
+}
+
+/// What goes out where no command is handed on.
+fn bar_response(bar: Bar) -> &'static [u8] {
+    match bar {
+        Bar::Unread => b"",
+        Bar::Key => BAD_KEY,
+        Bar::Other(fixed) => fixed_response(fixed),
+    }
+}
+
+/// Answers where something bars a request.
+fn turn_away<W: Write>(bar: Bar, writer: &mut W) -> Result<Served, ServeFault> {
+    if bar == Bar::Unread {
+        return Err(ServeFault::Read);
+    }
+    send(writer, bar_response(bar))?;
+    Ok(Served::Answered)
+}
+
+/// Has the clerk carry out what a body asks.
+fn hand_on<S: Alter + Drop, H: Shelf<S>, W: Write, K: Clerk>(
+    world: &mut World<S>,
+    shelf: &mut H,
+    body: &[u8],
+    writer: &mut W,
+    clerk: &mut K,
+) -> Result<Served, ServeFault>
+    ensures { IsServedBy S.Store 1 world.old world.new }
+{
+    if send(writer, ANSWER_HEAD).is_err() {
+        return Err(ServeFault::Write);
+    }
+    clerk.attend(world, shelf, body, writer);
+    Ok(Served::Answered)
+}
+
+/// Reads a request for the clerk, and has it carry out the command. Where something bars it, that is answered, and the
+/// clerk is not asked.
+///
+/// # Errors
+///
+/// A reader or a writer that failed. Nothing was changed.
+pub(crate) fn serve_command<S: Alter + Drop, H: Shelf<S>, R: Source, W: Write, K: Clerk>(
+    alloc: Global,
+    world: &mut World<S>,
+    shelf: &mut H,
+    own: &[u8],
+    reader: &mut R,
+    writer: &mut W,
+    clerk: &mut K,
+) -> Result<Served, ServeFault>
+    ensures { IsServedBy S.Store 1 world.old world.new }
+{
+    let key = clerk.key().unwrap_or(b"");
+    match read_whole(alloc, own, key, reader) {
+        Ok((input, begin, end)) => hand_on(world, shelf, &input[begin..end], writer, clerk),
+        Err(bar) => turn_away(bar, writer),
+    }
+}

@@ -1,0 +1,57 @@
+//! The file by which the desk of a folder is found: where it listens, and the key of those who may ask it.
+use desk_asking::desks::desk_text;
+use std::alloc::AllocError;
+use std::fs::{self, File};
+use std::io::{self, Write};
+use std::os::unix::fs::OpenOptionsExt;
+use store_folder::fault::FolderFault;
+use store_folder::locking::lock_folder;
+
+/// A folder that is served, and the key of its desk.
+#[derive(Clone, Copy)]
+pub(crate) struct DeskPlace<'r> {
+    pub(crate) folder: &'r str,
+    pub(crate) key: &'r str,
+}
+
+/// The path of the file. It lies beside the lock, which stays empty.
+fn desk_path(rt: &HostRuntime, folder: &str) -> Result<String, AllocError> {
+    format!(in rt.alloc(); "{folder}/sheetdesk.desk")
+}
+
+/// Writes at which port a desk listens. The file is made anew, so that nobody has it open, and its owner alone may read
+/// it.
+pub(crate) fn keep_desk(rt: &HostRuntime, place: &DeskPlace<'_>, port: u16) -> io::Result<()> {
+    let path = desk_path(rt, place.folder)?;
+    let text = desk_text(rt.alloc(), port, place.key)?;
+    // What a desk left that was killed.
+    let _removed = fs::remove_file(rt, path.as_str());
+    let mut file = File::options()
+        .write(true)
+        .create_new(true)
+        .mode(0o600)
+        .open(rt, path.as_str())?;
+    file.write_all(text.as_bytes())
+}
+
+/// What the file of a folder says; none where no desk left one that may be read.
+pub(crate) fn desk_said(rt: &HostRuntime, folder: &str) -> Option<Vec<u8>> {
+    let Ok(path) = desk_path(rt, folder) else {
+        return None;
+    };
+    fs::read(rt, path.as_str()).ok()
+}
+
+/// Whether another process works in a folder. Where none does, no desk serves it, and the file that one left is
+/// removed.
+pub(crate) fn is_held(rt: &HostRuntime, folder: &str) -> bool {
+    match lock_folder(rt, folder) {
+        Ok(_lock) => {
+            if let Ok(path) = desk_path(rt, folder) {
+                let _removed = fs::remove_file(rt, path.as_str());
+            }
+            false
+        }
+        Err(fault) => fault == FolderFault::FolderHeld,
+    }
+}
