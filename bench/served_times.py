@@ -3,9 +3,10 @@
 
 Usage: served_times.py [--folder FOLDER] [COUNT [TIMES]]     (100000 rows, 20 of each command)
 
-FOLDER is where temporary files are, memory where there is some. Told are milliseconds by the clock: the middle one of TIMES commands, with
-the least and the greatest. A command is a process of its own, which asks the desk: its start is in its time. `status` is also timed beside
-four clients that add rows all the time, and told is how many they added a second. Last, what `status` takes without a desk.
+FOLDER is where temporary files are, memory where there is some. Told are milliseconds by the clock: the middle one of
+TIMES commands, with the least and the greatest. A command is a process of its own, which asks the desk: its start is in
+its time. `status` is also timed beside four clients that add media all the time, and told is how many they added a
+second. Last, what `status` takes without a desk.
 """
 
 import argparse
@@ -53,7 +54,8 @@ def spelled(times):
 def request(number):
     """A request that adds a medium of one byte."""
     identity = str(uuid.UUID(int=number, version=4))
-    return served_folder.request(number, "add", package=ARCHIVE, identity=identity, kind="media", text="text/plain", data="41")
+    made = {"package": ARCHIVE, "identity": identity, "kind": "media", "text": "text/plain", "data": "41"}
+    return served_folder.request(number, "add", **made)
 
 
 def add_on(desk, first, is_over, added):
@@ -98,7 +100,8 @@ def main():
         try:
             print(f"{said.count} rows, milliseconds")
             print("status:", spelled([carry_out(["status", folder]) for _ in range(said.times)]))
-            print("apply:", spelled([carry_out(["apply", folder], request(9_000_000 + it)) for it in range(said.times)]))
+            requests = [request(9_000_000 + it) for it in range(said.times)]
+            print("apply:", spelled([carry_out(["apply", folder], it) for it in requests]))
             beside, rate = beside_clients(desk, folder, said.times)
             print("status beside four clients:", spelled(beside), f"while they add {rate:.0f} a second")
         finally:

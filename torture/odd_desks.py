@@ -4,9 +4,9 @@
 Usage: odd_desks.py
        SHEETDESK=PROGRAM odd_desks.py    over another program than the proved one
 
-The desk is a few lines of Python: it holds the lock, says in `sheetdesk.desk` where it listens, and sends bytes that were
-worked out by hand. What it was sent is compared with the request of `crates/desk_asking/specs/Requests.antt`. Status 0
-where all is as it must be.
+The desk is a few lines of Python: it holds the lock, says in `sheetdesk.desk` where it listens, and sends bytes that
+were worked out by hand. What it was sent is compared with the request of `crates/desk_asking/specs/Requests.antt`.
+Status 0 where all is as it must be.
 """
 
 import fcntl
@@ -35,7 +35,10 @@ def typed(*words, given=b"", where=None):
 
 
 class OddDesk:
-    """Holds a folder, and answers one connection with these bytes, whatever it is asked; with None it closes at once."""
+    """Holds a folder, and answers one connection with these bytes, whatever it is asked.
+
+    With None it closes at once.
+    """
 
     def __init__(self, folder, answer, text=None):
         self.folder, self.answer, self.sent = folder, answer, b""

@@ -52,7 +52,10 @@ def body_of(words, given):
 
 
 def frames_in(answer):
-    """Standard output, standard error and the status of an answer: None where it has no end, 'not here' where it says so."""
+    """Standard output, standard error and the status of an answer.
+
+    The status is None where the answer has no end, and 'not here' where it says so.
+    """
     out, error = b"", b""
     while answer:
         head, _, rest = answer.partition(b"\n")
@@ -129,7 +132,8 @@ def session():
     """The words, and the standard input, of each line: looks, requests, verbs, names, and what is refused of each."""
     loan = new_id(901)
     named = ["--at", LATER, "--request"]
-    mark = {"identity": new_id(501), "kind": "attributes", "x": 500000100, "y": 5900000100, "code": "FP", "text": "Ærø"}
+    place = {"x": 500000100, "y": 5900000100, "code": "FP"}
+    mark = {"identity": new_id(501), "kind": "attributes", "text": "Ærø", **place}
     yield ["status", "FOLDER"], b""
     yield ["status", "FOLDER", "--json"], b""
     yield ["log", "FOLDER"], b""
