@@ -12,19 +12,43 @@ module _ {S : Type 0} (g : Ghosts S) where
   still old new (inr read) w stands = read.stands w stands
 
   pub due_is_served : DueIsServed g
-  due_is_served own xs old new out before after (inl (call.Refused flaw, is, (same, text))) =
-      ([], λ clean gone w stands. (w, inr (inl (call.Refused flaw, is, (refl, text))), still old new (inl same) w stands))
+  due_is_served own xs old new out before after (inl (call.Refused flaw, is, (same, text))) = (
+    [],
+    λ clean gone w stands. (
+      w,
+      inr (inl (call.Refused flaw, is, (refl, text))),
+      still old new (inl same) w stands,
+    ),
+  )
   due_is_served own xs old new out before after (inl (call.Apply request, is, (reply, applies, text))) = (
     applies.step.gone,
     λ clean gone w stands.
         let it = applies.step.step clean gone w stands in
         (it.0, inr (inl (call.Apply request, is, (reply, it.1, text))), it.2),
   )
-  due_is_served own xs old new out before after (inl (call.Packages, is, tells)) =
-      ([], λ clean gone w stands. (w, inr (inl (call.Packages, is, (refl, tells.told clean w stands))), still old new tells.read w stands))
-  due_is_served own xs old new out before after (inl (call.Manifest id, is, tells)) =
-      ([], λ clean gone w stands. (w, inr (inl (call.Manifest id, is, (refl, tells.told clean w stands))), still old new tells.read w stands))
-  due_is_served own xs old new out before after (inl (call.Receipt id, is, tells)) =
-      ([], λ clean gone w stands. (w, inr (inl (call.Receipt id, is, (refl, tells.told clean w stands))), still old new tells.read w stands))
+  due_is_served own xs old new out before after (inl (call.Packages, is, tells)) = (
+    [],
+    λ clean gone w stands. (
+      w,
+      inr (inl (call.Packages, is, (refl, tells.told clean w stands))),
+      still old new tells.read w stands,
+    ),
+  )
+  due_is_served own xs old new out before after (inl (call.Manifest id, is, tells)) = (
+    [],
+    λ clean gone w stands. (
+      w,
+      inr (inl (call.Manifest id, is, (refl, tells.told clean w stands))),
+      still old new tells.read w stands,
+    ),
+  )
+  due_is_served own xs old new out before after (inl (call.Receipt id, is, tells)) = (
+    [],
+    λ clean gone w stands. (
+      w,
+      inr (inl (call.Receipt id, is, (refl, tells.told clean w stands))),
+      still old new tells.read w stands,
+    ),
+  )
   due_is_served own xs old new out before after (inr (some, text, same)) =
       ([], λ clean gone w stands. (w, inr (inr (some, text, refl)), still old new (inl same) w stands))

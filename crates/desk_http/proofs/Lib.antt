@@ -1,4 +1,5 @@
 mod AnswerFacts
+mod CommandFacts
 mod DueFacts
 mod ListingFacts
 pub mod ServedBy

@@ -1,3 +1,4 @@
+pub mod Commands
 pub mod Connections
 pub mod Listing
 pub mod Served

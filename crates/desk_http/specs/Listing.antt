@@ -10,7 +10,13 @@ no_sums = record { tiles = 0; media = 0; rows = 0; links = 0; bytes = 0 }
 
 -- a package's sight with its sums, which each live one has
 abbrev pub listed_from : Option Sums → PackageSight → Listed
-listed_from sums s = record { uuid = s.uuid; parent = s.parent; depth = s.depth; ticket = s.ticket; sums = unwrap_or sums no_sums }
+listed_from sums s = record {
+  uuid = s.uuid;
+  parent = s.parent;
+  depth = s.depth;
+  ticket = s.ticket;
+  sums = unwrap_or sums no_sums;
+}
 
 abbrev pub listed_in : World → PackageSight → Listed
 listed_in w s = listed_from (sums_of w s.uuid) s

@@ -1,5 +1,6 @@
 -- What the desk makes of a connection's bytes and of a world: the bytes that go out, and the world afterwards. Profile.
-use Rattle.std.specs.Prelude.{◌≡◌, ◌≢◌, ◌⊎◌, ◌≤◌, ℕ, Bool, true, false, List, [], Option, Some, None, Result, Ok, Err, IfSome}
+use Rattle.std.specs.Prelude.{◌≡◌, ◌≢◌, ◌⊎◌, ◌≤◌, ℕ, Bool, true, false, List, [], Option, Some, None, Result, Ok, Err}
+use Rattle.std.specs.Prelude.{IfSome}
 use Rattle.std.specs.Io.KnownBytes.{Appends}
 use Rattle.sqlite.specs.Held.{Held}
 use Rattle.sqlite.specs.Store.{Ghosts}
@@ -21,7 +22,8 @@ use Rattle.desk_calls.specs.declared.calls.Call.{Call}
 use Rattle.desk_calls.specs.declared.calls.Call.TheVariants as call
 use Rattle.desk_calls.specs.declared.calls.Flaw.{Flaw}
 use Rattle.desk_calls.specs.declared.calls.Flaw.TheVariants as flaw
-use Rattle.desk_replies.specs.Responses.{IsReply, fixed_response, manifest_response, packages_response, receipt_response}
+use Rattle.desk_replies.specs.Responses.{IsReply, fixed_response, manifest_response, packages_response}
+use Rattle.desk_replies.specs.Responses.{receipt_response}
 use Rattle.desk_replies.specs.declared.fixed.Fixed.{Fixed}
 use Rattle.desk_replies.specs.declared.fixed.Fixed.TheVariants as fixed
 use Rattle.desk_http.specs.declared.serving.Served.{Served}
@@ -66,14 +68,15 @@ IsAnswer w (call.Receipt (Some id)) out = IsReceiptText (receipt_answer w id) ou
 
 -- What becomes of a call: a request is a step, and nothing else changes the world.
 abbrev pub Serves : World → Call → List ℕ → World → Type 0
-Serves w (call.Apply request) out next = (reply : Result Receipt Refusal) × Step w request reply next × IsReply reply out
+Serves w (call.Apply request) out next = (reply : Result Receipt Refusal) × Step w request reply next
+    × IsReply reply out
 Serves w (call.Refused flaw) out next = (next ≡ w) × IsAnswer w (call.Refused flaw) out
 Serves w call.Packages out next = (next ≡ w) × (IsAnswer w call.Packages out ⊎ IsFaultText out)
 Serves w (call.Manifest id) out next = (next ≡ w) × (IsAnswer w (call.Manifest id) out ⊎ IsFaultText out)
 Serves w (call.Receipt id) out next = (next ≡ w) × (IsAnswer w (call.Receipt id) out ⊎ IsFaultText out)
 
--- A desk's own address, the bytes of a connection in a world, the bytes that go out, and the world afterwards. Any input
--- but the empty one may find no memory, and then nothing has changed.
+-- A desk's own address, the bytes of a connection in a world, the bytes that go out, and the world afterwards. Any
+-- input but the empty one may find no memory, and then nothing has changed.
 abbrev pub IsServed : List ℕ → World → List ℕ → List ℕ → World → Type 0
 IsServed own w xs out next =
     ((xs ≡ []) × (out ≡ []) × (next ≡ w))
@@ -91,7 +94,8 @@ WritesNothing old new (Err Write) = Unit {0}
 
 module _ {S : Type 0} (g : Ghosts S) where
   -- A request was handed to the world, which gave this reply. before and after are how often the shelf had failed.
-  pub record Applies (request : Request) (old : Seen S) (reply : Result Receipt Refusal) (new : Seen S) (before after : ℕ) : Type 0 where
+  pub record Applies (request : Request) (old : Seen S) (reply : Result Receipt Refusal) (new : Seen S)
+      (before after : ℕ) : Type 0 where
     pub step : IsStep g request old reply new
     pub still : StandsStill g old reply new
     pub unharmed : LeavesNoTrace g old reply new
@@ -108,7 +112,8 @@ module _ {S : Type 0} (g : Ghosts S) where
   -- what was made of a call
   abbrev pub Answers : Call → Seen S → List ℕ → Seen S → ℕ → ℕ → Type 0
   Answers (call.Refused flaw) old out new before after = (new ≡ old) × (out ≡ fixed_response (fixed_of flaw))
-  Answers (call.Apply request) old out new before after = (reply : Result Receipt Refusal) × Applies request old reply new before after × IsReply reply out
+  Answers (call.Apply request) old out new before after = (reply : Result Receipt Refusal)
+      × Applies request old reply new before after × IsReply reply out
   Answers call.Packages old out new before after = Tells call.Packages old out new
   Answers (call.Manifest id) old out new before after = Tells (call.Manifest id) old out new
   Answers (call.Receipt id) old out new before after = Tells (call.Receipt id) old out new
@@ -124,14 +129,18 @@ module _ {S : Type 0} (g : Ghosts S) where
   abbrev pub Serving : List ℕ → Option (List ℕ) → Seen S → Seen S → ℕ → ℕ → Option (List ℕ) → Option (List ℕ)
       → Result Served ServeFault → Type 0
   Serving own text old new before after held holds (Ok Nothing) = IfSome text (λ xs. xs ≡ []) × (new ≡ old)
-  Serving own text old new before after held holds (Ok Answered) = (out : List ℕ) × IsDue own text old out new before after × Appends held holds out
+  Serving own text old new before after held holds (Ok Answered) =
+      (out : List ℕ) × IsDue own text old out new before after × Appends held holds out
   Serving own text old new before after held holds (Err Read) = new ≡ old
-  Serving own text old new before after held holds (Err Write) = (out : List ℕ) × IsDue own text old out new before after × WentOut held holds out
+  Serving own text old new before after held holds (Err Write) =
+      (out : List ℕ) × IsDue own text old out new before after × WentOut held holds out
 
   -- ---- a law
 
-  -- What is due is what is served, in each world that the value stood for, where each disk has given back what was written, those of dropped connections (gone) too.
+  -- What is due is what is served, in each world that the value stood for, where each disk has given back what was
+  -- written, those of dropped connections (gone) too.
   abbrev pub DueIsServed : Type 0
   DueIsServed = (own xs : List ℕ) (old new : Seen S) (out : List ℕ) (before after : ℕ)
-      → IsDue own (Some xs) old out new before after → (gone : List (Held S)) × (AllClean g new.members → AreClean g gone → (w : World) → StandsFor g old w
+      → IsDue own (Some xs) old out new before after
+      → (gone : List (Held S)) × (AllClean g new.members → AreClean g gone → (w : World) → StandsFor g old w
       → (next : World) × IsServed own w xs out next × StandsFor g new next)

@@ -51,7 +51,8 @@ fn apply_call<S: Alter + Drop, H: Shelf<S>>(
     shelf: &mut H,
     request: &Request,
 ) -> Outgoing
-    ensures { Answers S.Store (call.Apply request.now) world.old (outgoing_bytes result) world.new (H.failures_of shelf.old) (H.failures_of shelf.new) }
+    ensures { Answers S.Store (call.Apply request.now) world.old (outgoing_bytes result) world.new
+        (H.failures_of shelf.old) (H.failures_of shelf.new) }
 {
     let reply = world.apply(alloc, request, shelf);
     reply_outgoing(alloc, &reply)
@@ -97,7 +98,8 @@ pub fn answer<S: Alter + Drop, H: Shelf<S>>(
     shelf: &mut H,
     asked: &Call,
 ) -> Outgoing
-    ensures { Answers S.Store asked.now world.old (outgoing_bytes result) world.new (H.failures_of shelf.old) (H.failures_of shelf.new) }
+    ensures { Answers S.Store asked.now world.old (outgoing_bytes result) world.new
+        (H.failures_of shelf.old) (H.failures_of shelf.new) }
 {
     match asked {
         Call::Refused(flaw) => Outgoing::Fixed(fixed_of(*flaw)),

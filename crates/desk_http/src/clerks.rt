@@ -1,4 +1,5 @@
 //! Who carries out the commands of a command line at a desk.
+ghost use Rattle.std.specs.Prelude.{◌≡◌, ℕ, List, [], IfSome};
 ghost use Rattle.desk_http.specs.Connections.{IsServedBy};
 
 use sqlite::Alter;
@@ -8,8 +9,12 @@ use world::world::World;
 
 /// Carries out what the words of a command line ask for. It makes of the world what one request makes of it, at most.
 pub trait Clerk {
+    // The word that whoever asks has to show. An empty one is nobody's.
+    ghost key_of: { Self → List ℕ };
+
     /// The word that whoever asks has to show; `None` where there is no clerk.
-    fn key(&self) -> Option<&[u8]>;
+    fn key(&self) -> Option<&[u8]>
+        ensures { IfSome result (λ key. key.now ≡ key_of self.now) };
 
     /// Reads what a body asks, carries it out, and writes what comes of it.
     fn attend<S: Alter + Drop, H: Shelf<S>, W: Write>(
@@ -27,6 +32,8 @@ pub trait Clerk {
 pub struct NoClerk;
 
 impl Clerk for NoClerk {
+    ghost key_of = { λ _. [] };
+
     fn key(&self) -> Option<&[u8]> {
         None
     }

@@ -1,6 +1,11 @@
 //! A connection that asks for a command of the command line, handed to the clerk of the desk.
-ghost use Rattle.std.specs.Prelude.{◌≤◌, All, IfOk, length};
-ghost use Rattle.httparse.specs.Spans.{IsHeaderWithin, IsRequestWithin};
+ghost use Rattle.std.specs.Prelude.{◌≡◌, ◌≢◌, ◌≤◌, ◌⊎◌, ◌↔◌, ◌++◌, [], All, IfOk, IfNone, IfSome, IsTrue};
+ghost use Rattle.std.specs.Prelude.{drop, length, map, slice_range};
+ghost use Rattle.httparse.specs.Grammar.{RequestHead};
+ghost use Rattle.httparse.specs.Spans.{IsHeaderWithin, IsRequestAt, IsRequestWithin, IsWithin, header_bytes};
+ghost use Rattle.httparse.specs.Spans.{span_bytes};
+ghost use Rattle.desk_http.specs.Commands.{AsksCommand, FieldsPass, HasNone, HasOnly, HeadPasses, IsFree};
+ghost use Rattle.desk_http.specs.Commands.{IsHanded, IsLeft, IsRest, IsSize, MayPass, TellsSize, host_of};
 ghost use Rattle.desk_http.specs.Connections.{IsServedBy};
 
 use crate::clerks::Clerk;
@@ -24,6 +29,11 @@ use world::world::World;
 /// How the request of a command begins.
 pub(crate) const COMMAND_LINE: &[u8] = b"POST /commands ";
 
+/// The method of a request for a command, and its target.
+const METHOD: &[u8] = b"POST";
+
+const TARGET: &[u8] = b"/commands";
+
 /// The most bytes of a body: the standard input of a command has as many as a request may have, and its words the rest.
 const MOST_BODY: i64 = 2_300_000;
 
@@ -33,7 +43,8 @@ const ANSWER_HEAD: &[u8] =
 
 /// What goes out where the key is not the clerk's.
 const BAD_KEY: &[u8] =
-    b"HTTP/1.1 403 Forbidden\r\ncontent-type: application/json\r\ncontent-length: 19\r\nconnection: close\r\n\r\n{\"fault\":\"bad key\"}";
+    b"HTTP/1.1 403 Forbidden\r\ncontent-type: application/json\r\ncontent-length: 19\r\n\
+    connection: close\r\n\r\n{\"fault\":\"bad key\"}";
 
 /// Why no command is handed to the clerk.
 #[derive(Clone, Copy, Debug, PartialEq, Eq)]
@@ -60,9 +71,21 @@ impl From<CallFault> for Bar {
     }
 }
 
+/// Whether there is no field of this name.
+fn has_none(input: &[u8], headers: &[HeaderSpan], name: &[u8]) -> bool
+    requires { All (IsHeaderWithin (length input.now)) headers.now }
+    ensures { IsTrue result ↔ HasNone name.now (map (header_bytes input.now) headers.now) }
+{
+    match values_of(input, headers, name) {
+        Values::None => true,
+        Values::One(_) | Values::More => false,
+    }
+}
+
 /// Whether the fields of this name are one with this value.
 fn has_only(input: &[u8], headers: &[HeaderSpan], name: &[u8], value: &[u8]) -> bool
     requires { All (IsHeaderWithin (length input.now)) headers.now }
+    ensures { IsTrue result ↔ HasOnly name.now value.now (map (header_bytes input.now) headers.now) }
 {
     match values_of(input, headers, name) {
         Values::One(given) => given == value,
@@ -70,9 +93,37 @@ fn has_only(input: &[u8], headers: &[HeaderSpan], name: &[u8], value: &[u8]) -> 
     }
 }
 
+/// The host of a desk with this address.
+fn host_of(own: &[u8]) -> &[u8]
+    ensures { result.now ≡ host_of own.now }
+{
+    match own.strip_prefix(b"http://") {
+        Some(host) => host,
+        None => own,
+    }
+}
+
+/// What bars a request by its fields, if something does: a page asks, the key is not the clerk's, or the host is not
+/// this desk. An empty key is nobody's.
+fn barred(own: &[u8], key: &[u8], input: &[u8], headers: &[HeaderSpan]) -> Option<Bar>
+    requires { All (IsHeaderWithin (length input.now)) headers.now }
+    ensures { IfNone result (IsFree own.now key.now (map (header_bytes input.now) headers.now)) }
+{
+    if !has_none(input, headers, b"origin") {
+        return Some(Bar::Other(Fixed::BadOrigin));
+    }
+    if key.is_empty() || !has_only(input, headers, b"sheetdesk-key", key) {
+        return Some(Bar::Key);
+    }
+    if !has_only(input, headers, b"host", host_of(own)) {
+        return Some(Bar::Other(Fixed::BadRequest));
+    }
+    None
+}
+
 /// The size of a body that a Content-Length announces.
 fn size_of(text: &[u8]) -> Result<usize, Bar>
-    ensures { IfOk result (λ size. size ≤ 2300000) }
+    ensures { IfOk result (λ size. IsSize text.now size) }
 {
     let Ok(digits) = from_utf8(text) else {
         return Err(Bar::Other(Fixed::BadRequest));
@@ -89,22 +140,11 @@ fn size_of(text: &[u8]) -> Result<usize, Bar>
     Ok(size as usize)
 }
 
-/// The size of the body that the fields of a head announce, where nothing bars it: no page asks, the key is the clerk's,
-/// and the host is this desk.
-fn size_passed(own: &[u8], key: &[u8], input: &[u8], headers: &[HeaderSpan]) -> Result<usize, Bar>
+/// The size of the body that the fields of a head announce.
+fn size_told(input: &[u8], headers: &[HeaderSpan]) -> Result<usize, Bar>
     requires { All (IsHeaderWithin (length input.now)) headers.now }
-    ensures { IfOk result (λ size. size ≤ 2300000) }
+    ensures { IfOk result (TellsSize (map (header_bytes input.now) headers.now)) }
 {
-    if !matches!(values_of(input, headers, b"origin"), Values::None) {
-        return Err(Bar::Other(Fixed::BadOrigin));
-    }
-    if !has_only(input, headers, b"sheetdesk-key", key) {
-        return Err(Bar::Key);
-    }
-    let host = own.strip_prefix(b"http://").unwrap_or(own);
-    if !has_only(input, headers, b"host", host) {
-        return Err(Bar::Other(Fixed::BadRequest));
-    }
     match values_of(input, headers, b"content-length") {
         Values::One(text) => size_of(text),
         Values::None => Err(Bar::Other(Fixed::NoLength)),
@@ -112,7 +152,27 @@ fn size_passed(own: &[u8], key: &[u8], input: &[u8], headers: &[HeaderSpan]) -> 
     }
 }
 
-/// The same of the head that was found in the input.
+/// The same where nothing bars the request.
+fn size_passed(own: &[u8], key: &[u8], input: &[u8], headers: &[HeaderSpan]) -> Result<usize, Bar>
+    requires { All (IsHeaderWithin (length input.now)) headers.now }
+    ensures { IfOk result (FieldsPass own.now key.now (map (header_bytes input.now) headers.now)) }
+{
+    match barred(own, key, input, headers) {
+        Some(bar) => Err(bar),
+        None => size_told(input, headers),
+    }
+}
+
+/// Whether a head asks for a command.
+fn is_for_command(input: &[u8], head: RequestSpans) -> bool
+    requires method { IsWithin (length input.now) head.method }
+    requires path { IsWithin (length input.now) head.path }
+    ensures { IsTrue result → AsksCommand (span_bytes input.now head.method) (span_bytes input.now head.path) }
+{
+    head.method.of(input) == METHOD && head.path.of(input) == TARGET
+}
+
+/// The size of the body that a head announces which was found in the input, where nothing bars it.
 fn size_in(
     own: &[u8],
     key: &[u8],
@@ -121,8 +181,14 @@ fn size_in(
     head: RequestSpans,
 ) -> Result<usize, Bar>
     requires { IsRequestWithin input.now headers.now head }
-    ensures { IfOk result (λ size. size ≤ 2300000) }
+    ensures passes { IfOk result (λ size. (h : RequestHead)
+        → IsRequestAt input.now headers.now head h → HeadPasses own.now key.now h size) }
+    ensures small { IfOk result (λ size. size ≤ 2300000) }
+    ensures some_key { IfOk result (λ size. key.now ≢ []) }
 {
+    if !is_for_command(input, head) {
+        return Err(Bar::Other(Fixed::NoSuchPath));
+    }
     size_passed(own, key, input, &headers[..head.headers])
 }
 
@@ -137,7 +203,11 @@ fn read_rest<R: Source>(
 ) -> Result<(Vec<u8>, usize, usize), Bar>
     requires within { IsRequestWithin input.items headers.now head }
     requires short { head.len ≤ 16384 }
-    ensures { IfOk result (λ whole. (whole.1 ≤ whole.2) × (whole.2 ≤ length whole.0.items)) }
+    ensures bounds { IfOk result (λ whole. (whole.1 ≤ whole.2) × (whole.2 ≤ length whole.0.items)) }
+    ensures some_key { IfOk result (λ whole. key.now ≢ []) }
+    ensures asks { IfOk result (λ whole. (h : RequestHead) → IsRequestAt input.items headers.now head h
+        → IfSome (R.remaining reader.old) (λ ys. IsRest own.now key.now h (drop head.len input.items ++ ys)
+        (slice_range whole.0.items whole.1 whole.2))) }
 {
     let size = size_in(own, key, input.as_slice(), headers, head)?;
     let end = head.len + size;
@@ -147,19 +217,24 @@ fn read_rest<R: Source>(
     Ok((input, head.len, end))
 }
 
-/// The same of a request of which nothing was read, where nothing bars it.
+/// The same of a request of which nothing was read.
 fn read_whole<R: Source>(
     alloc: Global,
     own: &[u8],
     key: &[u8],
     reader: &mut R,
 ) -> Result<(Vec<u8>, usize, usize), Bar>
-    ensures { IfOk result (λ whole. (whole.1 ≤ whole.2) × (whole.2 ≤ length whole.0.items)) }
+    ensures bounds { IfOk result (λ whole. (whole.1 ≤ whole.2) × (whole.2 ≤ length whole.0.items)) }
+    ensures passes { IfOk result (λ whole. MayPass own.now key.now (R.remaining reader.old)
+        (slice_range whole.0.items whole.1 whole.2)) }
 {
     let mut input = Vec::new(alloc);
     let mut headers = [EMPTY_HEADER_SPAN; 64];
     match gather_head(reader, &mut input, &mut headers)? {
-        Gathered::Head(head) => read_rest(own, key, reader, input, &headers, head),
+        Gathered::Head(head) => {
+            let whole = read_rest(own, key, reader, input, &headers, head)?;
+            Ok(whole)
+        }
         Gathered::Nothing | Gathered::Bad => Err(Bar::Other(Fixed::BadRequest)),
     }
 }
@@ -199,13 +274,30 @@ fn hand_on<S: Alter + Drop, H: Shelf<S>, W: Write, K: Clerk>(
     Ok(Served::Answered)
 }
 
+/// The request that stands on a connection, for a clerk with this key.
+fn read_asked<R: Source, K: Clerk>(
+    alloc: Global,
+    own: &[u8],
+    reader: &mut R,
+    clerk: &K,
+) -> Result<(Vec<u8>, usize, usize), Bar>
+    ensures bounds { IfOk result (λ whole. (whole.1 ≤ whole.2) × (whole.2 ≤ length whole.0.items)) }
+    ensures passes { IfOk result (λ whole. MayPass own.now (K.key_of clerk.now) (R.remaining reader.old)
+        (slice_range whole.0.items whole.1 whole.2)) }
+{
+    match clerk.key() {
+        Some(key) => read_whole(alloc, own, key, reader),
+        None => Err(Bar::Key),
+    }
+}
+
 /// Reads a request for the clerk, and has it carry out the command. Where something bars it, that is answered, and the
-/// clerk is not asked.
+/// clerk is not asked. `own` is the desk's address, as `http://127.0.0.1:8080`.
 ///
 /// # Errors
 ///
 /// A reader or a writer that failed. Nothing was changed.
-pub(crate) fn serve_command<S: Alter + Drop, H: Shelf<S>, R: Source, W: Write, K: Clerk>(
+pub fn serve_command<S: Alter + Drop, H: Shelf<S>, R: Source, W: Write, K: Clerk>(
     alloc: Global,
     world: &mut World<S>,
     shelf: &mut H,
@@ -214,10 +306,11 @@ pub(crate) fn serve_command<S: Alter + Drop, H: Shelf<S>, R: Source, W: Write, K
     writer: &mut W,
     clerk: &mut K,
 ) -> Result<Served, ServeFault>
-    ensures { IsServedBy S.Store 1 world.old world.new }
+    ensures served { IsServedBy S.Store 1 world.old world.new }
+    ensures handed { IsHanded own.now (K.key_of clerk.old) (R.remaining reader.old)
+        ⊎ IsLeft world.old world.new shelf.old shelf.new clerk.old clerk.new }
 {
-    let key = clerk.key().unwrap_or(b"");
-    match read_whole(alloc, own, key, reader) {
+    match read_asked(alloc, own, reader, &*clerk) {
         Ok((input, begin, end)) => hand_on(world, shelf, &input[begin..end], writer, clerk),
         Err(bar) => turn_away(bar, writer),
     }

@@ -43,7 +43,9 @@ fn set_farewell(stream: &TcpStream) -> io::Result<()> {
     stream.set_read_timeout(Some(Duration::from_secs(FAREWELL)))
 }
 
-/// Takes what is still sent after the answer, up to 4,194,304 bytes, until the other side closes or a read has nothing to give. A connection that is closed over bytes that nobody took is reset, and the answer may be lost by that.
+/// Takes what is still sent after the answer, up to 4,194,304 bytes, until the other side closes or a read has
+/// nothing to give. A connection that is closed over bytes that nobody took is reset, and the answer may be lost by
+/// that.
 fn take_rest(stream: &TcpStream) {
     let mut reader = stream;
     let mut rest = [0u8; 4096];
@@ -55,7 +57,9 @@ fn take_rest(stream: &TcpStream) {
     }
 }
 
-/// Says that nothing more is written, and looks once whether the other side has sent more. Where it has, the rest is taken. Tells whether it has neither sent more nor closed: the connection is then kept until the next is served (RFC 9112, section 9.6), so that nobody waits for its end.
+/// Says that nothing more is written, and looks once whether the other side has sent more. Where it has, the rest is
+/// taken. Tells whether it has neither sent more nor closed: the connection is then kept until the next is served
+/// (RFC 9112, section 9.6), so that nobody waits for its end.
 fn stays_open(stream: &TcpStream) -> io::Result<bool> {
     let mut reader = stream;
     let mut rest = [0u8; 4096];
@@ -110,7 +114,8 @@ fn serve_either<S: Alter + Drop, H: Shelf<S>, C: Clock, K: Clerk>(
     serve_one(alloc, world, shelf, own, reader, writer)
 }
 
-/// Serves one connection, whatever becomes of it, and tells of it. Answers whether a response went out and the other side has not closed yet.
+/// Serves one connection, whatever becomes of it, and tells of it. Answers whether a response went out and the other
+/// side has not closed yet.
 fn serve_stream<S: Alter + Drop, H: Shelf<S>, C: Clock, T: DeskTeller, K: Clerk>(
     clock: &C,
     alloc: Global,
@@ -136,7 +141,8 @@ fn serve_stream<S: Alter + Drop, H: Shelf<S>, C: Clock, T: DeskTeller, K: Clerk>
     }
 }
 
-/// Serves the next connection of a listener, if one comes, and lets go of the one that was kept. Answers whether one came, and gives the next to be kept.
+/// Serves the next connection of a listener, if one comes, and lets go of the one that was kept. Answers whether one
+/// came, and gives the next to be kept.
 fn serve_next<S: Alter + Drop, H: Shelf<S>, C: Clock, T: DeskTeller, K: Clerk>(
     clock: &C,
     alloc: Global,
@@ -160,7 +166,9 @@ fn serve_next<S: Alter + Drop, H: Shelf<S>, C: Clock, T: DeskTeller, K: Clerk>(
     }
 }
 
-/// Serves so many connections of a listener over a world, one after the other. One that fails, or that has taken twenty seconds in all, is dropped and counts as served. A page of another address than the listener's own is refused. The teller is told of each connection; nothing depends on it.
+/// Serves so many connections of a listener over a world, one after the other. One that fails, or that has taken
+/// twenty seconds in all, is dropped and counts as served. A page of another address than the listener's own is
+/// refused. The teller is told of each connection; nothing depends on it.
 ///
 /// # Errors
 ///
@@ -190,7 +198,8 @@ pub fn serve_each<S: Alter + Drop, H: Shelf<S>, C: Clock, T: DeskTeller>(
     )
 }
 
-/// The same with a clerk, to whom the commands of a command line are handed. A long answer of his goes on as long as each piece of it is taken within twenty seconds.
+/// The same with a clerk, to whom the commands of a command line are handed. A long answer of his goes on as long as
+/// each piece of it is taken within twenty seconds.
 ///
 /// # Errors
 ///

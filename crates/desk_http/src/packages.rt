@@ -51,7 +51,8 @@ fn each_listed<S: Alter + Drop>(
     world: &World<S>,
     sights: &[PackageSight],
 ) -> Result<Vec<Listed>, OutOfMemory>
-    ensures { IfOk result (λ list. (w : ModelWorld) → StandsFor S.Store world.now w → list.items ≡ map (listed_in w) (map sight_of sights.now)) }
+    ensures { IfOk result (λ list. (w : ModelWorld) → StandsFor S.Store world.now w
+        → list.items ≡ map (listed_in w) (map sight_of sights.now)) }
 {
     let mut list = Vec::new(alloc);
     'sights: for sight in sights {
@@ -73,7 +74,8 @@ fn all_listed<S: Alter + Drop>(alloc: Global, world: &World<S>) -> Result<Vec<Li
 
 /// The response with the list of packages.
 fn packages_made<S: Alter + Drop>(alloc: Global, world: &World<S>) -> Result<Vec<u8>, OutOfMemory>
-    ensures { IfOk result (λ bytes. (w : ModelWorld) → StandsFor S.Store world.now w → bytes.items ≡ packages_response w) }
+    ensures { IfOk result (λ bytes. (w : ModelWorld) → StandsFor S.Store world.now w
+        → bytes.items ≡ packages_response w) }
 {
     let list = all_listed(alloc, world)?;
     let bytes = list_response(alloc, list.as_slice())?;

@@ -46,7 +46,8 @@ impl From<WriteFault> for ServeFault {
     }
 }
 
-/// Reads one request and writes one response. `own` is the desk's address, as `http://127.0.0.1:8080`: a page of another address is refused. It stops reading once head and body are there or a check has failed.
+/// Reads one request and writes one response. `own` is the desk's address, as `http://127.0.0.1:8080`: a page of
+/// another address is refused. It stops reading once head and body are there or a check has failed.
 ///
 /// # Errors
 ///
@@ -59,7 +60,9 @@ pub fn serve_one<S: Alter + Drop, H: Shelf<S>, R: Source, W: Write>(
     reader: &mut R,
     writer: &mut W,
 ) -> Result<Served, ServeFault>
-    ensures served { Serving S.Store own.now (R.remaining reader.old) world.old world.new (H.failures_of shelf.old) (H.failures_of shelf.new) (W.contents writer.old) (W.contents writer.new) result }
+    ensures served { Serving S.Store own.now (R.remaining reader.old) world.old world.new
+        (H.failures_of shelf.old) (H.failures_of shelf.new) (W.contents writer.old)
+        (W.contents writer.new) result }
     ensures nothing { WritesNothing writer.old writer.new result }
     ensures sound { R.never_fails reader.old → result ≢ Err Read }
 {

@@ -7,7 +7,8 @@ pub trait DeskTeller {
     /// The desk listens at this port from now on.
     fn tell_port(&mut self, port: u16);
 
-    /// A connection was served whose request begins with this line. The status is that of its response, or `-` where none went out.
+    /// A connection was served whose request begins with this line. The status is that of its response, or `-` where
+    /// none went out.
     fn tell_exchange(&mut self, line: &[u8], status: &[u8]);
 }
 

@@ -1,5 +1,6 @@
--- The head is no longer than what was gathered.
+-- The head is no longer than what was gathered, and it and what follows are those of the connection.
 use Rattle.std.proofs.Common.{arith}
+use Rattle.desk_http.proofs.CommandFacts.{whole_asked}
 use Rattle.desk_http.proofs.commands.read_whole.Goals as goal
 
 pub read_rest-requires-clause-short : goal.read_rest-requires-clause-short
@@ -8,3 +9,10 @@ read_rest-requires-clause-short g c =
     let fits = within.section.len_fits in
     let short = c.in_ok-head.ensures.short in
     omega arith
+
+pub returns-in_ok-whole-in-Head-clause-passes : goal.returns-in_ok-whole-in-Head-clause-passes
+returns-in_ok-whole-in-Head-clause-passes g c = record {
+  some_key = c.in_ok-whole-in-Head.ensures.some_key;
+  asks = whole_asked _ _ _ _ _ _ c.in-Head.head _ c.in_ok-head.ensures.taken
+      (rw c.in-Head.is at c.in_ok-head.ensures.head) c.in_ok-whole-in-Head.ensures.asks;
+}

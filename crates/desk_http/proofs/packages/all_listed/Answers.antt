@@ -6,4 +6,5 @@ use Rattle.desk_http.proofs.packages.all_listed.Goals as goal
 
 pub returns : goal.returns
 returns g c = λ w stands.
-    c.in_ok-list.ensures w stands ∙ all_told w (map sight_of c.as_slice.result.now) stands.members.register.arranged (ap (map sight_of) c.as_slice.ensures.value ∙ c.in-Ok.ensures w stands)
+    c.in_ok-list.ensures w stands ∙ all_told w (map sight_of c.as_slice.result.now) stands.members.register.arranged
+    (ap (map sight_of) c.as_slice.ensures.value ∙ c.in-Ok.ensures w stands)

@@ -7,4 +7,8 @@ use Rattle.desk_http.specs.Listing.{listed_in}
 use Rattle.desk_http.proofs.packages.each_listed.Given as goal
 
 abbrev pub invariant-sights : goal.invariant-sights
-invariant-sights g l = record { listed : (w : World) → StandsFor g.S.Store l.world w → l.list.items ≡ map (listed_in w) (map sight_of (take l.sight-index l.sights)) }
+invariant-sights g l =
+    record {
+      listed : (w : World) → StandsFor g.S.Store l.world w
+          → l.list.items ≡ map (listed_in w) (map sight_of (take l.sight-index l.sights));
+    }
