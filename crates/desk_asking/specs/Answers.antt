@@ -1,5 +1,6 @@
 -- The bytes of a desk's answer: the head of a response (RFC 9112), and frames. Profile.
-use Rattle.std.specs.Prelude.{◌≡◌, ◌≢◌, ◌≤◌, ◌⊎◌, ℕ, List, [], ◌∷◌, ◌++◌, length, flat_map, codes, decimal, All, if◌then◌else◌, nat_eq, true, Option}
+use Rattle.std.specs.Prelude.{◌≡◌, ◌≢◌, ◌≤◌, ◌⊎◌, ℕ, List, [], ◌∷◌, ◌++◌, length, flat_map, codes, decimal, All}
+use Rattle.std.specs.Prelude.{if◌then◌else◌, nat_eq, true, Option}
 use Rattle.std.specs.List.{starts_with}
 use Rattle.std.specs.Io.KnownBytes.{Consumes, Appends}
 use Rattle.desk_asking.specs.declared.answers.Answer.{Answer}
@@ -74,7 +75,8 @@ IsAnswer bytes output errors answer =
     (head : List ℕ) × (rest : List ℕ) × (bytes ≡ head ++ rest) × IsHead head × AreFrames rest output errors answer
 
 -- What a reader gave and what two writers got stand so to each other.
-abbrev pub Copies : (List ℕ → List ℕ → List ℕ → Type 0) → Option (List ℕ) → Option (List ℕ) → Option (List ℕ) → Option (List ℕ) → Option (List ℕ) → Option (List ℕ) → Type 0
+abbrev pub Copies : (List ℕ → List ℕ → List ℕ → Type 0) → Option (List ℕ) → Option (List ℕ) → Option (List ℕ)
+    → Option (List ℕ) → Option (List ℕ) → Option (List ℕ) → Type 0
 Copies Says left left' out out' err err' =
     (bytes : List ℕ) × (output : List ℕ) × (errors : List ℕ) × Says bytes output errors
     × Consumes left left' bytes × Appends out out' output × Appends err err' errors
@@ -82,7 +84,8 @@ Copies Says left left' out out' err err' =
 -- a frame whose head was read, by whether it is for a writer: its bytes went there
 abbrev pub IsFrameOf : ℕ → ℕ → List ℕ → List ℕ → List ℕ → Type 0
 IsFrameOf kind size bytes output errors =
-    (length bytes ≡ size) × IsTold (kind, bytes) × (output ≡ bytes_if 49 (kind, bytes)) × (errors ≡ bytes_if 50 (kind, bytes))
+    (length bytes ≡ size) × IsTold (kind, bytes) × (output ≡ bytes_if 49 (kind, bytes))
+    × (errors ≡ bytes_if 50 (kind, bytes))
 
 -- the head of a frame that is for no writer ends the answer so, behind so many frames
 abbrev pub IsEnd : ℕ → ℕ → ℕ → Answer → Type 0

@@ -1,4 +1,5 @@
--- The bytes of a request that asks a desk to carry out a command (HTTP/1.1, RFC 9112). Path, field and body are profile.
+-- The bytes of a request that asks a desk to carry out a command (HTTP/1.1, RFC 9112). Path, field and body are
+-- profile.
 use Rattle.std.specs.Prelude.{ℕ, List, ◌++◌, codes, decimal, length, flat_map, String, string_bytes}
 
 -- some bytes behind their number

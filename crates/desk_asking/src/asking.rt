@@ -1,6 +1,7 @@
 //! The bytes by which a command is asked for.
 ghost use Rattle.std.specs.Prelude.{◌≡◌, ◌++◌, ℕ, List, length, IfOk, OnOk, decimal};
-ghost use Rattle.desk_asking.specs.Requests.{body_text, counted, head_text, key_text, request_text, size_text, start_text, word_text};
+ghost use Rattle.desk_asking.specs.Requests.{body_text, counted, head_text, key_text, request_text, size_text};
+ghost use Rattle.desk_asking.specs.Requests.{start_text, word_text};
 
 use crate::desks::DeskAt;
 use itoa::Buffer;
@@ -31,8 +32,13 @@ fn put_word(text: &mut Vec<u8>, word: &String) -> Result<(), AllocError>
     text.extend_from_slice(b"\n")
 }
 
-/// The body that asks for the command of these words, with what standard input has.
-fn body_of(alloc: Global, words: &[String], input: &[u8]) -> Result<Vec<u8>, AllocError>
+/// The body that asks for the command of these words, with what standard input has. The words are those of a command
+/// line behind the program's name.
+///
+/// # Errors
+///
+/// Want of memory.
+pub fn body_of(alloc: Global, words: &[String], input: &[u8]) -> Result<Vec<u8>, AllocError>
     ensures { IfOk result (λ body. body.items ≡ body_text words.now input.now) }
 {
     let mut text = Vec::new(alloc);

@@ -16,12 +16,17 @@ module _ {S : Type 0} (g : Ghosts S) where
   abbrev pub IsUntouched : List (Held S) → List (Held S) → Type 0
   IsUntouched old new = (new ≡ old) ⊎ AreOnlyRead g old new
 
-  -- Stores were asked, if at all, and where each disk has given back what was written the answer is true of the packages that they are of.
-  pub record Asks {X E : Type 0} (Answer : List Package → X → Type 0) (old new : List (Held S)) (r : Result X E) : Type 0 where
+  -- Stores were asked, if at all, and where each disk has given back what was written the answer is true of the
+  -- packages that they are of.
+  pub record Asks {X E : Type 0} (Answer : List Package → X → Type 0) (old new : List (Held S))
+      (r : Result X E) : Type 0 where
     pub read : IsUntouched old new
-    pub told : AreClean g new → IfOk r (λ x. (f : Frame) (packages : List Package) → AreRead g f old packages → Answer packages x)
+    pub told : AreClean g new → IfOk r (λ x. (f : Frame) (packages : List Package) → AreRead g f old packages
+        → Answer packages x)
 
-  -- The stores of a world were only read, if at all, and where each disk has given back what was written the answer is true of each world that it stood for.
-  pub record LooksInto {X E : Type 0} (Answer : World → X → Type 0) (seen : Seen S) (stores : List (Held S)) (r : Result X E) : Type 0 where
+  -- The stores of a world were only read, if at all, and where each disk has given back what was written the answer
+  -- is true of each world that it stood for.
+  pub record LooksInto {X E : Type 0} (Answer : World → X → Type 0) (seen : Seen S) (stores : List (Held S))
+      (r : Result X E) : Type 0 where
     pub read : IsUntouched (held g seen) stores
     pub told : AreClean g stores → IfOk r (λ x. (w : World) → StandsFor g seen w → Answer w x)

@@ -1,4 +1,5 @@
--- What people are told of a world: its live packages by UUID, its ledger, the way of one item through them, and a kept receipt. Profile.
+-- What people are told of a world: its live packages by UUID, its ledger, the way of one item through them, and a
+-- kept receipt. Profile.
 use Rattle.std.specs.Prelude.{ℕ, List, [], ◌∷◌, ◌++◌, map, Option, option_map}
 use Rattle.std.specs.Bool.{then_some}
 use Rattle.std.specs.List.{list_any}
@@ -18,7 +19,15 @@ abbrev pub last_change : World → List ℕ → Option (List ℕ)
 last_change w p = moment_of (receipts_of w) (ticket w p)
 
 abbrev pub package_row : World → Package → PackageRow
-package_row w p = record { uuid = p.uuid; parent = p.parent; depth = p.depth; loan = p.loan; sums = sums_held p; changed = last_change w p.uuid }
+package_row w p =
+    record {
+      uuid = p.uuid;
+      parent = p.parent;
+      depth = p.depth;
+      loan = p.loan;
+      sums = sums_held p;
+      changed = last_change w p.uuid;
+    }
 
 abbrev pub package_rows : World → List PackageRow
 package_rows w = map (package_row w) w.packages

@@ -27,7 +27,9 @@ fn log_by<S: Alter + Drop>(
     excerpt: &Excerpt<'_>,
 ) -> Result<String, Fault>
     requires { AreAtRest S.Store stores.old.items }
-    ensures { AsksStores S.Store (λ packages text. string_bytes text ≡ told_excerpt form (ledger_of packages) excerpt.now) stores.old.items stores.new.items result }
+    ensures { AsksStores S.Store
+        (λ packages text. string_bytes text ≡ told_excerpt form (ledger_of packages) excerpt.now)
+        stores.old.items stores.new.items result }
 {
     let ledger = ledger_of(stores, alloc)?;
     let text = told_excerpt(alloc, form, &ledger, excerpt)?;
@@ -43,7 +45,9 @@ fn log_in<S: Alter + Drop>(
     excerpt: &Excerpt<'_>,
 ) -> Result<String, Fault>
     ensures counted { OnOk result (count ≡ Ok (length stores.old.items)) }
-    ensures asked { Asks S.Store (λ packages text. string_bytes text ≡ told_excerpt form (ledger_of packages) excerpt.now) stores.old.items stores.new.items result }
+    ensures asked { Asks S.Store
+        (λ packages text. string_bytes text ≡ told_excerpt form (ledger_of packages) excerpt.now)
+        stores.old.items stores.new.items result }
 {
     let count = count?;
     if !are_ready(stores, count) {
@@ -53,7 +57,8 @@ fn log_in<S: Alter + Drop>(
     Ok(text)
 }
 
-/// The receipts of a world that are asked for, by number. All receipts are in memory at once, as they are while a world is opened. The world ends with it; its stores are handed on.
+/// The receipts of a world that are asked for, by number. All receipts are in memory at once, as they are while a
+/// world is opened. The world ends with it; its stores are handed on.
 ///
 /// # Errors
 ///
@@ -64,7 +69,8 @@ pub fn log_of<S: Alter + Drop>(
     form: Form,
     excerpt: &Excerpt<'_>,
 ) -> (Result<String, Fault>, Vec<Connection<S>>)
-    ensures { LooksInto S.Store (λ w text. string_bytes text ≡ log_text form w excerpt.now) world result.1.items result.0 }
+    ensures { LooksInto S.Store (λ w text. string_bytes text ≡ log_text form w excerpt.now) world
+        result.1.items result.0 }
 {
     let count = count_of(alloc, &world);
     let mut stores = world.into_stores();
@@ -101,7 +107,8 @@ pub fn log_text_in<S: Alter + Drop>(
     form: Form,
     excerpt: &Excerpt<'_>,
 ) -> Result<String, Fault>
-    ensures told { TellsOf S.Store (λ w text. string_bytes text ≡ log_text form w excerpt.now) world.old world.new result }
+    ensures told { TellsOf S.Store (λ w text. string_bytes text ≡ log_text form w excerpt.now) world.old
+        world.new result }
     ensures read { IsLookedAt S.Store world.old world.new }
 {
     let ledger = ledger_in(alloc, world)?;

@@ -1,4 +1,5 @@
-//! What a world tells people who look: a table of its packages, the way of one item, and a kept receipt. It is only read.
+//! What a world tells people who look: a table of its packages, the way of one item, and a kept receipt. It is only
+//! read.
 #![tactic(auto)]
 
 pub mod asking;

@@ -40,7 +40,8 @@ fn sums_of<S: Alter + Drop>(
     world: &World<S>,
     sights: &[PackageSight],
 ) -> Result<Vec<Sums>, Fault>
-    ensures { IfOk result (λ sums. (w : ModelWorld) → StandsFor S.Store world.now w → map (λ x. Some x) sums.items ≡ map (λ s. sums_of w s.uuid) sights.now) }
+    ensures { IfOk result (λ sums. (w : ModelWorld) → StandsFor S.Store world.now w
+        → map (λ x. Some x) sums.items ≡ map (λ s. sums_of w s.uuid) sights.now) }
 {
     let mut all = Vec::new(alloc);
     for at in 0..sights.len() {
@@ -58,7 +59,8 @@ fn sums_of<S: Alter + Drop>(
 ///
 /// Want of memory, or a world that has failed.
 pub fn kept_of<S: Alter + Drop>(alloc: Global, world: &World<S>) -> Result<Kept, Fault>
-    ensures { IfOk result (λ kept. (w : ModelWorld) → StandsFor S.Store world.now w → AreKept w kept.sights.items kept.sums.items) }
+    ensures { IfOk result (λ kept. (w : ModelWorld) → StandsFor S.Store world.now w
+        → AreKept w kept.sights.items kept.sums.items) }
 {
     usable(world)?;
     let sights = world.packages(alloc)?;
@@ -91,7 +93,8 @@ fn rows_of(
     loans: &[u64],
     moments: &[Option<Text>],
 ) -> Result<Vec<PackageRow>, Fault>
-    ensures { IfOk result (λ rows. (w : ModelWorld) → AreKept w sights.now sums.now → AreAsked w loans.now moments.now → rows.items ≡ package_rows w) }
+    ensures { IfOk result (λ rows. (w : ModelWorld) → AreKept w sights.now sums.now
+        → AreAsked w loans.now moments.now → rows.items ≡ package_rows w) }
 {
     let count = sights.len();
     if sums.len() != count || loans.len() != count || moments.len() != count {
@@ -124,7 +127,9 @@ fn table_by<S: Alter + Drop>(
     strays: u64,
 ) -> Result<String, Fault>
     requires { AreAtRest S.Store stores.old.items }
-    ensures { AsksStores S.Store (λ packages text. (w : ModelWorld) → packages ≡ w.packages → AreKept w kept.now.sights.items kept.now.sums.items → string_bytes text ≡ status_text form w strays) stores.old.items stores.new.items result }
+    ensures { AsksStores S.Store (λ packages text. (w : ModelWorld) → packages ≡ w.packages
+        → AreKept w kept.now.sights.items kept.now.sums.items
+        → string_bytes text ≡ status_text form w strays) stores.old.items stores.new.items result }
 {
     let loans = loans_of(stores, alloc)?;
     let tickets = tickets_of(alloc, &kept.sights)?;
@@ -142,8 +147,11 @@ fn table_of<S: Alter + Drop>(
     form: Form,
     strays: u64,
 ) -> Result<String, Fault>
-    ensures counted { OnOk result (MatchResult kept (λ k. length k.sights.items ≡ length stores.old.items) (λ fault. ⊥)) }
-    ensures asked { Asks S.Store (λ packages text. (w : ModelWorld) → packages ≡ w.packages → IfOk kept (λ k. AreKept w k.sights.items k.sums.items) → string_bytes text ≡ status_text form w strays) stores.old.items stores.new.items result }
+    ensures counted { OnOk result (MatchResult kept (λ k. length k.sights.items ≡ length stores.old.items)
+        (λ fault. ⊥)) }
+    ensures asked { Asks S.Store (λ packages text. (w : ModelWorld) → packages ≡ w.packages
+        → IfOk kept (λ k. AreKept w k.sights.items k.sums.items)
+        → string_bytes text ≡ status_text form w strays) stores.old.items stores.new.items result }
 {
     let kept = kept?;
     if !are_ready(stores, kept.sights.len()) {
@@ -153,7 +161,8 @@ fn table_of<S: Alter + Drop>(
     Ok(text)
 }
 
-/// Each live package by UUID, on a line; and how many files are of none. The world ends with it; its stores are handed on.
+/// Each live package by UUID, on a line; and how many files are of none. The world ends with it; its stores are
+/// handed on.
 ///
 /// # Errors
 ///
@@ -164,7 +173,8 @@ pub fn status_of<S: Alter + Drop>(
     form: Form,
     strays: u64,
 ) -> (Result<String, Fault>, Vec<Connection<S>>)
-    ensures { LooksInto S.Store (λ w text. string_bytes text ≡ status_text form w strays) world result.1.items result.0 }
+    ensures { LooksInto S.Store (λ w text. string_bytes text ≡ status_text form w strays) world
+        result.1.items result.0 }
 {
     let kept = kept_of(alloc, &world);
     let mut stores = world.into_stores();
@@ -191,7 +201,9 @@ fn moments_in<S: Alter + Drop>(
     world: &mut World<S>,
     numbers: &[u64],
 ) -> Result<Vec<Option<Text>>, Fault>
-    ensures told { TellsOf S.Store (λ w moments. moments.items ≡ map (moment_of (receipts_of w)) numbers.now) world.old world.new result }
+    ensures told { TellsOf S.Store
+        (λ w moments. moments.items ≡ map (moment_of (receipts_of w)) numbers.now) world.old
+        world.new result }
     ensures read { IsLookedAt S.Store world.old world.new }
 {
     let mut moments = Vec::new(alloc);
@@ -213,7 +225,8 @@ pub fn status_text_in<S: Alter + Drop>(
     form: Form,
     strays: u64,
 ) -> Result<String, Fault>
-    ensures told { TellsOf S.Store (λ w text. string_bytes text ≡ status_text form w strays) world.old world.new result }
+    ensures told { TellsOf S.Store (λ w text. string_bytes text ≡ status_text form w strays) world.old
+        world.new result }
     ensures read { IsLookedAt S.Store world.old world.new }
 {
     let kept = kept_of(alloc, world)?;

@@ -32,7 +32,8 @@ pub fn receipt_line<S: Alter + Drop>(
     world: &mut World<S>,
     request: Uuid,
 ) -> Result<Option<String>, Fault>
-    ensures told { TellsOf S.Store (λ w found. option_map string_bytes found ≡ receipt_line w request) world.old world.new result }
+    ensures told { TellsOf S.Store (λ w found. option_map string_bytes found ≡ receipt_line w request)
+        world.old world.new result }
     ensures read { IsRead S.Store world.old world.new }
 {
     match world.receipt(alloc, request)? {

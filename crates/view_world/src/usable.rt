@@ -40,7 +40,8 @@ fn are_at_rest<S: Alter + Drop>(stores: &[Connection<S>]) -> bool
     true
 }
 
-/// Whether there are so many stores, and none is inside a transaction. Those of a world that has not failed always are so, which it says to nobody.
+/// Whether there are so many stores, and none is inside a transaction. Those of a world that has not failed always
+/// are so, which it says to nobody.
 pub fn are_ready<S: Alter + Drop>(stores: &[Connection<S>], count: usize) -> bool
     ensures counted { IsTrue result → length stores.now ≡ count }
     ensures rests { IsTrue result → AreAtRest S.Store stores.now }

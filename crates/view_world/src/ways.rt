@@ -28,7 +28,9 @@ fn way_by<S: Alter + Drop>(
     identity: Uuid,
 ) -> Result<Option<String>, Fault>
     requires { AreAtRest S.Store stores.old.items }
-    ensures { AsksStores S.Store (λ packages found. option_map string_bytes found ≡ then_some (list_any (speaks_of identity) (ledger_of packages)) (told_way form identity (ledger_of packages))) stores.old.items stores.new.items result }
+    ensures { AsksStores S.Store (λ packages found. option_map string_bytes found
+        ≡ then_some (list_any (speaks_of identity) (ledger_of packages))
+        (told_way form identity (ledger_of packages))) stores.old.items stores.new.items result }
 {
     let ledger = ledger_of(stores, alloc)?;
     let found = told_way(alloc, form, &ledger, identity)?;
@@ -44,7 +46,9 @@ fn way_in<S: Alter + Drop>(
     identity: Uuid,
 ) -> Result<Option<String>, Fault>
     ensures counted { OnOk result (count ≡ Ok (length stores.old.items)) }
-    ensures asked { Asks S.Store (λ packages found. option_map string_bytes found ≡ then_some (list_any (speaks_of identity) (ledger_of packages)) (told_way form identity (ledger_of packages))) stores.old.items stores.new.items result }
+    ensures asked { Asks S.Store (λ packages found. option_map string_bytes found
+        ≡ then_some (list_any (speaks_of identity) (ledger_of packages))
+        (told_way form identity (ledger_of packages))) stores.old.items stores.new.items result }
 {
     let count = count?;
     if !are_ready(stores, count) {
@@ -54,7 +58,9 @@ fn way_in<S: Alter + Drop>(
     Ok(found)
 }
 
-/// The way of an item as lines: one for each receipt that names its identity, by number, and where it stands now. `None` where no receipt names it. All receipts are in memory at once, as they are while a world is opened. The world ends with it; its stores are handed on.
+/// The way of an item as lines: one for each receipt that names its identity, by number, and where it stands now.
+/// `None` where no receipt names it. All receipts are in memory at once, as they are while a world is opened. The
+/// world ends with it; its stores are handed on.
 ///
 /// # Errors
 ///
@@ -65,7 +71,8 @@ pub fn way_of<S: Alter + Drop>(
     form: Form,
     identity: Uuid,
 ) -> (Result<Option<String>, Fault>, Vec<Connection<S>>)
-    ensures { LooksInto S.Store (λ w found. option_map string_bytes found ≡ way_answer form w identity) world result.1.items result.0 }
+    ensures { LooksInto S.Store (λ w found. option_map string_bytes found
+        ≡ way_answer form w identity) world result.1.items result.0 }
 {
     let count = count_of(alloc, &world);
     let mut stores = world.into_stores();
@@ -84,7 +91,8 @@ pub fn way_text_in<S: Alter + Drop>(
     form: Form,
     identity: Uuid,
 ) -> Result<Option<String>, Fault>
-    ensures told { TellsOf S.Store (λ w found. option_map string_bytes found ≡ way_answer form w identity) world.old world.new result }
+    ensures told { TellsOf S.Store (λ w found. option_map string_bytes found ≡ way_answer form w identity)
+        world.old world.new result }
     ensures read { IsLookedAt S.Store world.old world.new }
 {
     let ledger = ledger_in(alloc, world)?;

@@ -6,7 +6,11 @@ pub fields-init : goal.fields-init
 fields-init g c = no_fields _
 
 pub fields-preserved : goal.fields-preserved
-fields-preserved g c = more_fields _ _ _ _ c.fields.invariant c.in_ok-line.ensures (rw c.as_slice.ensures.value at (c.is_blank.ensures.no c.if-is_blank.false))
+fields-preserved g c =
+    more_fields _ _ _ _ c.fields.invariant c.in_ok-line.ensures
+    (rw c.as_slice.ensures.value at (c.is_blank.ensures.no c.if-is_blank.false))
 
 pub returns-then-is_blank : goal.returns-then-is_blank
-returns-then-is_blank g c = fields_end _ _ _ _ c.fields.invariant c.in_ok-line.ensures (rw c.as_slice.ensures.value at (c.is_blank.ensures.yes c.if-is_blank.true))
+returns-then-is_blank g c =
+    fields_end _ _ _ _ c.fields.invariant c.in_ok-line.ensures
+    (rw c.as_slice.ensures.value at (c.is_blank.ensures.yes c.if-is_blank.true))

@@ -7,7 +7,8 @@ pub loop-left-init : goal.loop-left-init
 loop-left-init g c = none_moved _ _ _
 
 pub loop-left-preserved : goal.loop-left-preserved
-loop-left-preserved g c = more_moved _ _ _ _ _ _ _ _ _ _ c.loop-left.invariant c.in_ok-copy_piece.ensures (search rules) (search rules)
+loop-left-preserved g c = more_moved _ _ _ _ _ _ _ _ _ _ c.loop-left.invariant c.in_ok-copy_piece.ensures
+    (search rules) (search rules)
 
 pub returns : goal.returns
 returns g c = all_moved _ _ _ _ _ _ (omega arith) c.loop-left.invariant

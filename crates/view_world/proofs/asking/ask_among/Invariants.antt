@@ -11,5 +11,6 @@ use Rattle.view_world.proofs.asking.ask_among.Given as goal
 abbrev pub invariant-loop-sight : goal.invariant-loop-sight
 invariant-loop-sight g l = record {
   read : IsLookedAt g.S.Store l.fn.world l.world;
-  told : AllClean g.S.Store l.world.members → (w : World) → StandsFor g.S.Store l.fn.world w → AllZip (IsToldOf (g.Q.Question.tells l.fn.question) w) (take l.sight-index l.sights) l.answers.items;
+  told : AllClean g.S.Store l.world.members → (w : World) → StandsFor g.S.Store l.fn.world w
+      → AllZip (IsToldOf (g.Q.Question.tells l.fn.question) w) (take l.sight-index l.sights) l.answers.items;
 }

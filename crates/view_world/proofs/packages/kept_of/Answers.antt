@@ -6,5 +6,6 @@ pub returns : goal.returns
 returns g c = λ w stands.
     record {
       seen = c.in_ok-sights.ensures w stands;
-      held = sums_seen w stands.members.register.arranged c.in_ok-sights.sights.items c.in_ok-sums.sums.items (c.in_ok-sights.ensures w stands) (rw c.deref.ensures.value at c.in_ok-sums.ensures w stands);
+      held = sums_seen w stands.members.register.arranged c.in_ok-sights.sights.items c.in_ok-sums.sums.items
+          (c.in_ok-sights.ensures w stands) (rw c.deref.ensures.value at c.in_ok-sums.ensures w stands);
     }

@@ -13,23 +13,28 @@ loop-at-init g c = record { read = inl refl; told = λ clean w stands. c.new-mom
 
 pub returns-in_err-moment-clause-read : goal.returns-in_err-moment-clause-read
 returns-in_err-moment-clause-read g c =
-    looked_then g.S.Store c.args.world.now c.loop-at.world c.moment_in.new.world c.loop-at.invariant.read c.in_err-moment.ensures.read
+    looked_then g.S.Store c.args.world.now c.loop-at.world c.moment_in.new.world c.loop-at.invariant.read
+    c.in_err-moment.ensures.read
 
 pub returns-in_err-push-clause-read : goal.returns-in_err-push-clause-read
 returns-in_err-push-clause-read g c =
-    looked_then g.S.Store c.args.world.now c.loop-at.world c.moment_in.new.world c.loop-at.invariant.read c.in_ok-moment.ensures.read
+    looked_then g.S.Store c.args.world.now c.loop-at.world c.moment_in.new.world c.loop-at.invariant.read
+    c.in_ok-moment.ensures.read
 
 pub loop-at-preserved : goal.loop-at-preserved
 loop-at-preserved g c = record {
-  read = looked_then g.S.Store c.args.world.now c.loop-at.world c.moment_in.new.world c.loop-at.invariant.read c.in_ok-moment.ensures.read;
+  read = looked_then g.S.Store c.args.world.now c.loop-at.world c.moment_in.new.world c.loop-at.invariant.read
+      c.in_ok-moment.ensures.read;
   told = λ clean w stands.
       let before = looked_clean g.S.Store c.loop-at.world c.moment_in.new.world c.in_ok-moment.ensures.read clean in
       let now = looked_stands g.S.Store c.args.world.now c.loop-at.world c.loop-at.invariant.read w stands in
       chosen _ _ _ _ c.push.ensures.items (ap is_ok c.in_ok-push.was)
-      ∙ map_next (moment_of (receipts_of w)) c.args.numbers.now c.loop-at.at c.in_ok-moment.moment _ c.loop-at-test.true (c.loop-at.invariant.told before w stands) (c.in_ok-moment.ensures.told clean w now);
+      ∙ map_next (moment_of (receipts_of w)) c.args.numbers.now c.loop-at.at c.in_ok-moment.moment _
+      c.loop-at-test.true (c.loop-at.invariant.told before w stands) (c.in_ok-moment.ensures.told clean w now);
 }
 
 pub returns-clause-told : goal.returns-clause-told
 returns-clause-told g c = λ clean w stands.
     let past : length c.args.numbers.now ≤ c.loop-at.at = omega (arith, c.loop-at-test.false) in
-    c.loop-at.invariant.told clean w stands ∙ ap (map (moment_of (receipts_of w))) (take_all c.loop-at.at c.args.numbers.now past)
+    c.loop-at.invariant.told clean w stands
+    ∙ ap (map (moment_of (receipts_of w))) (take_all c.loop-at.at c.args.numbers.now past)

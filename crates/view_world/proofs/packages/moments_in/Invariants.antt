@@ -10,5 +10,6 @@ use Rattle.view_world.proofs.packages.moments_in.Given as goal
 abbrev pub invariant-loop-at : goal.invariant-loop-at
 invariant-loop-at g l = record {
   read : IsLookedAt g.S.Store l.fn.world l.world;
-  told : AllClean g.S.Store l.world.members → (w : World) → StandsFor g.S.Store l.fn.world w → l.moments.items ≡ map (moment_of (receipts_of w)) (take l.at l.numbers);
+  told : AllClean g.S.Store l.world.members → (w : World) → StandsFor g.S.Store l.fn.world w
+      → l.moments.items ≡ map (moment_of (receipts_of w)) (take l.at l.numbers);
 }
