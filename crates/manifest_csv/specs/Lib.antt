@@ -1,3 +1,4 @@
+pub mod ByItems
 pub mod Imports
 pub mod Manifests
 pub mod PackageManifests

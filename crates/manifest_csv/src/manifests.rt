@@ -26,7 +26,7 @@ fn write_record(writer: &mut Writer<Vec<u8>>, fields: &[&[u8]]) -> Result<(), Ou
 }
 
 // Writes the names of the columns.
-fn write_header(writer: &mut Writer<Vec<u8>>) -> Result<(), OutOfMemory>
+pub(crate) fn write_header(writer: &mut Writer<Vec<u8>>) -> Result<(), OutOfMemory>
     requires { IsBetween writer.old }
     ensures text { OnOk result (Appends (text_written (λ v. Some v.items) writer.old) (text_written (λ v. Some v.items) writer.new) (row_text default_writer manifest_header)) }
     ensures between { OnOk result (IsBetween writer.new) }
@@ -148,7 +148,7 @@ fn write_row(
 }
 
 // What a manifest has a record of.
-trait Record {
+pub(crate) trait Record {
     ghost fields: { Self → List (List ℕ) };
 
     // Writes the record.
@@ -199,7 +199,7 @@ impl Record for Relation {
 }
 
 // Writes the records in turn.
-fn write_records<R: Record>(
+pub(crate) fn write_records<R: Record>(
     writer: &mut Writer<Vec<u8>>,
     alloc: Global,
     records: &[R],
@@ -214,6 +214,17 @@ fn write_records<R: Record>(
     Ok(())
 }
 
+// All that was written.
+pub(crate) fn text_of(writer: Writer<Vec<u8>>) -> Result<Vec<u8>, OutOfMemory>
+    requires { IsBetween writer }
+    ensures { IfOk result (λ text. Some text.items ≡ text_written (λ v. Some v.items) writer) }
+{
+    match writer.into_inner() {
+        Ok(text) => Ok(text),
+        Err(_) => Err(OutOfMemory),
+    }
+}
+
 /// The manifest of a package that holds these items and links: a header and one record each, as CSV (RFC 4180, section 2) with LF ends (profile). The order is that of the lists, which the register keeps by kind, identity and other end.
 pub fn manifest_text(
     alloc: Global,
@@ -226,8 +237,5 @@ pub fn manifest_text(
     write_header(&mut writer)?;
     write_records(&mut writer, alloc, items)?;
     write_records(&mut writer, alloc, links)?;
-    match writer.into_inner() {
-        Ok(text) => Ok(text),
-        Err(_) => Err(OutOfMemory),
-    }
+    text_of(writer)
 }

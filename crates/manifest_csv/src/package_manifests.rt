@@ -3,7 +3,7 @@ ghost use Rattle.std.specs.Prelude.{◌≡◌};
 ghost use Rattle.world.specs.Worlds.{IsRead};
 ghost use Rattle.manifest_csv.specs.PackageManifests.{IsManifest, WritesNothing};
 
-use crate::manifests::manifest_text;
+use crate::questions::{ManifestText, is_large};
 use crate::sending::{WriteFault, send};
 use package_tables::fault::Fault;
 use sheet_types::error::OutOfMemory;
@@ -55,7 +55,7 @@ impl From<WriteFault> for ManifestFault {
     }
 }
 
-/// Writes the manifest of a package: a line for each item, by kind and identity, and then for each link, by mapping, base and medium. The text is made whole before any of it is written.
+/// Writes the manifest of a package: a line for each item, by kind and identity, and then for each link, by mapping, base and medium. The text is made whole before any of it is written. Of a package of many bytes one content is in memory at a time.
 ///
 /// # Errors
 ///
@@ -70,10 +70,12 @@ pub fn write_manifest<S: Alter + Drop, W: Write>(
     ensures written { IsManifest S.Store «package» world.old world.new (W.contents writer.old) (W.contents writer.new) result }
     ensures nothing { WritesNothing writer.old writer.new result }
 {
-    let Some((items, links)) = world.holdings(alloc, package)? else {
+    let question = ManifestText {
+        by_items: is_large(world, package),
+    };
+    let Some(text) = world.ask(alloc, package, &question)? else {
         return Err(ManifestFault::Unknown);
     };
-    let text = manifest_text(alloc, items.as_slice(), links.as_slice())?;
     send(writer, text.as_slice())?;
     Ok(())
 }
