@@ -23,7 +23,8 @@ use Rattle.view_report.specs.Pages.{page_text}
 use Rattle.view_report.specs.declared.registers.Name.{Name}
 use Rattle.view_report.specs.declared.registers.Register.{Register}
 use Rattle.view_page.specs.Registers.{IsRegisterOf, LooksThrough}
-use Rattle.world.specs.Worlds.{Seen}
+use Rattle.view_world.specs.Looks.{IsLookedAt}
+use Rattle.world.specs.Worlds.{Seen, TellsOf}
 
 -- what was asked of a register, and a text of it: its page or its map always, and the page of a loan where there is
 -- such a loan
@@ -70,6 +71,14 @@ ShowsFault paper fault writer writer' before after ending =
     ⊎ ((ending ≡ Usual (Stopped OutOfMemory)) × (writer' ≡ writer))
 
 module _ {S : Type 0} (g : Ghosts S) {W : Type 0} where
+  -- What was asked of the world was printed, and the world was only read, if at all. It stays.
+  pub record ShowsOver (names : List Name) (paper : Paper) (old new : Seen S) (writer writer' : W)
+      (before after : Option (List ℕ)) (ending : Ending) : Type 0 where
+    pub found : Result (Option (List ℕ)) Fault
+    pub told : TellsOf g (λ w text. IsPaperOf w names paper text) old new found
+    pub read : IsLookedAt g old new
+    pub shown : ShowsText found writer writer' before after ending
+
   -- What was asked of the world was printed, and the world and its stores were only read.
   pub record ShowsPage (names : List Name) (paper : Paper) (seen : Seen S) (stores : List (Held S)) (writer writer' : W)
       (before after : Option (List ℕ)) (ending : Ending) : Type 0 where

@@ -7,15 +7,17 @@ ghost use Rattle.view_page.specs.Pages.{
   IsPaperOf,
   OpensPage,
   ShowsFault,
+  ShowsOver,
   ShowsPage,
   ShowsText,
   as_bytes,
   page_of_fault,
   text_of_fault,
 };
-ghost use Rattle.view_page.specs.Registers.{LooksThrough};
+ghost use Rattle.view_world.specs.Looks.{IsLookedAt};
+ghost use Rattle.world.specs.Worlds.{TellsOf};
 
-use crate::registers::register_of;
+use crate::registers::register_in;
 use command_folder::endings::{DONE, Ending, FAILED, NO_MEMORY, OpenFault};
 use command_folder::folders::{OpenFolder, open_folder};
 use command_words::statuses::{Failure, Outcome};
@@ -81,22 +83,23 @@ fn text_of(
     }
 }
 
-/// What is asked of a world, with these names; none where it is of no loan that lives. The world ends with it; its stores are handed on.
+/// What is asked of a world, with these names; none where it is of no loan that lives. The world stays.
 ///
 /// # Errors
 ///
-/// Want of memory, a store that failed, or a world that has.
-pub fn page_of<S: Alter + Drop>(
+/// Want of memory, a store that failed, or a world that has. The world has not failed by that.
+pub fn page_in<S: Alter + Drop>(
     alloc: Global,
-    world: World<S>,
+    world: &mut World<S>,
     names: Vec<Name>,
     paper: Paper,
-) -> (Result<Option<String>, Fault>, Vec<Connection<S>>)
-    ensures { LooksThrough S.Store (λ w found. IsPaperOf w names.items paper (option_map string_bytes found)) world result.1.items result.0 }
+) -> Result<Option<String>, Fault>
+    ensures told { TellsOf S.Store (λ w found. IsPaperOf w names.items paper (option_map string_bytes found))
+        world.old world.new result }
+    ensures read { IsLookedAt S.Store world.old world.new }
 {
-    let (register, stores) = register_of(alloc, world, names);
-    let text = text_of(alloc, register, paper);
-    (text, stores)
+    let register = register_in(alloc, world, names);
+    text_of(alloc, register, paper)
 }
 
 /// Writes a text, and ends as is due.
@@ -120,19 +123,34 @@ fn show<W: Write>(writer: &mut W, found: Result<Option<String>, Fault>) -> Endin
     }
 }
 
-/// Writes what is asked of a world, whose stores are handed on.
+/// Writes what is asked of a world, which stays.
+pub fn report_over<S: Alter + Drop, W: Write>(
+    alloc: Global,
+    world: &mut World<S>,
+    names: Vec<Name>,
+    paper: Paper,
+    writer: &mut W,
+) -> Ending
+    ensures { ShowsOver S.Store names.items paper world.old world.new writer.old writer.new
+        (W.contents writer.old) (W.contents writer.new) result }
+{
+    let found = page_in(alloc, world, names, paper);
+    show(writer, found)
+}
+
+/// The same of a world that ends with it; its stores are handed on.
 pub fn report_in<S: Alter + Drop, W: Write>(
     alloc: Global,
-    world: World<S>,
+    mut world: World<S>,
     names: Vec<Name>,
     paper: Paper,
     writer: &mut W,
 ) -> (Ending, Vec<Connection<S>>)
-    ensures { ShowsPage S.Store names.items paper world result.1.items writer.old writer.new (W.contents writer.old) (W.contents writer.new) result.0 }
+    ensures { ShowsPage S.Store names.items paper world result.1.items writer.old writer.new
+        (W.contents writer.old) (W.contents writer.new) result.0 }
 {
-    let (found, stores) = page_of(alloc, world, names, paper);
-    let ending = show(writer, found);
-    (ending, stores)
+    let ending = report_over(alloc, &mut world, names, paper, writer);
+    (ending, world.into_stores())
 }
 
 /// The page of a folder that is not opened, where its stores stand for no world.

@@ -1,13 +1,12 @@
 //! The register that a page tells of, of a world.
-ghost use Rattle.std.specs.Prelude.{◌≡◌, length, map, IfOk, IsTrue, OnOk, MatchResult};
+ghost use Rattle.std.specs.Prelude.{◌≡◌, map, IfOk, IsTrue};
 ghost use Rattle.sheet_types.specs.Ordered.{arranged};
 ghost use Rattle.sheet_types.specs.World.{World as ModelWorld, receipts_of};
-ghost use Rattle.view_history.specs.Stores.{AreAtRest, AsksStores};
 ghost use Rattle.command_requests.specs.Listing.{IsUntouched};
 ghost use Rattle.sheet_types.specs.Matrix.{is_good_frame};
-ghost use Rattle.view_page.specs.Registers.{IsRegisterOf, IsSeenOf, LooksThrough, live_of, loan_key};
+ghost use Rattle.view_page.specs.Registers.{IsRegisterOf, IsSeenOf, live_of, loan_key};
 ghost use Rattle.view_world.specs.Kept.{AreKept};
-ghost use Rattle.view_world.specs.Looks.{Asks};
+ghost use Rattle.view_world.specs.Looks.{IsLookedAt};
 ghost use Rattle.world.specs.Worlds.{TellsOf};
 
 use crate::contents::{Contents, contents_among, in_depth};
@@ -15,15 +14,15 @@ use matrix_rules::check::FrameRules;
 use package_tables::fault::Fault;
 use sheet_types::frame::Frame;
 use sheet_types::receipt::{Receipt, Sums};
-use sqlite::{Alter, Connection};
+use sqlite::Alter;
 use std::alloc::{AllocError, Global};
 use uuid::Uuid;
-use view_history::ledgers::ledger_of;
-use view_history::loans::loans_of;
+use view_history::loans::LoanOf;
 use view_report::lists::{Names, Things};
 use view_report::registers::{Live, Name, Register, number_of};
+use view_world::asking::ask_each;
+use view_world::ledgers::ledger_in;
 use view_world::packages::{Kept, kept_of};
-use view_world::usable::are_ready;
 use world::reading::PackageSight;
 use world::world::World;
 
@@ -90,23 +89,22 @@ fn look_over<S: Alter + Drop>(
     Ok((kept, contents))
 }
 
-/// The register by what was seen of a world, and by its stores.
-fn register_by<S: Alter + Drop>(
+/// The register by what was seen of a world, the splits that made its packages, and its receipts.
+fn register_by(
     frame: Frame,
     seen: (Kept, Contents),
     names: Vec<Name>,
-    stores: &mut Vec<Connection<S>>,
     alloc: Global,
+    loans: &[u64],
+    receipts: Vec<Receipt>,
 ) -> Result<Register, Fault>
-    requires { AreAtRest S.Store stores.old.items }
-    ensures asked { AsksStores S.Store (λ packages r. (w : ModelWorld) → packages ≡ w.packages → w.frame ≡ frame
-        → IsSeenOf w seen.0 seen.1 → IsRegisterOf w names.items r) stores.old.items stores.new.items result }
+    ensures so { IfOk result (λ r. (w : ModelWorld) → w.frame ≡ frame → IsSeenOf w seen.0 seen.1
+        → loans.now ≡ map (λ p. p.loan) w.packages → receipts.items ≡ receipts_of w
+        → IsRegisterOf w names.items r) }
     ensures framed { IfOk result (λ r. r.frame ≡ frame) }
 {
     let (kept, contents) = seen;
-    let loans = loans_of(stores, alloc)?;
-    let receipts = ledger_of(stores, alloc)?;
-    let lives = lives_of(alloc, &kept.sights, &kept.sums, &loans, &receipts)?;
+    let lives = lives_of(alloc, &kept.sights, &kept.sums, loans, &receipts)?;
     let packages = in_order(lives)?;
     let Some(first) = packages.first() else {
         return Err(Fault::StoreFault);
@@ -126,47 +124,37 @@ fn register_by<S: Alter + Drop>(
     })
 }
 
-/// The same, where there are as many stores as packages, and the frame is good.
-fn register_in<S: Alter + Drop>(
-    frame: Frame,
-    seen: Result<(Kept, Contents), Fault>,
-    names: Vec<Name>,
-    stores: &mut Vec<Connection<S>>,
+/// The numbers of the splits that made the packages of a world, by UUID; 0 of an archive.
+fn loans_in<S: Alter + Drop>(alloc: Global, world: &mut World<S>) -> Result<Vec<u64>, Fault>
+    ensures told { TellsOf S.Store (λ w loans. loans.items ≡ map (λ p. p.loan) w.packages)
+        world.old world.new result }
+    ensures read { IsLookedAt S.Store world.old world.new }
+{
+    ask_each(alloc, world, &LoanOf)
+}
+
+/// The register that a page tells of, of a world and with these names. The world stays. All receipts are in memory at
+/// once, as they are while a world is opened.
+///
+/// # Errors
+///
+/// Want of memory, a store that failed, or a world that has. The world has not failed by that.
+pub fn register_in<S: Alter + Drop>(
     alloc: Global,
+    world: &mut World<S>,
+    names: Vec<Name>,
 ) -> Result<Register, Fault>
-    ensures counted { OnOk result (MatchResult seen (λ s. length s.0.sights.items ≡ length stores.old.items) (λ fault. ⊥)) }
-    ensures asked { Asks S.Store (λ packages r. (w : ModelWorld) → packages ≡ w.packages → w.frame ≡ frame
-        → IfOk seen (λ s. IsSeenOf w s.0 s.1) → IsRegisterOf w names.items r) stores.old.items stores.new.items result }
+    ensures told { TellsOf S.Store (λ w r. IsRegisterOf w names.items r) world.old world.new result }
+    ensures read { IsLookedAt S.Store world.old world.new }
     ensures good { IfOk result (λ r. IsTrue (is_good_frame r.frame)) }
 {
-    let seen = seen?;
+    let frame = world.frame();
     // The frame of a world is good, and is asked for that here since no call says so.
     if !is_good(&frame) {
         return Err(Fault::StoreFault);
     }
-    if !are_ready(stores, seen.0.sights.len()) {
-        return Err(Fault::StoreFault);
-    }
-    let register = register_by(frame, seen, names, stores, alloc)?;
-    Ok(register)
-}
-
-/// The register that a page tells of, of a world and with these names. The world ends with it; its stores are handed on.
-///
-/// # Errors
-///
-/// Want of memory, a store that failed, or a world that has.
-pub fn register_of<S: Alter + Drop>(
-    alloc: Global,
-    mut world: World<S>,
-    names: Vec<Name>,
-) -> (Result<Register, Fault>, Vec<Connection<S>>)
-    ensures looked { LooksThrough S.Store (λ w r. IsRegisterOf w names.items r) world result.1.items result.0 }
-    ensures good { IfOk result.0 (λ r. IsTrue (is_good_frame r.frame)) }
-{
-    let frame = world.frame();
-    let seen = look_over(alloc, &mut world);
-    let mut stores = world.into_stores();
-    let register = register_in(frame, seen, names, &mut stores, alloc);
-    (register, stores)
+    let seen = look_over(alloc, world)?;
+    let loans = loans_in(alloc, world)?;
+    let receipts = ledger_in(alloc, world)?;
+    register_by(frame, seen, names, alloc, &loans, receipts)
 }

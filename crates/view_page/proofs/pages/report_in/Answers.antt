@@ -1,13 +1,13 @@
--- What was found is written.
-use Rattle.std.specs.Prelude.{string_bytes}
-use Rattle.view_page.specs.Pages.{as_bytes}
-use Rattle.view_page.proofs.Through.{through_bytes}
+-- The world ends where it was looked at.
+use Rattle.view_page.proofs.Through.{looks_through}
 use Rattle.view_page.proofs.pages.report_in.Goals as goal
 
 pub returns : goal.returns
 returns g c =
+    let over = c.report_over-ending.ensures in
     record {
-      found = as_bytes (λ t. string_bytes t) c.page_of-found.result.0;
-      looked = through_bytes g.S.Store (λ t. string_bytes t) c.args.names.items c.args.paper _ _ c.page_of-found.result.0 c.page_of-found.ensures;
-      shown = c.show-ending.ensures;
+      found = over.found;
+      looked = looks_through g.S.Store c.args.world c.report_over-ending.new.world _ over.found
+          over.read c.into_stores.ensures over.told;
+      shown = over.shown;
     }
