@@ -1,6 +1,7 @@
 pub mod Orders
 pub mod Printing
 pub mod Registers
+pub mod Streams
 pub mod Subcommands
 pub mod Tidies
 pub mod Works

@@ -1,5 +1,5 @@
 -- What is printed of a folder that is made tidy, and how the program ends. Profile.
-use Rattle.std.specs.Prelude.{◌≡◌, ◌⊎◌, ℕ, List, Option, Some, None, Result, Ok, Err}
+use Rattle.std.specs.Prelude.{◌≡◌, ◌⊎◌, ℕ, ⊤, List, Option, Some, None, Result, Ok, Err}
 use Rattle.sqlite.specs.Held.{Held, state}
 use Rattle.sqlite.specs.State.{HasCleanDisk}
 use Rattle.sqlite.specs.Store.{Ghosts}
@@ -9,7 +9,7 @@ use Rattle.opening_v1.specs.Either.{IsSeenAtEither}
 use Rattle.opening_verdict.specs.declared.seen.StoreSeen.{StoreSeen}
 use Rattle.store_folder.specs.declared.fault.FolderFault.{FolderFault}
 use Rattle.store_folder.specs.declared.fault.FolderFault.TheVariants as folder
-use Rattle.world.specs.Worlds.{Seen}
+use Rattle.world.specs.Worlds.{Seen, TellsOf}
 use Rattle.command_words.specs.Failures.{of_fault}
 use Rattle.command_words.specs.declared.statuses.Outcome.TheVariants.{Stopped}
 use Rattle.command_tidying.specs.Lines.{removed_lines}
@@ -17,7 +17,7 @@ use Rattle.command_tidying.specs.Tidying.{IsTidied}
 use Rattle.command_tidying.specs.declared.register.Register.{Register}
 use Rattle.command_tidying.specs.declared.tidying.Tidied.{Tidied}
 use Rattle.commands.specs.Registers.{IsRegisterOf}
-use Rattle.view_world.specs.Looks.{LooksInto}
+use Rattle.view_world.specs.Looks.{IsLookedAt as IsWorldLookedAt, LooksInto}
 use Rattle.command_folder.specs.Endings.{done, failed, no_memory}
 use Rattle.command_folder.specs.Folders.{IsFolderWorld}
 use Rattle.command_folder.specs.Printing.{Prints}
@@ -43,9 +43,21 @@ TellsTidy (Ok made) writer writer' before after ending = TellsTidied made writer
 TellsTidy (Err fault) writer writer' before after ending =
     (ending ≡ Usual (Stopped (of_fault fault))) × (writer' ≡ writer)
 
+-- What was taken out by a register, as far as it can be said of files that no clause speaks of: each may go, by what
+-- was seen of a store, or by some names.
+abbrev pub MayBeTidied : Register → Tidied → Type 0
+MayBeTidied register made =
+    IsTidied {Y = Unit {0}} (λ bytes. ⊤) (λ uuid seen. ⊤) (λ name old new. ⊤) register tt tt made
+
+-- by what a register tells that was done; or nothing was
+abbrev pub MakesFolderTidy : Result Register Fault → Result Tidied Fault → Type 0
+MakesFolderTidy (Ok register) (Ok made) = MayBeTidied register made
+MakesFolderTidy (Err fault) (Err told) = told ≡ fault
+MakesFolderTidy register made = ⊥
+
 module _ {S : Type 0} (g : Ghosts S) where
-  -- A store was looked at, and this was seen of it, rightly: where its disk has given back what was written, and its tables
-  -- are in the order of their rowids.
+  -- A store was looked at, and this was seen of it, rightly: where its disk has given back what was written, and its
+  -- tables are in the order of their rowids.
   abbrev pub IsLookedAt : Held S → Held S → StoreSeen → Type 0
   IsLookedAt old new seen =
       HasCleanDisk (state g new) → AreKeyed (state g old).now → IsSeenAtEither (state g old).now seen
@@ -59,7 +71,8 @@ module _ {S : Type 0} (g : Ghosts S) where
     MakesTidy register old new made = ⊥
 
     -- What the register tells is true of each world that the value stood for, and by it the folder was made tidy.
-    pub record TidiesWorld (seen : Seen S) (stores : List (Held S)) (old new : Y) (made : Result Tidied Fault) : Type 0 where
+    pub record TidiesWorld (seen : Seen S) (stores : List (Held S)) (old new : Y)
+        (made : Result Tidied Fault) : Type 0 where
       pub register : Result Register Fault
       pub looked : LooksInto g IsRegisterOf seen stores register
       pub tidied : MakesTidy register old new made
@@ -71,6 +84,17 @@ module _ {S : Type 0} (g : Ghosts S) where
       pub tidied : TidiesWorld seen stores old new made
       pub told : TellsTidy made writer writer' before after ending
 
+    -- The same of a world that stays: it was only read, and what the register tells is true of each world that it stood
+    -- for. By that its folder was made tidy, and what was done is told.
+    pub record StaysTidy {W : Type 0} (seen seen' : Seen S) (old new : Y) (writer writer' : W)
+        (before after : Option (List ℕ)) (ending : Ending) : Type 0 where
+      pub register : Result Register Fault
+      pub known : TellsOf g IsRegisterOf seen seen' register
+      pub read : IsWorldLookedAt g seen seen'
+      pub made : Result Tidied Fault
+      pub tidied : MakesTidy register old new made
+      pub told : TellsTidy made writer writer' before after ending
+
     -- The folder was not opened, and nothing was done; or its world was, and its folder was made tidy.
     abbrev pub Tidies : {W : Type 0} → Y → Y → W → W → Option (List ℕ) → Option (List ℕ) → Ending → Type 0
     Tidies old new writer writer' before after ending =
@@ -78,7 +102,17 @@ module _ {S : Type 0} (g : Ghosts S) where
         ⊎ ((seen : Seen S) × (stores : List (Held S)) × IsFolderWorld g seen
         × EndsTidy seen stores old new writer writer' before after ending)
 
--- The same of a folder of the file system, of whose files no clause can speak.
+  -- The same of a folder of the file system.
+  pub record TidiesBeside {W : Type 0} (seen seen' : Seen S) (writer writer' : W) (before after : Option (List ℕ))
+      (ending : Ending) : Type 0 where
+    pub register : Result Register Fault
+    pub known : TellsOf g IsRegisterOf seen seen' register
+    pub read : IsWorldLookedAt g seen seen'
+    pub made : Result Tidied Fault
+    pub tidied : MakesFolderTidy register made
+    pub told : TellsTidy made writer writer' before after ending
+
+-- The same of a folder that is opened for it, of whose files no clause can speak.
 abbrev pub TidiesFolder : {W : Type 0} → W → W → Option (List ℕ) → Option (List ℕ) → Ending → Type 0
 TidiesFolder writer writer' before after ending =
     ((fault : OpenFault) × (ending ≡ Unopened fault) × (writer' ≡ writer))

@@ -9,7 +9,8 @@ use Rattle.command_words.specs.declared.statuses.What.TheVariants.{BadNumber}
 use Rattle.command_folder.specs.Folders.{OpensThen}
 use Rattle.command_folder.specs.declared.endings.Ending.{Ending}
 use Rattle.command_folder.specs.declared.endings.Ending.TheVariants.{Unopened, Usual}
-use Rattle.commands.specs.Subcommands.{Applies, ImportsFile, ServesOn}
+use Rattle.commands.specs.Streams.{AppliesEach}
+use Rattle.commands.specs.Subcommands.{ImportsFile, ServesOn}
 use Rattle.commands.specs.declared.working.Asked.{Asked}
 use Rattle.commands.specs.declared.working.Asked.TheVariants as asked
 use Rattle.commands.specs.declared.working.Work.{Work}
@@ -33,7 +34,7 @@ module _ {S : Type 0} (g : Ghosts S) (text : Option (List ℕ)) where
       (before after : Option (List ℕ)) where
     -- what is made of a world, and how the program ends then
     abbrev pub Worked : Work → Ending → Type 0
-    Worked Apply ending = Applies g text old new writer writer' before after ending
+    Worked Apply ending = AppliesEach g text old new writer writer' before after ending
     Worked (Import file) ending = ImportsFile g old new writer writer' before after ending
     Worked (Serve desk) ending = ServesOn g desk.count old new ending × (writer' ≡ writer)
 

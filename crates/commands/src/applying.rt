@@ -23,7 +23,7 @@ use store_shelf::shelf::Shelf;
 use world::world::World;
 
 /// The most bytes of a body, as of one that the desk takes over HTTP.
-const MOST_BODY: u64 = 2_200_000;
+pub(crate) const MOST_BODY: u64 = 2_200_000;
 
 /// What is printed where memory was wanting, and nothing has changed.
 fn no_memory_body() -> &'static str
@@ -82,7 +82,7 @@ pub(crate) fn read_body<R: Read + Drop>(alloc: Global, reader: R) -> Result<Vec<
 /// # Errors
 ///
 /// A body that is no request, or want of memory.
-fn asked_of(alloc: Global, body: &[u8]) -> Result<Request, Ending>
+pub(crate) fn asked_of(alloc: Global, body: &[u8]) -> Result<Request, Ending>
     ensures { MatchResult result (IsRequestText body.now) (IsWhyUnasked body.now) }
 {
     match read_request(alloc, body) {
@@ -126,7 +126,7 @@ pub(crate) fn told<W: Write>(writer: &mut W, text: &str, ending: Ending) -> Endi
 }
 
 /// Writes a receipt, which stands whatever memory its text finds.
-fn tell_receipt<W: Write>(alloc: Global, receipt: &Receipt, writer: &mut W) -> Ending
+pub(crate) fn tell_receipt<W: Write>(alloc: Global, receipt: &Receipt, writer: &mut W) -> Ending
     ensures { PrintsReply (Ok receipt.now) (W.contents writer.old) (W.contents writer.new) result }
 {
     match receipt_body(alloc, receipt) {
@@ -165,7 +165,8 @@ pub fn apply_in<S: Alter + Drop, H: Shelf<S>, R: Read + Drop, W: Write>(
     reader: R,
     writer: &mut W,
 ) -> Ending
-    ensures { Applies S.Store (R.remaining reader) world.old world.new writer.old writer.new (W.contents writer.old) (W.contents writer.new) result }
+    ensures { Applies S.Store (R.remaining reader) world.old world.new
+        writer.old writer.new (W.contents writer.old) (W.contents writer.new) result }
 {
     let request = match read_asked(alloc, reader) {
         Ok(request) => request,

@@ -1,4 +1,5 @@
-//! What the program `sheetdesk` does with a folder of packages: the subcommands that may change it, each over its words, the folder, a reader and a writer.
+//! What the program `sheetdesk` does with a folder of packages: the subcommands that may change it, each over its
+//! words, the folder, a reader and a writer.
 #![tactic(auto)]
 
 pub mod applying;
@@ -7,5 +8,6 @@ pub mod init;
 pub mod ordering;
 pub mod registers;
 mod serving;
+pub mod streaming;
 pub mod tidying;
 pub mod working;

@@ -4,9 +4,10 @@ ghost use Rattle.sqlite.specs.Held.{state};
 ghost use Rattle.package_schema.specs.Looking.{LooksAt};
 ghost use Rattle.opening_v1.specs.Either.{IsSeenAtEither};
 ghost use Rattle.store_sql.specs.Transactions.{Rests};
-ghost use Rattle.commands.specs.Tidies.{EndsTidy, IsLookedAt, TellsTidied, Tidies, TidiesFolder, TidiesWorld, tidy_ending};
+ghost use Rattle.commands.specs.Tidies.{EndsTidy, IsLookedAt, StaysTidy, TellsTidied, Tidies, TidiesBeside};
+ghost use Rattle.commands.specs.Tidies.{TidiesFolder, TidiesWorld, tidy_ending};
 
-use crate::registers::register_of;
+use crate::registers::{register_in, register_of};
 use command_folder::endings::{DONE, Ending, FAILED, NO_MEMORY};
 use command_folder::folders::{OpenFolder, open_folder};
 use command_tidying::lines::removed_lines;
@@ -108,7 +109,8 @@ fn ending_of(fault: Option<FolderFault>) -> Ending
 
 /// Tells what was taken out.
 fn tell<W: Write>(alloc: Global, done: &Tidied, writer: &mut W) -> Ending
-    ensures { TellsTidied done.now writer.old writer.new (W.contents writer.old) (W.contents writer.new) result }
+    ensures { TellsTidied done.now writer.old writer.new
+        (W.contents writer.old) (W.contents writer.new) result }
 {
     let Ok(text) = removed_lines(alloc, &done.names) else {
         return NO_MEMORY;
@@ -129,7 +131,8 @@ fn tidy_world<S: Alter + Drop, Y: Yard>(
     world: World<S>,
     yard: &mut Y,
 ) -> (Result<Tidied, Fault>, Vec<Connection<S>>)
-    ensures { TidiesWorld S.Store Y.listed Y.shown Y.removes world result.1.items yard.old yard.new result.0 }
+    ensures { TidiesWorld S.Store Y.listed Y.shown Y.removes world result.1.items
+        yard.old yard.new result.0 }
 {
     let (register, stores) = register_of(alloc, world);
     match register {
@@ -158,6 +161,40 @@ pub fn tidy_in<S: Alter + Drop, Y: Yard, W: Write>(
     }
 }
 
+/// Makes the folder of a world that stays tidy, and writes a line for each file that was taken out. The world is only
+/// read: what lives in it is neither looked into by the yard nor taken out.
+pub fn tidy_over<S: Alter + Drop, Y: Yard, W: Write>(
+    alloc: Global,
+    world: &mut World<S>,
+    yard: &mut Y,
+    writer: &mut W,
+) -> Ending
+    ensures { StaysTidy S.Store Y.listed Y.shown Y.removes world.old world.new yard.old yard.new
+        writer.old writer.new (W.contents writer.old) (W.contents writer.new) result }
+{
+    match register_in(alloc, world) {
+        Ok(register) => {
+            let done = tidy_by(alloc, yard, &register);
+            tell(alloc, &done, writer)
+        }
+        Err(fault) => Ending::Usual(Outcome::Stopped(Failure::from(fault))),
+    }
+}
+
+/// The same of a folder of the file system, whose world this is and which is locked for it.
+pub fn tidy_beside<S: Alter + Drop, W: Write>(
+    rt: &HostRuntime,
+    folder: &str,
+    world: &mut World<S>,
+    writer: &mut W,
+) -> Ending
+    ensures { TidiesBeside S.Store world.old world.new
+        writer.old writer.new (W.contents writer.old) (W.contents writer.new) result }
+{
+    let mut yard = FolderYard { rt, folder };
+    tidy_over(rt.alloc(), world, &mut yard, writer)
+}
+
 /// Opens a folder, and makes it tidy by a yard.
 fn tidy_at<Y: Yard, W: Write>(
     rt: &HostRuntime,
@@ -184,10 +221,11 @@ fn tidy_at<Y: Yard, W: Write>(
     }
 }
 
-/// Takes out of a folder what its register can do without, and writes a line for each file: of loans that came home, of splits that were stopped, and
-/// what stands beside no package.
+/// Takes out of a folder what its register can do without, and writes a line for each file: of loans that came home,
+/// of splits that were stopped, and what stands beside no package.
 pub fn tidy<W: Write>(rt: &HostRuntime, folder: &str, writer: &mut W) -> Ending
-    ensures { TidiesFolder writer.old writer.new (W.contents writer.old) (W.contents writer.new) result }
+    ensures { TidiesFolder writer.old writer.new
+        (W.contents writer.old) (W.contents writer.new) result }
 {
     let mut yard = FolderYard { rt, folder };
     tidy_at(rt, folder, &mut yard, writer)

@@ -3,9 +3,9 @@
 ghost use Rattle.std.specs.Prelude.{IfNone, IfSome};
 ghost use Rattle.commands.specs.Works.{Asks, EndsWork, IsUnread, OpensFor, Worked, Works};
 
-use crate::applying::apply_in;
 use crate::importing::import_file;
 use crate::serving::serve_world;
+use crate::streaming::apply_each_in;
 use command_folder::endings::Ending;
 use command_folder::folders::{OpenFolder, open_folder};
 use command_words::arguments::{Desk, DeskWords, read_desk};
@@ -25,7 +25,8 @@ use world::world::World;
 /// What is done, by its words as they were typed.
 #[derive(Clone, Copy)]
 pub enum Asked<'t> {
-    /// One request as JSON is read and carried out, and its reply written as JSON, on a line.
+    /// Requests as JSON are read, a line each or one alone, and carried out, and their replies written as JSON, a line
+    /// each.
     Apply,
     /// The request list of this file is carried out, and its report written.
     Import(&'t str),
@@ -56,8 +57,8 @@ fn read_asked(asked: Asked<'_>) -> Option<Work<'_>>
     }
 }
 
-/// Does it over a world and a shelf. The teller is told of each request of a list that is done, and of each connection of a desk. The clerk carries out the commands
-/// that are asked of a desk.
+/// Does it over a world and a shelf. The teller is told of each request of a list that is done, and of each connection
+/// of a desk. The clerk carries out the commands that are asked of a desk.
 fn worked<S: Alter + Drop, H: Shelf<S>, R: Read + Drop, W: Write, T: Teller + DeskTeller, K: Clerk>(
     rt: &HostRuntime,
     world: &mut World<S>,
@@ -72,7 +73,7 @@ fn worked<S: Alter + Drop, H: Shelf<S>, R: Read + Drop, W: Write, T: Teller + De
         writer.old writer.new (W.contents writer.old) (W.contents writer.new) work.entry result }
 {
     match work {
-        Work::Apply => apply_in(rt.alloc(), world, shelf, reader, writer),
+        Work::Apply => apply_each_in(rt.alloc(), world, shelf, reader, writer),
         Work::Import(file) => import_file(rt, world, shelf, file, writer, teller),
         Work::Serve(desk) => serve_world(rt, world, shelf, desk, teller, clerk),
     }

@@ -3,6 +3,7 @@ use crate::endings::{End, end_text};
 use crate::streams::{Giving, Noted, Reads, WHOLE, Wrote, judged_paper, paper};
 use crate::texts::{List, Sent, list_text, sent_text};
 use commands::applying::apply_in;
+use commands::streaming::apply_each_in;
 use desk_calls::source::Outer;
 use desk_http::serving::{ServeFault, Served, serve_one};
 use manifest_csv::importing::{ImportFault, import};
@@ -29,6 +30,8 @@ pub(crate) enum What {
     Map,
     // The receipt of a request that comes as a text, and that of the first one.
     Applies(&'static str, Reads),
+    // The replies to requests that come as a text, a line each.
+    AppliesEach(&'static str, Reads),
     Receipt,
     // What a client is answered.
     Serves(Sent, Reads),
@@ -109,6 +112,10 @@ fn ended<S: Alter + Drop, H: Shelf<S>>(
         What::Map => end_text(alloc, &End::View(map_in(alloc, world, None, out))),
         What::Applies(body, reads) => {
             let ending = apply_in(alloc, world, shelf, Giving::new(body, reads), out);
+            end_text(alloc, &End::Command(ending))
+        }
+        What::AppliesEach(body, reads) => {
+            let ending = apply_each_in(alloc, world, shelf, Giving::new(body, reads), out);
             end_text(alloc, &End::Command(ending))
         }
         What::Receipt => {
