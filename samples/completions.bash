@@ -21,6 +21,7 @@ _sheetdesk_options() {
         map) echo --zoom --names ;;
         report) echo --names ;;
         serve) echo --log ;;
+        session) echo --strict ;;
     esac
     echo --help
 }

@@ -33,51 +33,73 @@ module _ {S : Type 0} (g : Ghosts S) {W : Type 0} (writer' : W) (after : Option 
   looked strays old new writer before (look.Get word) ending is = told_by g old new is.read
   looked strays old new writer before (look.Explain form id) ending is = told_by g old new is.read
   looked strays old new writer before (look.Receipt id) ending is = told_by g old new (inr is.read)
-  looked strays old new writer before (look.Manifest p) ending (told, ends, (r, due, read, is, rest)) = told_by g old new (inr read)
-  looked strays old new writer before (look.Export p) ending (told, ends, (r, due, read, is, rest)) = told_by g old new (inr read)
+  looked strays old new writer before (look.Manifest p) ending (told, ends, (r, due, read, is, rest)) =
+      told_by g old new (inr read)
+  looked strays old new writer before (look.Export p) ending (told, ends, (r, due, read, is, rest)) =
+      told_by g old new (inr read)
   looked strays old new writer before (look.Map zoom) ending is = told_by g old new is.read
   looked strays old new writer before look.Audit ending (told, same, ends, rest) = same_by g old new same
 
   -- so does one of a package that a word names
-  named : (old new : Seen S) (writer mid : W) (before between : Option (List ℕ)) (told hint : Option Hint) (what : PackageLook)
-      (found : Result (List ℕ) CommandEnding) (ending : Ending)
-      → LooksNamed g old new writer writer' before after mid between told what found ending hint → IsServedBy g 1 old new
-  named old new writer mid before between told hint kind.Manifest (Ok id) ending is = looked 0 old new mid between (look.Manifest id) ending is.0
-  named old new writer mid before between told hint kind.Export (Ok id) ending is = looked 0 old new mid between (look.Export id) ending is.0
-  named old new writer mid before between told hint what (Err why) ending (ends, hinted, same, rest) = same_by g old new same
+  named : (old new : Seen S) (writer mid : W) (before between : Option (List ℕ)) (told hint : Option Hint)
+      (what : PackageLook) (found : Result (List ℕ) CommandEnding) (ending : Ending)
+      → LooksNamed g old new writer writer' before after mid between told what found ending hint
+      → IsServedBy g 1 old new
+  named old new writer mid before between told hint kind.Manifest (Ok id) ending is =
+      looked 0 old new mid between (look.Manifest id) ending is.0
+  named old new writer mid before between told hint kind.Export (Ok id) ending is =
+      looked 0 old new mid between (look.Export id) ending is.0
+  named old new writer mid before between told hint what (Err why) ending (ends, hinted, same, rest) =
+      same_by g old new same
 
   -- a request that is shown, or carried out
-  answered : (old new : Seen S) (writer : W) (before : Option (List ℕ)) (purpose : Purpose) (q : Request) (told : CommandEnding)
-      → Answers g writer writer' before after purpose q old new told → IsServedBy g 1 old new
+  answered : (old new : Seen S) (writer : W) (before : Option (List ℕ)) (purpose : Purpose) (q : Request)
+      (told : CommandEnding) → Answers g writer writer' before after purpose q old new told → IsServedBy g 1 old new
   answered old new writer before Show q told is = same_by g old new is.0
   answered old new writer before CarryOut q told is = step_by g q old new is.reply is.step
 
-  ordered : (old new : Seen S) (writer : W) (before text : Option (List ℕ)) (o : Order) (purpose : Purpose) (told : CommandEnding)
-      → Orders g writer writer' before after text o purpose old new told → IsServedBy g 1 old new
+  ordered : (old new : Seen S) (writer : W) (before text : Option (List ℕ)) (o : Order) (purpose : Purpose)
+      (told : CommandEnding) → Orders g writer writer' before after text o purpose old new told
+      → IsServedBy g 1 old new
   ordered old new writer before text o purpose told (inl (unread, same, rest)) = same_by g old new same
-  ordered old new writer before text o purpose told (inr (bytes, are, inl (why, read, asks, rest))) = told_by g old new read
+  ordered old new writer before text o purpose told (inr (bytes, are, inl (why, read, asks, rest))) =
+      told_by g old new read
   ordered old new writer before text o purpose told (inr (bytes, are, inr (q, mid, read, asks, is))) =
       read_first g old mid new read (answered mid new writer before purpose q told is)
 
-  lent : (old new : Seen S) (writer : W) (before : Option (List ℕ)) (b : BoxedLoan) (purpose : Purpose) (told : CommandEnding) (hint : Option Hint)
+  lent : (old new : Seen S) (writer : W) (before : Option (List ℕ)) (b : BoxedLoan) (purpose : Purpose)
+      (told : CommandEnding) (hint : Option Hint)
       → LendsBox g b purpose old new writer writer' before after told hint → IsServedBy g 1 old new
-  lent old new writer before b purpose told hint (inl is) = ordered old new writer before (Some []) (order_of b is.area) purpose told is.ordered
+  lent old new writer before b purpose told hint (inl is) =
+      ordered old new writer before (Some []) (order_of b is.area) purpose told is.ordered
   lent old new writer before b purpose told hint (inr (inl is)) = same_by g old new is.same
   lent old new writer before b purpose told hint (inr (inr (fault, ends, same, rest, none))) = same_by g old new same
 
   -- what was done
-  pub done_served : (old new : Seen S) (writer : W) (before : Option (List ℕ)) (input : List ℕ) (it : Deed) (ending : Ending) (hint : Option Hint)
+  pub done_served : (old new : Seen S) (writer : W) (before : Option (List ℕ)) (input : List ℕ) (it : Deed)
+      (ending : Ending) (hint : Option Hint)
       → IsDone g old new writer writer' before after input it ending hint → IsServedBy g 1 old new
-  done_served old new writer before input deed.Apply ending hint (told, ends, none, inl (unread, same, rest)) = same_by g old new same
-  done_served old new writer before input deed.Apply ending hint (told, ends, none, inr (q, asks, is)) = step_by g q old new is.reply is.step
-  done_served old new writer before input (deed.Look asked) ending hint (inl (what, unread, ends, same, rest), none) = same_by g old new same
-  done_served old new writer before input (deed.Look asked) ending hint (inr (it, strays, asks, is), none) = looked strays old new writer before it ending is
-  done_served old new writer before input (deed.Named (Get word)) ending hint (mid, gets, read, rest) = read_last g old mid new (told_by g old mid gets.read) read
-  done_served old new writer before input (deed.Named (Explain form word)) ending hint is = told_by g old new is.read
+  done_served old new writer before input deed.Apply ending hint (told, ends, none, inl (unread, same, rest)) =
+      same_by g old new same
+  done_served old new writer before input deed.Apply ending hint (told, ends, none, inr (q, asks, is)) =
+      step_by g q old new is.reply is.step
+  done_served old new writer before input (deed.Look asked) ending hint
+      (inl (what, unread, ends, same, rest), none) = same_by g old new same
+  done_served old new writer before input (deed.Look asked) ending hint (inr (it, strays, asks, is), none) =
+      looked strays old new writer before it ending is
+  done_served old new writer before input (deed.Named (Get word)) ending hint (mid, gets, read, rest) =
+      read_last g old mid new (told_by g old mid gets.read) read
+  done_served old new writer before input (deed.Named (Explain form word)) ending hint is =
+      told_by g old new is.read
   done_served old new writer before input (deed.Named (Manifest word)) ending hint is =
       named old new writer is.mid before is.between is.told hint kind.Manifest is.named ending is.looks
   done_served old new writer before input (deed.Named (Export word)) ending hint is =
       named old new writer is.mid before is.between is.told hint kind.Export is.named ending is.looks
   done_served old new writer before input (deed.Order o purpose) ending hint (told, ends, is) =
       read_last g old is.mid new (ordered old is.mid writer before (Some input) o purpose told is.ordered) is.read
-  done_served old new writer before input (deed.LendBox b purpose) ending hint (told, ends, is) = lent old new writer before b purpose told hint is
+  done_served old new writer before input (deed.LendBox b purpose) ending hint (told, ends, is) =
+      lent old new writer before b purpose told hint is
+  done_served old new writer before input (deed.Carry report) ending hint
+      (told, ends, none, inl (unread, same, rest)) = same_by g old new same
+  done_served old new writer before input (deed.Carry report) ending hint (told, ends, none, inr (q, asks, is)) =
+      step_by g q old new is.reply is.step

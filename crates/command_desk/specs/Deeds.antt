@@ -24,6 +24,7 @@ use Rattle.views.specs.declared.endings.Ending.{Ending}
 use Rattle.views.specs.declared.endings.Ending.TheVariants.{Usual}
 use Rattle.views.specs.declared.looking.Asked.{Asked}
 use Rattle.views.specs.declared.looking.Look.{Look}
+use Rattle.command_desk.specs.Carrying.{Carries}
 use Rattle.command_desk.specs.declared.deeds.Deed.{Deed}
 use Rattle.command_desk.specs.declared.deeds.Deed.TheVariants as deed
 
@@ -46,7 +47,8 @@ module _ {S : Type 0} (g : Ghosts S) {W : Type 0} (old new : Seen S) (writer wri
       (ending ≡ Usual why) × (hint ≡ told) × (new ≡ old) × (writer' ≡ mid)
 
   -- The package that the word names was looked at, or what comes nearest was told.
-  pub record IsPackageLooked (what : PackageLook) (word : Bor (List ℕ)) (ending : Ending) (hint : Option Hint) : Type 0 where
+  pub record IsPackageLooked (what : PackageLook) (word : Bor (List ℕ)) (ending : Ending) (hint : Option Hint)
+      : Type 0 where
     pub mid : W
     pub between : Option (List ℕ)
     pub named : Result (List ℕ) CommandEnding
@@ -75,3 +77,6 @@ module _ {S : Type 0} (g : Ghosts S) {W : Type 0} (old new : Seen S) (writer wri
   IsDone input (deed.LendBox boxed purpose) ending hint =
       (told : CommandEnding) × (ending ≡ Usual told)
       × LendsBox g boxed purpose old new writer writer' before after told hint
+  IsDone input (deed.Carry report) ending hint =
+      (told : CommandEnding) × (ending ≡ Usual told) × (hint ≡ None)
+      × Carries g report input old new writer writer' before after told

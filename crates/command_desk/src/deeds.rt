@@ -2,6 +2,7 @@
 ghost use Rattle.desk_http.specs.Connections.{IsServedBy};
 ghost use Rattle.command_desk.specs.Deeds.{IsDone, IsLooked, IsNamedLooked, IsPackageLooked};
 
+use crate::carrying::{Report, carry_in};
 use command_folder::endings::Ending as CommandEnding;
 use command_named::items::tell_item;
 use command_named::looking::NamedLook;
@@ -36,6 +37,8 @@ pub enum Deed<'t> {
     Order(Order<'t>, Purpose),
     /// What covers a box is lent, or that request is shown.
     LendBox(BoxedLoan<'t>, Purpose),
+    /// One request as JSON is carried out, and told as this part of a report.
+    Carry(Report),
 }
 
 /// How many stores of a folder with so many are of no live package.
@@ -133,6 +136,10 @@ pub fn carry_out<'t, S: Alter + Drop, H: Shelf<S>, W: Write>(
         Deed::LendBox(boxed, purpose) => {
             let (told, hint) = lend_box_in(alloc, world, shelf, boxed, *purpose, writer);
             (Ending::Usual(told), hint)
+        }
+        Deed::Carry(report) => {
+            let told = carry_in(alloc, world, shelf, *report, input, writer);
+            (Ending::Usual(told), None)
         }
     }
 }

@@ -2,6 +2,9 @@
 //! world that stays.
 #![tactic(auto)]
 
+pub mod carrying;
+pub mod changing;
 pub mod deeds;
 pub mod frames;
+pub mod pages;
 pub mod words;

@@ -113,8 +113,11 @@ pub const SESSION_WORDS: &str = "Each line of the file is one of
   rm FILE                      a file is removed
   # ..                         a comment, which is printed, as an empty line is
 Each is printed behind `$ `, then what it prints itself, then its status, as `status 1`, unless that is 0.
-Whatever it was, the next line follows. A folder that cannot be made, a file that cannot be removed and an
-INPUT that cannot be read have status 1; a line that is none of these, and a session in a session, status 2.
+Whatever it was, the next line follows; with --strict, the first line whose status is not 0 is the last.
+A folder that cannot be made, a file that cannot be removed and an INPUT that cannot be read have status 1;
+a line that is none of these, and a session in a session, status 2.
+A folder stays open for the lines behind that name it in the same way and say status, log, explain, receipt,
+get, apply, put, lend, return, join or part. Any other line closes it first; `audit` opens it anew.
 
 Example, where first.txt has these four lines:
   mkdir maps
@@ -128,7 +131,8 @@ Exit status:
   0  the last line was reached
   1  the file cannot be read as text: `refused: session`; nothing was done
   2  the command line is no use of the program
-  3  memory or standard output gave out";
+  3  memory or standard output gave out
+with --strict also the status of the first line that has another than 0";
 
 /// After the words of a command over a folder.
 pub const FOLDER_WORDS: &str =

@@ -523,7 +523,7 @@ pub(crate) const PICTURES: &[Entry] = &[
     }),
 ];
 
-/// What keeps a register, and the rest.
+/// What keeps a register.
 pub(crate) const KEEPING: &[Entry] = &[
     One(Verb {
         name: "audit",
@@ -584,11 +584,21 @@ pub(crate) const KEEPING: &[Entry] = &[
             FlagBeside("log", LOG, "serve"),
         ],
     }),
+];
+
+/// What carries out many commands, or helps to type them.
+pub(crate) const SESSIONS: &[Entry] = &[
     One(Verb {
         name: "session",
         about: "Carries out the commands of a file, and prints each with its answer",
         after: SESSION_WORDS,
-        words: &[Place("file", "FILE", "The commands, a line each, as first.txt")],
+        words: &[
+            Place("file", "FILE", "The commands, a line each, as first.txt"),
+            Flag(
+                "strict",
+                "End at the first line whose status is not 0, with its status",
+            ),
+        ],
     }),
     Many(
         Verb {

@@ -2,7 +2,8 @@
 use crate::building::{command_of, with_entries, with_verbs};
 use crate::help::{ABOUT, WORDS};
 use crate::tables::{
-    FIELD, FILES, KEEPING, LENDING, LINKING, LOOKS, MAKING, OTHER_KINDS, PICTURES, PUT, TILE_KINDS,
+    FIELD, FILES, KEEPING, LENDING, LINKING, LOOKS, MAKING, OTHER_KINDS, PICTURES, PUT, SESSIONS,
+    TILE_KINDS,
 };
 use clap::Command;
 use std::alloc::{AllocError, Global};
@@ -54,9 +55,14 @@ fn with_pictures<'a>(alloc: Global, command: Command<'a>) -> Result<Command<'a>,
     with_entries(alloc, command, PICTURES)
 }
 
-/// What keeps a register, and the rest.
+/// What keeps a register.
 fn with_keeping<'a>(alloc: Global, command: Command<'a>) -> Result<Command<'a>, AllocError> {
     with_entries(alloc, command, KEEPING)
+}
+
+/// What carries out many commands, or helps to type them.
+fn with_sessions<'a>(alloc: Global, command: Command<'a>) -> Result<Command<'a>, AllocError> {
+    with_entries(alloc, command, SESSIONS)
 }
 
 /// The verbs for people.
@@ -83,5 +89,6 @@ pub fn sheetdesk<'a>(alloc: Global) -> Result<Command<'a>, AllocError> {
     let command = with_people(alloc, command)?;
     let command = with_looks(alloc, command)?;
     let command = with_papers(alloc, command)?;
-    with_keeping(alloc, command)
+    let command = with_keeping(alloc, command)?;
+    with_sessions(alloc, command)
 }

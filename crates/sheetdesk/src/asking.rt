@@ -1,39 +1,26 @@
 //! Commands over a folder that a desk serves: the desk is asked, and what it answers is printed.
+use crate::called::{named_words, print_unnamed};
+use crate::desk_drops::drop_by;
 use crate::desk_files::{desk_said, is_held};
+use crate::desk_inputs::{Served, bring_by, show_changes_by};
+use crate::desk_lines::apply_by;
+use crate::desk_lists::import_by;
+use crate::desk_trees::put_tree_by;
+use crate::desks::{MOST_SENT, ask, tell_unless_passed, words_before};
 use crate::ordering::is_verb;
-use crate::outputs::{look_output, verb_output};
-use crate::running::{out_of_memory, output_failed, text_of};
+use crate::outputs::{look_output, print_unless_done, verb_output};
+use crate::running::{ended, output_failed, text_of};
 use crate::serving::is_served;
 use crate::streams::{Input, Output};
 use clap::ArgMatches;
-use desk_asking::answers::{Answer, AnswerFault, copy_answer};
-use desk_asking::asking::request_for;
 use desk_asking::desks::{DeskAt, read_desk};
-use std::alloc::AllocError;
 use std::convert::AsStr;
 use std::fs;
-use std::io::{self, BufReader, Read, Write};
-use std::net::{IpAddr, Ipv4Addr, Net, SocketAddr, TcpListener, TcpStream};
-use std::time::Duration;
+use std::io::{self, ErrorKind, Read};
 
 /// The most bytes that a desk is sent of what a command reads: one more than a request may have, so that it refuses a
 /// longer one.
-const MOST_INPUT: u64 = 2_200_001;
-
-/// How long a desk may take to be reached, in seconds.
-const REACH: u64 = 2;
-
-/// How long it may then say nothing, in seconds.
-const PATIENCE: u64 = 60;
-
-/// The words behind the program's name.
-fn words_behind<W: AsStr>(rt: &HostRuntime, words: &[W]) -> Result<Vec<String>, AllocError> {
-    let mut behind = Vec::new(rt.alloc());
-    for word in words.iter().skip(1) {
-        behind.push(String::from_str(rt.alloc(), word.as_str())?)?;
-    }
-    Ok(behind)
-}
+const MOST_INPUT: u64 = MOST_SENT + 1;
 
 /// What a reader has, as far as a desk is sent it.
 fn read_front<R: Read + Drop>(rt: &HostRuntime, reader: R) -> io::Result<Vec<u8>> {
@@ -49,15 +36,33 @@ fn read_file(rt: &HostRuntime, path: &str) -> io::Result<Vec<u8>> {
     Ok(bytes)
 }
 
-/// What a command reads: `apply` the reader, a verb the file that its words name, others nothing.
-fn input_for(
+/// The names in a file, all of them: with fewer a page would be another.
+fn read_names(rt: &HostRuntime, path: &str) -> io::Result<Vec<u8>> {
+    let bytes = fs::read(rt, path)?;
+    if bytes.len() as u64 > MOST_SENT {
+        return Err(ErrorKind::FileTooLarge.into());
+    }
+    Ok(bytes)
+}
+
+/// The file of names that a page is made with, where one is given.
+fn names_given<'m>(name: &str, given: &ArgMatches<'m>) -> Option<&'m str> {
+    match name {
+        "report" => given.get_str("names"),
+        "map" if given.get_str("zoom").is_none() => given.get_str("names"),
+        _ => None,
+    }
+}
+
+/// What a command reads: a page its names, a verb the file that its words name, others nothing.
+pub(crate) fn input_for(
     rt: &HostRuntime,
     name: &str,
     options: &ArgMatches<'_>,
     reader: &mut Input<'_>,
 ) -> io::Result<Vec<u8>> {
-    if name == "apply" {
-        return read_front(rt, reader);
+    if let Some(path) = names_given(name, options) {
+        return read_names(rt, path);
     }
     match options.get_str("file") {
         Some(path) if path == "-" => read_front(rt, reader),
@@ -66,38 +71,8 @@ fn input_for(
     }
 }
 
-/// The desk at a port, reached.
-fn reach<N: Net<Listener = TcpListener, Stream = TcpStream>>(
-    net: &N,
-    port: u16,
-) -> io::Result<TcpStream> {
-    let address = SocketAddr::new(IpAddr::V4(Ipv4Addr::LOCALHOST), port);
-    let stream = TcpStream::connect_timeout(net, &address, Duration::from_secs(REACH))?;
-    stream.set_nodelay(true)?;
-    stream.set_read_timeout(Some(Duration::from_secs(PATIENCE)))?;
-    stream.set_write_timeout(Some(Duration::from_secs(PATIENCE)))?;
-    Ok(stream)
-}
-
-/// Sends a request, and copies what is answered to a writer and to standard error. A desk may answer before it has taken
-/// all.
-fn exchange(
-    rt: &HostRuntime,
-    stream: &TcpStream,
-    request: &[u8],
-    output: &mut Output<'_>,
-) -> Result<Answer, AnswerFault> {
-    let mut writer = stream;
-    let _sent = writer.write_all(request);
-    let Ok(mut reader) = BufReader::new(rt.alloc(), stream) else {
-        return Err(AnswerFault::Memory);
-    };
-    let mut errors = rt.stderr();
-    copy_answer(rt.alloc(), &mut reader, &mut *output, &mut errors)
-}
-
 /// Where a command writes that a desk carries out: memory, where a file is to keep it.
-fn output_for<'r>(
+pub(crate) fn output_for<'r>(
     rt: &'r HostRuntime,
     name: &str,
     given: &ArgMatches<'_>,
@@ -105,7 +80,7 @@ fn output_for<'r>(
 ) -> Output<'r> {
     if given.contains_id("output") {
         Output::Kept(Vec::new(rt.alloc()))
-    } else if is_verb(name) {
+    } else if is_verb(name) || matches!(name, "drop" | "tidy") {
         verb_output(rt, options)
     } else {
         look_output(rt, name, given)
@@ -124,74 +99,31 @@ fn keep_answer(rt: &HostRuntime, path: &str, bytes: &[u8]) -> u8 {
 }
 
 /// Prints what was held back, or keeps it in a file, and answers the exit status.
-fn finish(rt: &HostRuntime, path: Option<&str>, output: &Output<'_>, status: u8) -> u8 {
-    let Output::Kept(bytes) = output else {
-        return status;
-    };
-    match path {
-        Some(path) if status == 0 => keep_answer(rt, path, bytes.as_slice()),
-        None if status == 0 => 0,
-        _ => match io::writer(rt).write_all(bytes.as_slice()) {
-            Ok(()) => status,
-            Err(_) => output_failed(rt),
-        },
+pub(crate) fn finish(rt: &HostRuntime, path: Option<&str>, output: &Output<'_>, status: u8) -> u8 {
+    match (path, output) {
+        (Some(path), Output::Kept(bytes)) if status == 0 => keep_answer(rt, path, bytes.as_slice()),
+        _ => print_unless_done(rt, output, status),
     }
 }
 
-/// Says why a desk gave no answer, and answers the exit status.
-fn tell_fault(rt: &HostRuntime, fault: &AnswerFault) -> u8 {
-    if *fault == AnswerFault::Memory {
-        return out_of_memory(rt);
-    }
-    let status = output_failed(rt);
-    let _printed = eprintln!(rt; "{fault}");
-    status
-}
-
-/// Says that a desk is not to be reached, and answers the exit status.
-fn tell_unreached(rt: &HostRuntime, port: u16) -> u8 {
-    let status = output_failed(rt);
-    let _printed = eprintln!(rt; "the desk of the folder does not answer at 127.0.0.1:{port}");
-    status
-}
-
-/// Has a desk carry a command out, and answers the exit status; none where it does not carry such a command out.
+/// Has a desk carry out the command of these words over what it reads, and answers the exit status; none where it
+/// does not carry such a command out.
 fn carry_out_by(
     rt: &HostRuntime,
     desk: &DeskAt<'_>,
-    request: &[u8],
+    words: &[String],
+    input: &[u8],
     path: Option<&str>,
     output: &mut Output<'_>,
 ) -> Option<u8> {
-    let Ok(stream) = reach(rt, desk.port) else {
-        return Some(tell_unreached(rt, desk.port));
-    };
-    match exchange(rt, &stream, request, &mut *output) {
-        Ok(Answer::Ended(status)) => Some(finish(rt, path, &*output, status)),
-        Ok(Answer::NotHere) => None,
-        Err(fault) => Some(tell_fault(rt, &fault)),
+    match ask(rt, desk, words, input, &mut *output, &mut rt.stderr()) {
+        Ok(status) => Some(finish(rt, path, output, status)),
+        Err(why) => tell_unless_passed(rt, desk, why),
     }
 }
 
-/// The request for a command, with what it reads; none where that cannot be read, which the command itself tells.
-fn request_of<W: AsStr>(
-    rt: &HostRuntime,
-    desk: &DeskAt<'_>,
-    words: &[W],
-    name: &str,
-    options: &ArgMatches<'_>,
-    reader: &mut Input<'_>,
-) -> Option<Vec<u8>> {
-    let Ok(behind) = words_behind(rt, words) else {
-        return None;
-    };
-    let Ok(input) = input_for(rt, name, options, reader) else {
-        return None;
-    };
-    request_for(rt.alloc(), desk, behind.as_slice(), input.as_slice()).ok()
-}
-
-/// Has a desk carry a command out that is for it, whose options stand among these words, and answers the exit status.
+/// Has a desk carry a command out that is one for it, whose options stand among these words, and answers the exit
+/// status. What cannot be read the command itself tells.
 fn ask_with<'m, W: AsStr>(
     rt: &HostRuntime,
     desk: &DeskAt<'_>,
@@ -201,12 +133,22 @@ fn ask_with<'m, W: AsStr>(
     options: &ArgMatches<'m>,
     reader: &mut Input<'_>,
 ) -> Option<u8> {
-    let Some(request) = request_of(rt, desk, words, name, options, reader) else {
+    let Ok(behind) = words_before(rt, [name].as_slice(), words, 2) else {
+        return None;
+    };
+    let Ok(input) = input_for(rt, name, options, reader) else {
         return None;
     };
     let path = given.get_str("output");
     let mut output = output_for(rt, name, given, options);
-    carry_out_by(rt, desk, request.as_slice(), path, &mut output)
+    carry_out_by(
+        rt,
+        desk,
+        behind.as_slice(),
+        input.as_slice(),
+        path,
+        &mut output,
+    )
 }
 
 /// The same of all words. The options of a verb stand behind the kind of what is put, where there is one.
@@ -224,6 +166,59 @@ fn ask_for<'m, W: AsStr>(
     }
 }
 
+/// The words of `put` for a tree, where it adds one.
+fn tree_words<'m, 'g>(name: &str, given: &'g ArgMatches<'m>) -> Option<&'g ArgMatches<'m>> {
+    match given.subcommand() {
+        Some((kind, options)) if name == "put" && kind == "tiles" => Some(options),
+        _ => None,
+    }
+}
+
+/// Adds the tiles of a tree by a desk, to the package that a word names, and answers the exit status.
+fn put_named_tree(
+    rt: &HostRuntime,
+    served: &Served<'_, '_>,
+    given: &ArgMatches<'_>,
+    options: &ArgMatches<'_>,
+) -> Option<u8> {
+    match named_words(rt, served.folder, "put", given, None) {
+        Ok(named) => put_tree_by(rt, served, named.word.as_str(), options),
+        Err(why) => Some(ended(rt, &print_unnamed(rt, &why))),
+    }
+}
+
+/// Has the desk of a folder carry a command out, and answers the exit status. One of several requests is carried out
+/// request by request.
+fn ask_served<'m, W: AsStr>(
+    rt: &HostRuntime,
+    served: &Served<'_, '_>,
+    words: &[W],
+    name: &str,
+    given: &ArgMatches<'m>,
+    reader: &mut Input<'_>,
+) -> Option<u8> {
+    if let Some(options) = tree_words(name, given) {
+        return put_named_tree(rt, served, given, options);
+    }
+    match name {
+        "apply" => apply_by(rt, &served.desk, words, reader),
+        "import" => Some(import_by(rt, &served.desk, given)),
+        "drop" if !given.get_flag("dry-run") => drop_by(rt, &served.desk, words, given),
+        "bring" if !given.get_flag("dry-run") => bring_by(rt, served, words, reader),
+        "bring" | "changes" => show_changes_by(rt, served, name, words, reader),
+        _ => ask_for(rt, &served.desk, words, name, given, reader),
+    }
+}
+
+/// Whether a desk is asked for this command. One that turns the rows of a tree about needs the frame, which no desk
+/// tells.
+fn is_asked(name: &str, given: &ArgMatches<'_>) -> bool {
+    if let Some(options) = tree_words(name, given) {
+        return !options.get_flag("tms");
+    }
+    matches!(name, "import" | "drop" | "bring" | "changes") || is_served(name, given)
+}
+
 /// Has the desk that serves a command's folder carry the command out, and answers the exit status; none where no desk
 /// serves it, or the command is none for a desk.
 pub(crate) fn ask_desk<W: AsStr>(
@@ -233,7 +228,7 @@ pub(crate) fn ask_desk<W: AsStr>(
     given: &ArgMatches<'_>,
     reader: &mut Input<'_>,
 ) -> Option<u8> {
-    if !is_served(name, given) {
+    if !is_asked(name, given) {
         return None;
     }
     let folder = text_of(given, "folder");
@@ -246,5 +241,6 @@ pub(crate) fn ask_desk<W: AsStr>(
     let Some(desk) = read_desk(text.as_slice()) else {
         return None;
     };
-    ask_for(rt, &desk, words, name, given, reader)
+    let served = Served { folder, desk };
+    ask_served(rt, &served, words, name, given, reader)
 }

@@ -39,6 +39,22 @@ pub(crate) fn end_untold(rt: &HostRuntime, ending: Ending) -> Unnamed {
     }
 }
 
+/// One before which standard error is told this text.
+pub(crate) fn end_told(
+    rt: &HostRuntime,
+    ending: Ending,
+    error: Result<String, AllocError>,
+) -> Unnamed {
+    match error {
+        Ok(error) => Unnamed {
+            ending,
+            output: String::new(rt.alloc()),
+            error,
+        },
+        Err(_) => end_untold(rt, NO_MEMORY),
+    }
+}
+
 /// One that refuses, with these texts.
 fn refuse(
     rt: &HostRuntime,
@@ -73,14 +89,19 @@ fn refuse_names<E: Display>(rt: &HostRuntime, path: &str, why: &E) -> Unnamed {
     refuse(rt, output, format!(in rt.alloc(); "names: {path}: {why}\n"))
 }
 
+/// The names in the bytes of a file.
+fn names_of(rt: &HostRuntime, path: &str, bytes: &[u8]) -> Result<Vec<Name>, Unnamed> {
+    match read_names(rt.alloc(), bytes) {
+        Ok(names) => Ok(names),
+        Err(ListFault::Memory) => Err(end_untold(rt, NO_MEMORY)),
+        Err(fault) => Err(refuse_names(rt, path, &fault)),
+    }
+}
+
 /// The names in a file. One that nobody asked for need not be there.
 fn names_in(rt: &HostRuntime, path: &str, is_asked: bool) -> Result<Vec<Name>, Unnamed> {
     match fs::read(rt, path) {
-        Ok(bytes) => match read_names(rt.alloc(), bytes.as_slice()) {
-            Ok(names) => Ok(names),
-            Err(ListFault::Memory) => Err(end_untold(rt, NO_MEMORY)),
-            Err(fault) => Err(refuse_names(rt, path, &fault)),
-        },
+        Ok(bytes) => names_of(rt, path, bytes.as_slice()),
         Err(error) => {
             let is_absent = matches!(error.kind(), ErrorKind::NotFound | ErrorKind::NotADirectory);
             if is_absent && !is_asked {
@@ -91,14 +112,18 @@ fn names_in(rt: &HostRuntime, path: &str, is_asked: bool) -> Result<Vec<Name>, U
     }
 }
 
-/// The names for a command: of the file that is asked for, or of the folder's.
+/// The names for a command: of the file that is asked for, whose bytes whoever asks a desk sends, or of the folder's.
 pub(crate) fn names_for(
     rt: &HostRuntime,
     folder: &str,
     given: &ArgMatches<'_>,
+    sent: Option<&[u8]>,
 ) -> Result<Vec<Name>, Unnamed> {
     if let Some(path) = given.get_str("names") {
-        return names_in(rt, path, true);
+        return match sent {
+            Some(bytes) => names_of(rt, path, bytes),
+            None => names_in(rt, path, true),
+        };
     }
     match format!(in rt.alloc(); "{folder}/names.csv") {
         Ok(path) => names_in(rt, path.as_str(), false),
@@ -141,12 +166,13 @@ fn word_or_uuid(
     rt: &HostRuntime,
     folder: &str,
     given: &ArgMatches<'_>,
+    sent: Option<&[u8]>,
     whose: Whose,
     word: &str,
 ) -> Result<String, Unnamed> {
     let mut found = None;
     if !word.is_empty() && read_uuid(word).is_none() {
-        let names = names_for(rt, folder, given)?;
+        let names = names_for(rt, folder, given, sent)?;
         match find_called(names.as_slice(), word) {
             Ok(called) => found = called,
             Err((first, second)) => {
@@ -181,19 +207,20 @@ fn naming_word<'m>(name: &str, given: &ArgMatches<'m>) -> (Whose, &'m str) {
     }
 }
 
-/// The words of a command that name a package or items, by the names of a folder.
+/// The words of a command that name a package or items, by the names for it.
 pub(crate) fn named_words(
     rt: &HostRuntime,
     folder: &str,
     name: &str,
     given: &ArgMatches<'_>,
+    sent: Option<&[u8]>,
 ) -> Result<Named, Unnamed> {
     let (whose, first) = naming_word(name, given);
     let second = match name {
         "join" | "part" => text_of(given, "second"),
         _ => "",
     };
-    let word = word_or_uuid(rt, folder, given, whose, first)?;
-    let other = word_or_uuid(rt, folder, given, whose, second)?;
+    let word = word_or_uuid(rt, folder, given, sent, whose, first)?;
+    let other = word_or_uuid(rt, folder, given, sent, whose, second)?;
     Ok(Named { word, other })
 }

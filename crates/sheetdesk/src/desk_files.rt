@@ -1,5 +1,5 @@
 //! The file by which the desk of a folder is found: where it listens, and the key of those who may ask it.
-use desk_asking::desks::desk_text;
+use desk_asking::desks::{desk_text, read_desk};
 use std::alloc::AllocError;
 use std::fs::{self, File};
 use std::io::{self, Write};
@@ -40,6 +40,14 @@ pub(crate) fn desk_said(rt: &HostRuntime, folder: &str) -> Option<Vec<u8>> {
         return None;
     };
     fs::read(rt, path.as_str()).ok()
+}
+
+/// Whether the file of a folder says where a desk listens.
+pub(crate) fn names_desk(rt: &HostRuntime, folder: &str) -> bool {
+    match desk_said(rt, folder) {
+        Some(text) => read_desk(text.as_slice()).is_some(),
+        None => false,
+    }
 }
 
 /// Whether another process works in a folder. Where none does, no desk serves it, and the file that one left is

@@ -1,16 +1,28 @@
 //! A new archive's words: its UUID and its moment are made where they are not given.
+use crate::desk_files::names_desk;
 use crate::ordering::{moment_given, uuid_text_given};
 use crate::outputs::{verb_ended, verb_output};
 use crate::running::text_of;
 use clap::ArgMatches;
-use command_folder::endings::{DONE, Ending};
+use command_folder::endings::{DONE, Ending, OpenFault};
 use command_words::arguments::Words;
 use commands::init::init;
+use store_folder::fault::FolderFault;
 
 /// Tells standard error at which moment an archive is made, where no word gives one.
 fn tell_moment(rt: &HostRuntime, given: &ArgMatches<'_>, at: &str) {
     if given.get_str("at").is_none() {
         let _printed = eprintln!(rt; "made at {at}");
+    }
+}
+
+/// How it ends: a folder that is held, and that a desk serves, holds packages.
+fn ending_in(rt: &HostRuntime, folder: &str, ending: Ending) -> Ending {
+    match ending {
+        Ending::Unopened(OpenFault::Folder(FolderFault::FolderHeld)) if names_desk(rt, folder) => {
+            Ending::HoldsPackages
+        }
+        _ => ending,
     }
 }
 
@@ -30,7 +42,8 @@ pub(crate) fn founded(rt: &HostRuntime, given: &ArgMatches<'_>) -> Ending {
         frame: text_of(given, "frame"),
     };
     let mut output = verb_output(rt, given);
-    let ending = init(rt, &words, text_of(given, "folder"), &mut output);
+    let folder = text_of(given, "folder");
+    let ending = ending_in(rt, folder, init(rt, &words, folder, &mut output));
     if ending == DONE && !given.get_flag("quiet") {
         tell_moment(rt, given, at.as_str());
     }

@@ -22,7 +22,7 @@ pub(crate) fn print_hint(rt: &HostRuntime, hint: &Option<Hint<'_>>) {
 }
 
 /// Whether a word may name by its first digits: it is no whole UUID, and can begin one.
-fn is_short(word: &str) -> bool {
+pub(crate) fn is_short(word: &str) -> bool {
     can_begin(word) && read_uuid(word).is_none()
 }
 

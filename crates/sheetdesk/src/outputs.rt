@@ -1,4 +1,5 @@
 //! Where a command writes: bold headings for a terminal, and nothing of a quiet verb that ended well.
+use crate::running::output_failed;
 use crate::streams::Output;
 use clap::ArgMatches;
 use command_folder::endings::{DONE, Ending, FAILED};
@@ -99,6 +100,17 @@ pub(crate) fn verb_output<'r>(rt: &'r HostRuntime, options: &ArgMatches<'_>) -> 
         Output::Kept(Vec::new(rt.alloc()))
     } else {
         Output::Standard(io::writer(rt))
+    }
+}
+
+/// Prints what was kept, where it did not end well, and answers the exit status.
+pub(crate) fn print_unless_done(rt: &HostRuntime, output: &Output<'_>, status: u8) -> u8 {
+    match output {
+        Output::Kept(bytes) if status != 0 => match io::writer(rt).write_all(bytes.as_slice()) {
+            Ok(()) => status,
+            Err(_) => output_failed(rt),
+        },
+        _ => status,
     }
 }
 

@@ -43,6 +43,11 @@ fn is_drawing(name: &str, given: &ArgMatches<'_>) -> bool {
     name == "map" && given.get_str("zoom").is_none()
 }
 
+/// Whether a command asks for a page or a drawing.
+pub(crate) fn is_paper(name: &str, given: &ArgMatches<'_>) -> bool {
+    name == "report" || is_drawing(name, given)
+}
+
 /// Writes a page or a drawing, where the command asks for one, and answers the exit status.
 pub(crate) fn reported(
     rt: &HostRuntime,
@@ -50,7 +55,7 @@ pub(crate) fn reported(
     given: &ArgMatches<'_>,
     word: &str,
 ) -> Option<u8> {
-    if name == "report" || is_drawing(name, given) {
+    if is_paper(name, given) {
         Some(written(rt, name, given, word))
     } else {
         None
@@ -64,7 +69,7 @@ fn written(rt: &HostRuntime, name: &str, given: &ArgMatches<'_>, word: &str) -> 
         Err(ending) => return ended(rt, &ending),
     };
     let folder = text_of(given, "folder");
-    match names_for(rt, folder, given) {
+    match names_for(rt, folder, given, None) {
         Ok(names) => {
             ended(
                 rt,

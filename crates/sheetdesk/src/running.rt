@@ -89,7 +89,11 @@ fn told(
 }
 
 /// Tells the ending of a command, and what is known beside its lines.
-fn ended_with(rt: &HostRuntime, ending: &Ending, note: Result<String, AllocError>) -> u8 {
+pub(crate) fn ended_with(
+    rt: &HostRuntime,
+    ending: &Ending,
+    note: Result<String, AllocError>,
+) -> u8 {
     told(
         rt,
         output_of(*ending),
@@ -372,7 +376,7 @@ fn carry_out_here<W: AsStr>(
     given: &ArgMatches<'_>,
     reader: &mut Input<'_>,
 ) -> u8 {
-    match named_words(rt, text_of(given, "folder"), name, given) {
+    match named_words(rt, text_of(given, "folder"), name, given, None) {
         Ok(named) => carried_out_named(rt, words, &named, reader),
         Err(why) => ended(rt, &print_unnamed(rt, &why)),
     }

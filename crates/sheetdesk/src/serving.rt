@@ -1,35 +1,27 @@
-//! The clerk of a desk over a folder: what the words of a command line ask for is made of the open world, and what would
-//! be printed goes out as frames.
+//! The clerk of a desk over a folder: what the words of a command line ask for is made of the open world, and what
+//! would be printed goes out as frames.
 ghost use Rattle.desk_http.specs.Connections.{IsServedBy};
 
-use crate::boxes::box_of;
-use crate::called::{Named, Unnamed, end_untold, named_words};
-use crate::ordering::{
-    if_given, is_verb, mode_of, moment_given, purpose_given, purpose_of, uuid_given, verb_of,
+use crate::called::Unnamed;
+use crate::clerk_input::{Command, Heard, command_of};
+use crate::clerk_pages::{
+    Errand, attend_changes, attend_drop, attend_page, attend_project, attend_tidy,
 };
-use crate::running::{matched, wish_of};
-use crate::showing::Wish;
+use crate::clerk_telling::{pass_on, tell_ending, tell_unnamed, tell_usual};
+use crate::clerk_words::{Filled, deed_of, fill, report_of, whole_words};
+use crate::ordering::is_verb;
+use crate::reporting::is_paper;
+use crate::running::matched;
 use clap::ArgMatches;
 use command_desk::deeds::{Deed, carry_out};
 use command_desk::frames::Frames;
 use command_desk::words::{Asked, read_asked};
-use command_folder::endings::{Ending, FAILED};
-use command_names::hints::{Hint, hint_line};
-use command_ordering::boxes::BoxedLoan;
-use command_requests::orders::Order;
-use command_words::statuses::{Outcome, What};
 use desk_http::clerks::Clerk;
 use sqlite::Alter;
-use std::alloc::AllocError;
-use std::io::{self, Write};
+use std::io::Write;
 use store_folder::listing::list;
 use store_shelf::shelf::Shelf;
-use uuid::Uuid;
-use views::endings as seen;
 use world::world::World;
-
-/// A number is none.
-const BAD_NUMBER: Ending = Ending::Usual(Outcome::Refused(What::BadNumber));
 
 /// Carries out commands over the world of a folder.
 #[derive(Drop)]
@@ -47,6 +39,8 @@ impl<'a> FolderClerk<'a> {
 }
 
 impl<'a> Clerk for FolderClerk<'a> {
+    ghost key_of = { λ clerk. clerk.key.now };
+
     fn key(&self) -> Option<&[u8]> {
         if self.key.is_empty() {
             None
@@ -72,35 +66,32 @@ impl<'a> Clerk for FolderClerk<'a> {
     }
 }
 
-/// Says that a command is not carried out here.
-fn pass_on<W: Write>(frames: &mut Frames<W>) {
-    // Who cannot be told has gone.
-    let _untold = frames.pass_on();
-}
-
-/// Whether a desk carries out this command. It does those that look, and those of one request.
+/// Whether a desk carries out this command. It does those that look or only show, and those of one request.
 pub(crate) fn is_served(name: &str, given: &ArgMatches<'_>) -> bool {
     match name {
-        "export" => given.get_str("qgis").is_none(),
-        "map" => given.get_str("zoom").is_some(),
         "put" => match given.subcommand() {
             Some((kind, _)) => kind != "tiles",
             None => false,
         },
-        "status" | "log" | "explain" | "receipt" | "manifest" | "audit" | "get" | "apply" => true,
+        "bring" | "drop" => given.get_flag("dry-run"),
+        "status"
+        | "log"
+        | "explain"
+        | "receipt"
+        | "manifest"
+        | "export"
+        | "map"
+        | "report"
+        | "audit"
+        | "get"
+        | "apply"
+        | "changes"
+        | "tidy" => true,
         _ => is_verb(name),
     }
 }
 
-/// The words with the program's name before them, as they are matched.
-fn whole_words<'b>(rt: &HostRuntime, words: &[&'b str]) -> Result<Vec<&'b str>, AllocError> {
-    let mut whole = Vec::new(rt.alloc());
-    whole.push("sheetdesk")?;
-    whole.extend_from_slice(words)?;
-    Ok(whole)
-}
-
-/// Carries out what was asked.
+/// Carries out what was asked: a request as a part of a report, or a command.
 fn attend_asked<S: Alter + Drop, H: Shelf<S>, W: Write>(
     rt: &HostRuntime,
     folder: &str,
@@ -111,103 +102,66 @@ fn attend_asked<S: Alter + Drop, H: Shelf<S>, W: Write>(
 )
     ensures { IsServedBy S.Store 1 world.old world.new }
 {
-    match whole_words(rt, asked.words.as_slice()) {
-        Ok(words) => attend_words(
-            rt,
-            folder,
-            world,
-            shelf,
-            words.as_slice(),
-            asked.input,
-            frames,
-        ),
+    match report_of(asked.words.as_slice()) {
+        Some(report) => {
+            let deed = Deed::Carry(report);
+            attend_deed(rt, folder, world, shelf, &deed, asked.input, frames)
+        }
+        None => attend_heard(rt, folder, world, shelf, asked, frames),
+    }
+}
+
+/// Carries out the command that was asked, once it is known what it reads.
+fn attend_heard<S: Alter + Drop, H: Shelf<S>, W: Write>(
+    rt: &HostRuntime,
+    folder: &str,
+    world: &mut World<S>,
+    shelf: &mut H,
+    asked: &Asked<'_>,
+    frames: &mut Frames<W>,
+)
+    ensures { IsServedBy S.Store 1 world.old world.new }
+{
+    match command_of(rt, folder, asked) {
+        Some(Ok(command)) => attend_command(rt, folder, world, shelf, command, frames),
+        Some(Err(why)) => tell_unnamed(rt, &why, frames),
+        None => pass_on(frames),
+    }
+}
+
+/// The same, once it is known.
+fn attend_command<S: Alter + Drop, H: Shelf<S>, W: Write>(
+    rt: &HostRuntime,
+    folder: &str,
+    world: &mut World<S>,
+    shelf: &mut H,
+    command: Command<'_>,
+    frames: &mut Frames<W>,
+)
+    ensures { IsServedBy S.Store 1 world.old world.new }
+{
+    let Command { words, heard } = command;
+    match whole_words(rt, words) {
+        Ok(words) => attend_words(rt, folder, world, shelf, words.as_slice(), heard, frames),
         Err(_) => pass_on(frames),
     }
 }
 
-/// What the words of a command name, and what they leave out: that is new, or of the clock.
-#[derive(Drop)]
-struct Filled {
-    named: Named,
-    id: Uuid,
-    identity: Uuid,
-    at: String,
-}
-
-/// The same where nothing is left out.
-fn blank_words(rt: &HostRuntime, named: Named) -> Filled {
-    Filled {
-        named,
-        id: Uuid::nil(),
-        identity: Uuid::nil(),
-        at: String::new(rt.alloc()),
-    }
-}
-
-/// What the words of a verb name and leave out.
-fn fill_verb(rt: &HostRuntime, named: Named, options: &ArgMatches<'_>) -> Result<Filled, Ending> {
-    let id = uuid_given(rt, options, "request")?;
-    let identity = uuid_given(rt, options, "as")?;
-    let at = moment_given(rt, options)?;
-    Ok(Filled {
-        named,
-        id,
-        identity,
-        at,
-    })
-}
-
-/// The box of a loan, where one is given.
-fn box_given<'m>(name: &str, given: &ArgMatches<'m>) -> Option<&'m str> {
-    if name == "lend" {
-        given.get_str("box")
-    } else {
-        None
-    }
-}
-
-/// Whether the numbers of a box are numbers, where one is given.
-fn is_box_read(name: &str, given: &ArgMatches<'_>) -> bool {
-    match box_given(name, given) {
-        Some(words) => box_of(given, words).is_some(),
-        None => true,
-    }
-}
-
-/// What the words of a command name and leave out.
-fn fill(
+/// What all words name and leave out; none where a desk does not carry the command out.
+fn fill_words(
     rt: &HostRuntime,
     folder: &str,
-    name: &str,
-    given: &ArgMatches<'_>,
-) -> Result<Filled, Unnamed> {
-    let named = named_words(rt, folder, name, given)?;
-    if !is_verb(name) {
-        return Ok(blank_words(rt, named));
-    }
-    if !is_box_read(name, given) {
-        return Err(end_untold(rt, BAD_NUMBER));
-    }
-    let filled = match given.subcommand() {
-        Some((_, options)) => fill_verb(rt, named, options),
-        None => fill_verb(rt, named, given),
-    };
-    match filled {
-        Ok(filled) => Ok(filled),
-        Err(ending) => Err(end_untold(rt, ending)),
-    }
-}
-
-/// The same of all words; none where a desk does not carry the command out.
-fn fill_words(rt: &HostRuntime, folder: &str, words: &[&str]) -> Option<Result<Filled, Unnamed>> {
+    words: &[&str],
+    heard: &Heard<'_>,
+) -> Option<Result<Filled, Unnamed>> {
     let Ok(matches) = matched(rt, words) else {
         return None;
     };
     let (name, given) = matches.subcommand()?;
-    if !is_served(name, given) {
+    if !is_served(name, given) || !heard.is_for(name) {
         return None;
     }
-    Some(fill(rt, folder, name, given))
+    Some(fill(rt, folder, name, given, heard.bytes()))
 }
 
 /// Carries out the command of these words.
@@ -217,82 +171,20 @@ fn attend_words<S: Alter + Drop, H: Shelf<S>, W: Write>(
     world: &mut World<S>,
     shelf: &mut H,
     words: &[&str],
-    input: &[u8],
+    heard: Heard<'_>,
     frames: &mut Frames<W>,
 )
     ensures { IsServedBy S.Store 1 world.old world.new }
 {
-    match fill_words(rt, folder, words) {
-        Some(Ok(filled)) => attend_filled(rt, folder, world, shelf, words, &filled, input, frames),
+    match fill_words(rt, folder, words, &heard) {
+        Some(Ok(filled)) => attend_filled(rt, folder, world, shelf, words, &filled, heard, frames),
         Some(Err(why)) => tell_unnamed(rt, &why, frames),
         None => pass_on(frames),
     }
 }
 
-/// The loan of what covers the box of these words.
-fn box_deed<'m>(
-    given: &ArgMatches<'m>,
-    filled: &'m Filled,
-    words: &str,
-) -> Result<Deed<'m>, Ending> {
-    let Some((ground, zoom)) = box_of(given, words) else {
-        return Err(BAD_NUMBER);
-    };
-    let boxed = BoxedLoan {
-        id: filled.id,
-        at: filled.at.as_str(),
-        from: if_given(given, "first", filled.named.word.as_str()),
-        zoom,
-        ground,
-        mode: mode_of(given),
-        loan: filled.identity,
-    };
-    Ok(Deed::LendBox(boxed, purpose_of(given)))
-}
-
-/// The deed of a verb.
-fn verb_deed<'m>(
-    name: &str,
-    given: &ArgMatches<'m>,
-    filled: &'m Filled,
-) -> Result<Deed<'m>, Ending> {
-    let Some(verb) = verb_of(name, given, &filled.named, filled.identity) else {
-        return Err(FAILED);
-    };
-    let order = Order {
-        id: filled.id,
-        at: filled.at.as_str(),
-        verb,
-    };
-    Ok(Deed::Order(order, purpose_given(given)))
-}
-
-/// The deed of a command that changes something.
-fn work_deed<'m>(
-    name: &str,
-    given: &ArgMatches<'m>,
-    filled: &'m Filled,
-) -> Result<Deed<'m>, Ending> {
-    if name == "apply" {
-        return Ok(Deed::Apply);
-    }
-    match box_given(name, given) {
-        Some(words) => box_deed(given, filled, words),
-        None => verb_deed(name, given, filled),
-    }
-}
-
-/// The deed of a command that a desk carries out.
-fn deed_of<'m>(name: &str, given: &ArgMatches<'m>, filled: &'m Filled) -> Result<Deed<'m>, Ending> {
-    match wish_of(name, given, filled.named.word.as_str()) {
-        Some(Wish::Asked(asked)) => Ok(Deed::Look(asked)),
-        Some(Wish::Named(asked)) => Ok(Deed::Named(asked)),
-        None => work_deed(name, given, filled),
-    }
-}
-
-/// Carries out the command of these words, which name these and leave these out. They are matched once more, so that all
-/// words live as long as these do.
+/// Carries out the command of these words, which name these and leave these out. They are matched once more, so that
+/// all words live as long as these do.
 fn attend_filled<'m, S: Alter + Drop, H: Shelf<S>, W: Write>(
     rt: &HostRuntime,
     folder: &str,
@@ -300,7 +192,7 @@ fn attend_filled<'m, S: Alter + Drop, H: Shelf<S>, W: Write>(
     shelf: &mut H,
     words: &'m [&'m str],
     filled: &'m Filled,
-    input: &[u8],
+    heard: Heard<'_>,
     frames: &mut Frames<W>,
 )
     ensures { IsServedBy S.Store 1 world.old world.new }
@@ -311,9 +203,75 @@ fn attend_filled<'m, S: Alter + Drop, H: Shelf<S>, W: Write>(
     let Some((name, given)) = matches.subcommand() else {
         return pass_on(frames);
     };
-    match deed_of(name, given, filled) {
-        Ok(deed) => attend_deed(rt, folder, world, shelf, &deed, input, frames),
-        Err(ending) => tell_ending(rt, seen::Ending::Usual(ending), &None, frames),
+    let errand = Errand {
+        rt,
+        folder,
+        name,
+        given,
+        filled,
+    };
+    attend_errand(&errand, world, shelf, heard, frames)
+}
+
+/// Carries out a command, by its name.
+fn attend_errand<S: Alter + Drop, H: Shelf<S>, W: Write>(
+    errand: &Errand<'_, '_>,
+    world: &mut World<S>,
+    shelf: &mut H,
+    heard: Heard<'_>,
+    frames: &mut Frames<W>,
+)
+    ensures { IsServedBy S.Store 1 world.old world.new }
+{
+    match errand.name {
+        "changes" | "bring" => attend_changes(errand, world, shelf, heard, frames),
+        "drop" => attend_drop(errand, world, shelf, frames),
+        "tidy" => attend_tidy(errand, world, frames),
+        _ => attend_file(errand, world, shelf, heard.bytes(), frames),
+    }
+}
+
+/// The same of one that may ask for a file for people: a page, a drawing or a project.
+fn attend_file<S: Alter + Drop, H: Shelf<S>, W: Write>(
+    errand: &Errand<'_, '_>,
+    world: &mut World<S>,
+    shelf: &mut H,
+    bytes: &[u8],
+    frames: &mut Frames<W>,
+)
+    ensures { IsServedBy S.Store 1 world.old world.new }
+{
+    if is_paper(errand.name, errand.given) {
+        return attend_page(errand, world, bytes, frames);
+    }
+    match project_file(errand) {
+        Some(file) => attend_project(errand, world, file, frames),
+        None => attend_work(errand, world, shelf, bytes, frames),
+    }
+}
+
+/// The file for which a project is asked, if one is.
+fn project_file<'m>(errand: &Errand<'_, 'm>) -> Option<&'m str> {
+    if errand.name == "export" {
+        errand.given.get_str("qgis")
+    } else {
+        None
+    }
+}
+
+/// The same of one that is a deed.
+fn attend_work<S: Alter + Drop, H: Shelf<S>, W: Write>(
+    errand: &Errand<'_, '_>,
+    world: &mut World<S>,
+    shelf: &mut H,
+    input: &[u8],
+    frames: &mut Frames<W>,
+)
+    ensures { IsServedBy S.Store 1 world.old world.new }
+{
+    match deed_of(errand.name, errand.given, errand.filled) {
+        Ok(deed) => attend_deed(errand.rt, errand.folder, world, shelf, &deed, input, frames),
+        Err(ending) => tell_usual(errand.rt, ending, &None, frames),
     }
 }
 
@@ -340,59 +298,4 @@ fn attend_deed<S: Alter + Drop, H: Shelf<S>, W: Write>(
     let files = files_in(rt, folder);
     let (ending, hint) = carry_out(rt.alloc(), world, shelf, files, deed, input, &mut *frames);
     tell_ending(rt, ending, &hint, frames);
-}
-
-/// Tells a text on standard error, and ends its line.
-fn tell_line<W: Write>(line: Result<String, AllocError>, frames: &mut Frames<W>) -> io::Result<()> {
-    let Ok(text) = line else {
-        return Ok(());
-    };
-    if text.is_empty() {
-        return Ok(());
-    }
-    frames.tell_error(text.as_str())?;
-    frames.tell_error("\n")
-}
-
-/// Tells how a command ended, and what is known beside it.
-fn write_ending<W: Write>(
-    rt: &HostRuntime,
-    ending: &seen::Ending,
-    hint: &Option<Hint<'_>>,
-    frames: &mut Frames<W>,
-) -> io::Result<()> {
-    if let Some(hint) = hint {
-        tell_line(hint_line(rt.alloc(), hint), frames)?;
-    }
-    frames.write_all(seen::output_of(*ending).as_bytes())?;
-    frames.tell_error(seen::error_of(*ending))?;
-    tell_line(seen::note_of(rt.alloc(), *ending), frames)?;
-    frames.end(seen::status_of(*ending))
-}
-
-/// The same, to whom may have gone.
-fn tell_ending<W: Write>(
-    rt: &HostRuntime,
-    ending: seen::Ending,
-    hint: &Option<Hint<'_>>,
-    frames: &mut Frames<W>,
-) {
-    let _untold = write_ending(rt, &ending, hint, frames);
-}
-
-/// Tells why words name nothing.
-fn write_unnamed<W: Write>(
-    rt: &HostRuntime,
-    why: &Unnamed,
-    frames: &mut Frames<W>,
-) -> io::Result<()> {
-    frames.write_all(why.output.as_bytes())?;
-    frames.tell_error(why.error.as_str())?;
-    let ending = seen::Ending::Usual(why.ending);
-    write_ending(rt, &ending, &None, frames)
-}
-
-/// The same, to whom may have gone.
-fn tell_unnamed<W: Write>(rt: &HostRuntime, why: &Unnamed, frames: &mut Frames<W>) {
-    let _untold = write_unnamed(rt, why, frames);
 }

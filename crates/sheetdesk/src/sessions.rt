@@ -1,6 +1,11 @@
-//! Sessions: commands as a person types them, a line each, carried out one after the other.
-use crate::running::{answered, carried_out, matched, out_of_memory, output_failed, print_error};
+//! Sessions: commands as a person types them, a line each, carried out one after the other. A folder stays open from
+//! line to line.
+use crate::keeping::Keeper;
+use crate::running::{
+    answered, carried_out, matched, out_of_memory, output_failed, print_error, text_of,
+};
 use crate::streams::Input;
+use clap::ArgMatches;
 use std::io::ErrorKind;
 use std::{fs, io};
 
@@ -14,14 +19,19 @@ fn failed(rt: &HostRuntime, what: &str, error: &io::Error) -> u8 {
 }
 
 /// Carries out a command of a session, the program's name first. A session has none in it.
-fn carried_out_once(rt: &HostRuntime, words: &[&str], reader: &mut Input<'_>) -> u8 {
+fn carried_out_once(keeper: &mut Keeper<'_>, words: &[&str], reader: &mut Input<'_>) -> u8 {
+    let rt = keeper.rt();
     let matches = match matched(rt, words) {
         Ok(matches) => matches,
-        Err(error) => return answered(rt, &error),
+        Err(error) => {
+            keeper.close();
+            return answered(rt, &error);
+        }
     };
     match matches.subcommand() {
-        Some((name, given)) if name != "session" => carried_out(rt, words, name, given, reader),
+        Some((name, given)) if name != "session" => keeper.carry_out(words, name, given, reader),
         Some(_) | None => {
+            keeper.close();
             print_error(rt, "error: a session has no session in it\n");
             2
         }
@@ -29,17 +39,19 @@ fn carried_out_once(rt: &HostRuntime, words: &[&str], reader: &mut Input<'_>) ->
 }
 
 /// Carries out a typed command over what it reads.
-fn command(rt: &HostRuntime, typed: &str, reader: &mut Input<'_>) -> u8 {
+fn command(keeper: &mut Keeper<'_>, typed: &str, reader: &mut Input<'_>) -> u8 {
+    let rt = keeper.rt();
     match typed.split(' ').collect::<Vec<&str>>(rt.alloc()) {
-        Ok(words) => carried_out_once(rt, words.as_slice(), reader),
+        Ok(words) => carried_out_once(keeper, words.as_slice(), reader),
         Err(_) => out_of_memory(rt),
     }
 }
 
 /// Carries out a command over what is in a file.
-fn command_over(rt: &HostRuntime, typed: &str, path: &str) -> u8 {
+fn command_over(keeper: &mut Keeper<'_>, typed: &str, path: &str) -> u8 {
+    let rt = keeper.rt();
     match fs::read(rt, path) {
-        Ok(input) => command(rt, typed, &mut Input::File(input.as_slice())),
+        Ok(input) => command(keeper, typed, &mut Input::File(input.as_slice())),
         Err(error) => failed(rt, path, &error),
     }
 }
@@ -52,42 +64,62 @@ fn status_of(rt: &HostRuntime, path: &str, done: io::Result<()>) -> u8 {
     }
 }
 
-/// Carries one line out, and answers its status.
-fn line_carried_out(rt: &HostRuntime, line: &str, reader: &mut Input<'_>) -> u8 {
+/// Carries out what is no command of the program: files and folders are made and removed while no folder is kept.
+fn other_line(keeper: &mut Keeper<'_>, line: &str) -> u8 {
+    let rt = keeper.rt();
+    keeper.close();
     if let Some(folder) = line.strip_prefix("mkdir ") {
         return status_of(rt, folder, fs::create_dir(rt, folder));
     }
     if let Some(file) = line.strip_prefix("rm ") {
         return status_of(rt, file, fs::remove_file(rt, file));
     }
+    print_error(rt, "error: no line of a session\n");
+    2
+}
+
+/// Carries one line out, and answers its status.
+fn line_carried_out(keeper: &mut Keeper<'_>, line: &str, reader: &mut Input<'_>) -> u8 {
     if !line.starts_with("./sheetdesk ") {
-        print_error(rt, "error: no line of a session\n");
-        return 2;
+        return other_line(keeper, line);
     }
     match line.split_once(" < ") {
-        Some((typed, path)) => command_over(rt, typed, path),
-        None => command(rt, line, reader),
+        Some((typed, path)) => command_over(keeper, typed, path),
+        None => command(keeper, line, reader),
     }
 }
 
-/// Prints a line, what it prints itself, and its status where that is not 0. A comment is printed alone.
-fn typed(rt: &HostRuntime, line: &str, reader: &mut Input<'_>) -> io::Result<()> {
+/// Prints a line, what it prints itself, and its status where that is not 0, and answers that. A comment is printed
+/// alone.
+fn typed(keeper: &mut Keeper<'_>, line: &str, reader: &mut Input<'_>) -> io::Result<u8> {
+    let rt = keeper.rt();
     if line.is_empty() || line.starts_with('#') {
-        return println!(rt; "{line}");
+        println!(rt; "{line}")?;
+        return Ok(0);
     }
     println!(rt; "$ {line}")?;
-    match line_carried_out(rt, line, reader) {
-        0 => Ok(()),
-        status => println!(rt; "status {status}"),
+    let status = line_carried_out(keeper, line, reader);
+    if status != 0 {
+        println!(rt; "status {status}")?;
     }
+    Ok(status)
 }
 
-/// Carries out the lines of a text, whatever the status of each is.
-fn each_carried_out(rt: &HostRuntime, text: &str, reader: &mut Input<'_>) -> io::Result<()> {
+/// Carries out the lines of a text, and answers 0, whatever the status of each is. Where it is strict, the first line
+/// whose status is another is the last, and that is answered.
+fn each_carried_out(
+    keeper: &mut Keeper<'_>,
+    text: &str,
+    is_strict: bool,
+    reader: &mut Input<'_>,
+) -> io::Result<u8> {
     for line in text.lines() {
-        typed(rt, line, reader)?;
+        let status = typed(keeper, line, reader)?;
+        if is_strict && status != 0 {
+            return Ok(status);
+        }
     }
-    Ok(())
+    Ok(0)
 }
 
 /// The lines of a file, or the exit status where it has none that can be read.
@@ -111,13 +143,16 @@ fn refused(rt: &HostRuntime) -> u8 {
 }
 
 /// Carries out what stands in a file, a line each, and answers the exit status: 0 where the last line was reached.
-fn session(rt: &HostRuntime, file: &str, reader: &mut Input<'_>) -> u8 {
-    let text = match lines_of(rt, file) {
+fn session(rt: &HostRuntime, given: &ArgMatches<'_>, reader: &mut Input<'_>) -> u8 {
+    let text = match lines_of(rt, text_of(given, "file")) {
         Ok(text) => text,
         Err(status) => return status,
     };
-    match each_carried_out(rt, text.as_str(), reader) {
-        Ok(()) => 0,
+    let mut keeper = Keeper::new(rt);
+    let ended = each_carried_out(&mut keeper, text.as_str(), given.get_flag("strict"), reader);
+    keeper.close();
+    match ended {
+        Ok(status) => status,
         Err(_) => output_failed(rt),
     }
 }
@@ -132,7 +167,7 @@ pub(crate) fn run(rt: &HostRuntime, words: &[String], reader: &mut Input<'_>) ->
     match matches.subcommand() {
         Some((name, given)) => {
             if name == "session" {
-                session(rt, given.get_str("file").unwrap_or(""), reader)
+                session(rt, given, reader)
             } else {
                 carried_out(rt, words, name, given, reader)
             }

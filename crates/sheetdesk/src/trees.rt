@@ -18,7 +18,7 @@ use store_folder::listing::folder_bytes;
 
 /// The files of a tree, and how many of how many were read.
 #[derive(Drop)]
-struct Tree<'r, 't> {
+pub(crate) struct Tree<'r, 't> {
     rt: &'r HostRuntime,
     directory: &'t str,
     teller: Onlooker<'r>,
@@ -27,6 +27,17 @@ struct Tree<'r, 't> {
 }
 
 impl<'r, 't> Tree<'r, 't> {
+    /// So many files of a directory, of which none was read.
+    pub(crate) fn new(rt: &'r HostRuntime, directory: &'t str, count: usize) -> Tree<'r, 't> {
+        Tree {
+            rt,
+            directory,
+            teller: Onlooker::new(rt, false),
+            done: 0,
+            all: count as u64,
+        }
+    }
+
     /// Tells how far it is.
     fn tell(&mut self) {
         self.teller.tell(self.done, self.all);
@@ -87,7 +98,7 @@ fn push_columns(
 }
 
 /// The places of a tree, by zoom, column and row.
-fn places_of(rt: &HostRuntime, folder: &str) -> io::Result<Vec<Place>> {
+pub(crate) fn places_of(rt: &HostRuntime, folder: &str) -> io::Result<Vec<Place>> {
     let mut places = Vec::new(rt.alloc());
     for zoom in numbers_at(rt, folder, "")? {
         push_columns(rt, folder, zoom, &mut places)?;
@@ -104,13 +115,7 @@ fn put_tree_in(
     places: &[Place],
     output: &mut Output<'_>,
 ) -> Ending {
-    let mut tree = Tree {
-        rt,
-        directory,
-        teller: Onlooker::new(rt, false),
-        done: 0,
-        all: places.len() as u64,
-    };
+    let mut tree = Tree::new(rt, directory, places.len());
     let (ending, hint) = put_tree_for(
         rt,
         folder,

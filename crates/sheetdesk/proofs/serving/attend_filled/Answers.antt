@@ -8,6 +8,3 @@ returns-in_default g c = same_by g.S.Store c.args.world.now c.args.world.now ref
 
 pub returns-in_default-subcommand : goal.returns-in_default-subcommand
 returns-in_default-subcommand g c = same_by g.S.Store c.args.world.now c.args.world.now refl
-
-pub returns : goal.returns
-returns g c = same_by g.S.Store c.args.world.now c.args.world.now refl

@@ -1,0 +1,143 @@
+//! One request is carried out for somebody who carries out several, and its reply told as a part of what he prints.
+ghost use Rattle.std.specs.Prelude.{◌≡◌, ◌∷◌, [], MatchResult};
+ghost use Rattle.command_folder.specs.Printing.{Prints};
+ghost use Rattle.command_ordering.specs.Telling.{replies_ending};
+ghost use Rattle.commands.specs.Subcommands.{IsWhyUnasked};
+ghost use Rattle.request_json.specs.Requests.{IsRequestText};
+ghost use Rattle.command_desk.specs.Carrying.{Carries, CarriesRow, IsCarriedFor, row_ending};
+ghost use Rattle.command_desk.specs.declared.carrying.Report.TheVariants.{Outcome};
+
+use command_folder::endings::{DONE, Ending, FAILED, NO_MEMORY};
+use command_lines::drops::outcomes_text;
+use manifest_csv::reports::{line_buffer, put_line};
+use manifest_csv::sending::send;
+use request_json::requests::read_request;
+use sheet_types::command::Request;
+use sheet_types::receipt::Receipt;
+use sheet_types::refusal::Refusal;
+use sqlite::Alter;
+use std::alloc::Global;
+use std::io::Write;
+use store_shelf::shelf::Shelf;
+use world::world::World;
+
+/// As a part of what the reply to a request is told.
+#[derive(Clone, Copy, Debug, PartialEq, Eq)]
+pub enum Report {
+    /// The row of this number of an import's report.
+    Row(u64),
+    /// The line of a request of several.
+    Outcome,
+}
+
+/// The request that bytes are.
+///
+/// # Errors
+///
+/// Bytes that are no request, or want of memory.
+fn asked_of(alloc: Global, body: &[u8]) -> Result<Request, Ending>
+    ensures { MatchResult result (IsRequestText body.now) (IsWhyUnasked body.now) }
+{
+    match read_request(alloc, body) {
+        Ok(Some(request)) => Ok(request),
+        Ok(None) => Err(Ending::BadBody),
+        Err(_) => Err(NO_MEMORY),
+    }
+}
+
+/// Writes a text, and ends as is due.
+fn print<W: Write>(writer: &mut W, text: &str, due: Ending) -> Ending
+    ensures { Prints text.now due (W.contents writer.old) (W.contents writer.new) result }
+{
+    match send(writer, text.as_bytes()) {
+        Ok(()) => due,
+        Err(_) => FAILED,
+    }
+}
+
+/// How it ends behind a row: an import goes on after a refusal, and stops where memory or a store gave out.
+fn row_ending(reply: &Result<Receipt, Refusal>) -> Ending
+    ensures { result ≡ row_ending reply.now }
+{
+    match reply {
+        Err(Refusal::OutOfMemory) => NO_MEMORY,
+        Err(Refusal::StoreFault) => FAILED,
+        _ => DONE,
+    }
+}
+
+/// How it ends behind a line: as after several requests whose only reply it is.
+fn line_ending(reply: &Result<Receipt, Refusal>) -> Ending
+    ensures { result ≡ replies_ending (reply.now ∷ []) }
+{
+    match reply {
+        Ok(_) => DONE,
+        Err(Refusal::OutOfMemory) => NO_MEMORY,
+        Err(Refusal::StoreFault) => FAILED,
+        Err(why) => Ending::Declined(*why),
+    }
+}
+
+/// Carries a request out, and writes the row of this number. The room for it is had before.
+fn carry_row<S: Alter + Drop, H: Shelf<S>, W: Write>(
+    alloc: Global,
+    world: &mut World<S>,
+    shelf: &mut H,
+    n: u64,
+    request: &Request,
+    writer: &mut W,
+) -> Ending
+    ensures { CarriesRow S.Store n request.now world.old world.new writer.old writer.new
+        (W.contents writer.old) (W.contents writer.new) result }
+{
+    let Ok(mut buffer) = line_buffer(alloc) else {
+        return NO_MEMORY;
+    };
+    let reply = world.apply(alloc, request, shelf);
+    put_line(&mut buffer, n, request.id, &reply);
+    print(writer, buffer.as_str(), row_ending(&reply))
+}
+
+/// Carries a request out, and writes what came of it.
+fn carry_line<S: Alter + Drop, H: Shelf<S>, W: Write>(
+    alloc: Global,
+    world: &mut World<S>,
+    shelf: &mut H,
+    request: Request,
+    writer: &mut W,
+) -> Ending
+    ensures { IsCarriedFor S.Store Outcome request world.old world.new writer.old writer.new
+        (W.contents writer.old) (W.contents writer.new) result }
+{
+    let reply = world.apply(alloc, &request, shelf);
+    let due = line_ending(&reply);
+    let requests = [request];
+    let replies = [reply];
+    match outcomes_text(alloc, requests.as_slice(), replies.as_slice()) {
+        Ok(text) => print(writer, text.as_str(), due),
+        Err(_) => NO_MEMORY,
+    }
+}
+
+/// Carries out the request that bytes are, and tells the reply as this part. Where they are none, or room for a row is
+/// wanting, nothing is done.
+pub fn carry_in<S: Alter + Drop, H: Shelf<S>, W: Write>(
+    alloc: Global,
+    world: &mut World<S>,
+    shelf: &mut H,
+    report: Report,
+    body: &[u8],
+    writer: &mut W,
+) -> Ending
+    ensures { Carries S.Store report body.now world.old world.new writer.old writer.new
+        (W.contents writer.old) (W.contents writer.new) result }
+{
+    let request = match asked_of(alloc, body) {
+        Ok(request) => request,
+        Err(ending) => return ending,
+    };
+    match report {
+        Report::Row(n) => carry_row(alloc, world, shelf, n, &request, writer),
+        Report::Outcome => carry_line(alloc, world, shelf, request, writer),
+    }
+}
