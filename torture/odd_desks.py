@@ -10,6 +10,7 @@ Status 0 where all is as it must be.
 """
 
 import fcntl
+import json
 import os
 import socket
 import subprocess
@@ -17,7 +18,7 @@ import sys
 import tempfile
 import threading
 
-from running_desk import ARCHIVE, AT, FRAME, program
+from running_desk import ARCHIVE, AT, FRAME, TOP, program
 
 PROGRAM = program()
 KEY = "0123456789abcdef0123456789abcdef"
@@ -35,13 +36,13 @@ def typed(*words, given=b"", where=None):
 
 
 class OddDesk:
-    """Holds a folder, and answers one connection with these bytes, whatever it is asked.
+    """Holds a folder, and answers a connection with these bytes, whatever it is asked; several, one after the other.
 
     With None it closes at once.
     """
 
-    def __init__(self, folder, answer, text=None):
-        self.folder, self.answer, self.sent = folder, answer, b""
+    def __init__(self, folder, *answers, text=None):
+        self.folder, self.answers, self.sent, self.inputs = folder, answers, [], []
         self.lock = open(f"{folder}/sheetdesk.lock", "r+b")
         fcntl.flock(self.lock, fcntl.LOCK_EX | fcntl.LOCK_NB)
         self.listener = socket.create_server(("127.0.0.1", 0))
@@ -52,21 +53,26 @@ class OddDesk:
         self.thread.start()
 
     def serve(self):
-        try:
-            client, _ = self.listener.accept()
-        except OSError:
-            return
-        with client:
-            if self.answer is None:
+        for answer in self.answers:
+            try:
+                client, _ = self.listener.accept()
+            except OSError:
                 return
-            while not self.is_whole():
-                self.sent += client.recv(65536)
-            client.sendall(self.answer)
+            with client:
+                if answer is not None:
+                    self.sent.append(self.whole_request(client))
+                    client.sendall(answer)
 
-    def is_whole(self):
-        """Whether a whole request has come."""
-        head, end, body = self.sent.partition(b"\r\n\r\n")
-        return bool(end) and len(body) >= int(head.lower().split(b"content-length: ")[1].split(b"\r\n")[0])
+    def whole_request(self, client):
+        """A request, and what standard input stands in the folder for it."""
+        sent = b""
+        while not is_whole(sent):
+            sent += client.recv(65536)
+        for name in os.listdir(self.folder):
+            if name.startswith("sheetdesk.input-"):
+                with open(f"{self.folder}/{name}", "rb") as kept:
+                    self.inputs.append((name, os.stat(kept.fileno()).st_mode & 0o777, kept.read()))
+        return sent
 
     def __enter__(self):
         return self
@@ -74,6 +80,12 @@ class OddDesk:
     def __exit__(self, *_):
         self.listener.close()
         self.lock.close()
+
+
+def is_whole(sent):
+    """Whether a whole request has come."""
+    head, end, body = sent.partition(b"\r\n\r\n")
+    return bool(end) and len(body) >= int(head.lower().split(b"content-length: ")[1].split(b"\r\n")[0])
 
 
 def request_of(port, words, given):
@@ -111,7 +123,7 @@ def answers(folder):
             expect(due, typed("status", folder), (answer or b"")[-60:])
             if answer is not None:
                 desk.thread.join()
-                expect(request_of(desk.port, ["status", folder], b""), desk.sent, "what was sent")
+                expect([request_of(desk.port, ["status", folder], b"")], desk.sent, "what was sent")
 
 
 def what_is_sent(folder, room):
@@ -128,7 +140,7 @@ def what_is_sent(folder, room):
             told = typed(*words, given=given, where=room)
             expect((b"" if "-q" in words else b"done\n", b"", 0), told, words)
             desk.thread.join()
-            expect(request_of(desk.port, words, sent), desk.sent, words)
+            expect([request_of(desk.port, words, sent)], desk.sent, words)
     with OddDesk(folder, HEAD + b"1 4\nno!\n0 1\n"):
         expect((b"no!\n", b"", 1), typed(*put, where=room), "a quiet verb that is refused")
     with OddDesk(folder, HEAD + b"1 3\n\x00\xff\n0 0\n"):
@@ -140,13 +152,105 @@ def what_is_sent(folder, room):
         expect((b"refused: body\n", 1), told[::2], "a file that is not there")
 
 
+def uuid(number):
+    return f"5e4b0000-0000-4000-8000-{number:012d}"
+
+
+def answer_of(output, status=0):
+    """An answer."""
+    return HEAD + b"1 %d\n%s0 %d\n" % (len(output), output, status)
+
+
+def record(number):
+    """The record of a list, and the request that it is, as JSON."""
+    given = {"request": uuid(number), "at": AT, "command": "delete", "package": ARCHIVE, "identity": uuid(number)}
+    text = f"{uuid(number)},{AT},delete,{ARCHIVE},{uuid(number)},,,,,,,,,,,,,\n"
+    return text, json.dumps(given, separators=(",", ":")).encode()
+
+
+def lists(folder, room):
+    """A list is asked request by request, until one has another status than 0 or is not answered."""
+    with open(f"{TOP}/samples/archive.csv", encoding="utf-8") as sample:
+        text = sample.readline() + "".join(record(number)[0] for number in (1, 2, 3))
+    with open(f"{room}/list.csv", "w", encoding="utf-8") as kept:
+        kept.write(text)
+    head, rows = b"line,request,seq,refusal\n", [f"{number},{uuid(number)},9,0\n".encode() for number in (1, 2, 3)]
+    first, fault = answer_of(rows[0]), b"store: StoreFault\n"
+    stop = HEAD + b"1 %d\n%s2 %d\n%s0 3\n" % (len(rows[1]), rows[1], len(fault), fault)
+    again = b" of 3 requests were answered; the same command, sent again, carries out the rest: a request acts once\n"
+    for answers, due in (
+        ([answer_of(row) for row in rows], (head + b"".join(rows), b"", 0)),
+        ([first, stop], (head + rows[0] + rows[1], fault, 3)),
+        ([first, b""], (head + rows[0], BROKEN + b"1" + again, 3)),
+        ([None], (head, BROKEN + b"0" + again, 3)),
+        ([first, first, HEAD + b"1 2\nab"], (head + 2 * rows[0] + b"ab", BROKEN + b"2" + again, 3)),
+        ([first, b"HTTP/1.1 403 Forbidden\r\n\r\n"], (head + rows[0], DECLINED + b"1" + again, 3)),
+        ([HEAD + b"3 0\n"], (head, b"store: StoreFault\nthe desk of the folder does not carry this out\n0" + again, 3)),
+    ):
+        with OddDesk(folder, *answers) as desk:
+            expect(due, typed("import", folder, f"{room}/list.csv"), answers)
+            desk.thread.join()
+            due = [request_of(desk.port, ["row", str(number)], record(number)[1]) for number in (1, 2, 3)]
+            expect(due[: len(desk.sent)], desk.sent, "what was sent")
+    with OddDesk(folder, b"") as desk:
+        given = typed("import", folder, "/dev/null")
+        expect((b"refused: list\n", 1, []), (*given[::2], desk.sent), "no list")
+
+
+def several(folder, room):
+    """An item is dropped by what the desk shows, and an edited file comes home by the list that it answers."""
+    shown = b"".join(record(number)[1] + b"\n" for number in (1, 2))
+    broken = b"1 requests were answered; the same command, sent again, does the rest\n"
+    for answers, due in (
+        ([answer_of(shown), answer_of(b"one\n"), answer_of(b"two\n")], (b"one\ntwo\n", b"", 0)),
+        ([answer_of(shown), answer_of(b"no\n", 1)], (b"no\n", b"", 1)),
+        ([answer_of(shown), answer_of(b"one\n"), b""], (b"one\n", BROKEN + broken, 3)),
+        ([answer_of(b"refused: linked\n", 1)], (b"refused: linked\n", b"", 1)),
+        ([HEAD + b"1 2\nab"], (b"", BROKEN, 3)),
+        ([HEAD + b"3 0\n"], (b"", HELD, 3)),
+    ):
+        with OddDesk(folder, *answers) as desk:
+            expect(due, typed("drop", folder, "5e4b"), answers)
+            desk.thread.join()
+            due = [request_of(desk.port, ["drop", "--dry-run", folder, "5e4b"], b"")]
+            due += [request_of(desk.port, ["outcome"], record(number)[1]) for number in (1, 2)]
+            expect(due[: len(desk.sent)], desk.sent, "what was sent")
+    with open(f"{room}/list.csv", "rb") as kept:
+        text = kept.read()
+    for words, answers, due in (
+        (["changes", folder, ARCHIVE], [answer_of(b"so\n")], (b"so\n", b"", 0)),
+        (["bring", folder, ARCHIVE, "--dry-run"], [answer_of(b"so\n", 1)], (b"so\n", b"", 1)),
+        (["bring", folder, ARCHIVE], [answer_of(b"so\n", 1)], (b"so\n", b"", 1)),
+        (
+            ["bring", folder, ARCHIVE],
+            [answer_of(text), *[answer_of(b"row\n")] * 3],
+            (b"line,request,seq,refusal\n" + 3 * b"row\n", b"", 0),
+        ),
+        (["bring", folder, ARCHIVE], [answer_of(b"no list\n")], (b"", BROKEN, 3)),
+        (["bring", folder, ARCHIVE], [HEAD + b"1 9\nrequest"], (b"", BROKEN, 3)),
+        (["changes", folder, ARCHIVE], [HEAD + b"3 0\n"], (b"", HELD, 3)),
+    ):
+        with OddDesk(folder, *answers) as desk:
+            expect(due, typed(*words, given=b"held\n" * 30000), words)
+            desk.thread.join()
+            [(name, mode, kept)] = desk.inputs
+            expect((0o600, b"held\n" * 30000), (mode, kept), "the file for standard input")
+            asked = words if words[0] == "changes" or "--dry-run" in words else ["bring", "--dry-run", *words[1:]]
+            expect(request_of(desk.port, ["from", name, *asked], b""), desk.sent[0], words)
+            assert not os.path.exists(f"{folder}/{name}"), name
+
+
 def not_asked(folder):
     """Commands that no desk carries out, and files that name no desk, end as beside any other process."""
-    for words in (["import", folder, "/dev/null"], ["tidy", folder], ["report", folder]):
+    for words in (["serve", folder, "1"], ["put", folder, ARCHIVE, "tiles", folder, "--tms"]):
         with OddDesk(folder, HEAD + b"1 1\nx0 0\n"):
-            expect(3, typed(*words)[2], words)
+            expect((b"", HELD, 3), typed(*words), words)
+    with OddDesk(folder, HEAD + b"1 1\nx0 0\n"):
+        # (the words are looked at first, and what the folder holds)
+        made = typed("init", folder, f"--frame={FRAME}")
+        expect((b"refused: folder holds packages\n", b"", 1), made, "init")
     for text in ("", "x\n", f"0 {KEY}", f"1 {KEY.upper()}\n", f"70000 {KEY}\n"):
-        with OddDesk(folder, HEAD + b"1 1\nx0 0\n", text):
+        with OddDesk(folder, HEAD + b"1 1\nx0 0\n", text=text):
             expect((b"", HELD, 3), typed("status", folder), repr(text))
     with OddDesk(folder, b"") as desk:
         # (a port is let go only once nobody waits at it any more)
@@ -166,6 +270,8 @@ def main():
         expect((b"good 0\n", b"", 0), typed("audit", folder), "audit")
         answers(folder)
         what_is_sent(folder, room)
+        lists(folder, room)
+        several(folder, room)
         not_asked(folder)
         # A desk that was killed left its file: nobody has the folder, so the command is carried out, and the file goes.
         with open(f"{folder}/sheetdesk.desk", "w", encoding="ascii") as said:

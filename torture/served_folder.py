@@ -5,13 +5,15 @@ Usage: served_folder.py [COUNT]      (as many requests of each of two clerks at 
        SHEETDESK=PROGRAM served_folder.py ..    over another program than the proved one
 
 Each line of the session is asked of the served folder twice, by the program and by the bytes of `docs/HTTP.md`, and
-of the other folder by the program. All three must print the same bytes, and end with the same status. Then clients that
-must be turned away, one that stops in the middle, two clerks at once, and how long a command takes. Status 0 where all
-is as it must be.
+of the other folder by the program. All three must print the same bytes, and end with the same status. A command of
+several requests is no single question, so the program alone asks it. Then the words by which the program asks for each
+of its requests, clients that must be turned away, one that stops in the middle, two clerks at once beside a list, and
+how long a command takes. Stock `sqlite3` has to be there. Status 0 where all is as it must be.
 """
 
 import json
 import os
+import re
 import shutil
 import signal
 import socket
@@ -128,8 +130,174 @@ def request(number, command, **members):
     return json.dumps(asked).encode()
 
 
-def session():
-    """The words, and the standard input, of each line: looks, requests, verbs, names, and what is refused of each."""
+def medium(number, size):
+    """The record of a list that adds a medium of so many bytes."""
+    return f"{new_id(number)},{LATER},add,{ARCHIVE},{new_id(number)},,media,,,,,,,,,,text/plain,{'41' * size}\n"
+
+
+def written(room, name, text):
+    """A new file of this text."""
+    path = f"{room}/{name}"
+    os.makedirs(os.path.dirname(path), exist_ok=True)
+    with open(path, "wb") as file:
+        file.write(text)
+    return path
+
+
+def imports(room):
+    """Lists: one that was carried out before, a new one with refusals, none, and one that is no list."""
+    with open(f"{TOP}/samples/archive.csv", "rb") as sample:
+        header = sample.readline()
+    records = medium(701, 3) + medium(702, 1048576) + medium(701, 4) + medium(703, 1048577) + medium(704, 1300000)
+    yield ["import", "FOLDER", f"{TOP}/samples/archive.csv"], b""
+    for name, text in (
+        ("long.csv", header + records.encode()),
+        ("empty.csv", header),
+        ("nothing.csv", b""),
+        ("header.csv", b"request,at\n"),
+        ("record.csv", header + medium(705, 1).encode() + b"x,y\n"),
+        ("column.csv", header + medium(706, 1).replace("media", "medium").encode()),
+    ):
+        yield ["import", "FOLDER", written(room, name, text)], b""
+    yield ["import", "FOLDER", f"{room}/none.csv"], b""
+    yield ["import", "FOLDER", room], b""
+    yield ["log", "FOLDER", "--last", "4"], b""
+
+
+def drops():
+    """An item without links, and one with them, shown, refused, and dropped."""
+    mark = ["put", "FOLDER", ARCHIVE, "mark", "500010,5900010", "220", "Kaj", "--at", LATER]
+    for number in (801, 802, 803):
+        yield [*mark, "--request", new_id(number), "--as", new_id(number)], b""
+    for number in (804, 805):
+        made = ["--request", new_id(number), "--as", new_id(number), "--at", LATER]
+        yield ["put", "FOLDER", ARCHIVE, "media", "-", *made], b"abc"
+        yield ["join", "FOLDER", new_id(802), new_id(number), "--request", new_id(number + 10), "--at", LATER], b""
+    for words in (
+        ["drop", "FOLDER", new_id(801), "--dry-run"],
+        ["drop", "FOLDER", new_id(801), "--at", LATER],
+        ["drop", "FOLDER", new_id(801)],
+        ["drop", "FOLDER", new_id(802)],
+        ["drop", "FOLDER", new_id(802), "--dry-run"],
+        ["drop", "FOLDER", "--yes", "--dry-run", new_id(802)],
+        ["drop", "FOLDER", new_id(803), "--at", "yesterday"],
+        ["drop", "FOLDER", "--at", LATER, new_id(802), "--yes"],
+        ["drop", "FOLDER", new_id(803), "-q"],
+        ["drop", "FOLDER", new_id(803), "-q"],
+        ["drop", "FOLDER", "000"],
+        ["drop", "FOLDER", "zzzz", "--at", LATER],
+        ["drop", "FOLDER", "5e4b"],
+        ["drop", "FOLDER", "harbour"],
+    ):
+        yield words, b""
+
+
+def held_by(twin, room, change):
+    """What a file holds that was exported and changed."""
+    path = f"{room}/field.gpkg"
+    if os.path.exists(path):
+        os.remove(path)
+    text = typed(["export", "FOLDER", ARCHIVE], twin)[0]
+    subprocess.run(["sqlite3", "-bail", path], input=text + change.encode(), check=True, stdout=subprocess.PIPE)
+    holds = typed(["holds"], twin)[0]
+    return subprocess.run(["sqlite3", path], input=holds, check=True, stdout=subprocess.PIPE).stdout
+
+
+def brought(twin, room):
+    """An edited file: what it changes, that brought home, and what is refused of it."""
+    more = "INSERT INTO sheet_media (data, content_type) VALUES (x'616263', 'text/plain');"
+    held = held_by(twin, room, f"UPDATE sheet_rows SET label = label || '!' WHERE id < 3; {more}")
+    for given in (held, held[:-1], held[: len(held) // 2], b"", b"\xff" * 100000):
+        yield ["changes", "FOLDER", ARCHIVE, "--at", LATER], given
+        yield ["bring", "FOLDER", "6f0d", "--dry-run", "--summary", "--at", LATER], given
+        if given is not held:
+            yield ["bring", "FOLDER", ARCHIVE, "--at", LATER], given
+    yield ["changes", "FOLDER", ARCHIVE, "--at", LATER, "--summary", "--more"], held
+    yield ["bring", "FOLDER", ARCHIVE, "--at", LATER, "--dry-run"], held
+    yield ["bring", "FOLDER", new_id(1), "--at", LATER], held
+    yield ["bring", "FOLDER", "ffff", "--at", LATER], held
+    yield ["bring", "FOLDER", ARCHIVE, "--at", "now"], held
+    yield ["bring", "FOLDER", ARCHIVE, "--at", LATER], held
+    # (the package has changed since)
+    yield ["bring", "FOLDER", ARCHIVE, "--at", LATER], held
+    yield ["bring", "FOLDER", ARCHIVE, "--more", "--at", LATER], held
+    yield ["manifest", "FOLDER", ARCHIVE], b""
+
+
+def trees(room):
+    """A tree of tiles: added, passed over, refused in the middle, and what is no tree."""
+    for place, text in (("4/1/1", b"abc"), ("5/1/1", b"def"), ("6/3/2", b"x" * 1200000), ("6/3/3", b"ghi")):
+        written(room, f"tree/{place}.png", text)
+    put = ["put", "FOLDER", ARCHIVE, "tiles"]
+    yield [*put, f"{room}/tree", "--at", LATER], b""
+    yield [*put, f"{room}/tree", "--at", LATER, "-q"], b""
+    written(room, "tree/6/3/2.png", b"short")
+    yield [*put, f"{room}/tree", "--at", LATER, "-q"], b""
+    yield [*put, f"{room}/tree", "--at", LATER], b""
+    written(room, "tree/5/1/1.png", b"another")
+    yield [*put, f"{room}/tree", "--at", LATER], b""
+    written(room, "far/9/99/99.png", b"far")
+    yield [*put, f"{room}/far", "--at", LATER], b""
+    os.makedirs(f"{room}/odd/4/0/3.png")
+    yield [*put, f"{room}/odd", "--at", LATER], b""
+    yield [*put, f"{room}/odd", "--at", LATER, "-q"], b""
+    yield [*put, f"{room}/nowhere"], b""
+    yield [*put, f"{room}/tree", "--at", "noon"], b""
+    for word in ("ffff", "6f0", new_id(1), "harbour"):
+        yield ["put", "FOLDER", word, "tiles", f"{room}/tree", "--at", LATER], b""
+    yield ["manifest", "FOLDER", ARCHIVE], b""
+
+
+def lines():
+    """Requests, a line each: answered, refused, none, empty lines, and one request over several lines."""
+    place = {"x": 500000400, "y": 5900000400, "code": 1}
+
+    def mark(number):
+        members = {"identity": new_id(number), "kind": "row", "text": "Ærø", **place}
+        return request(number, "add", **members)
+
+    yield ["apply", "FOLDER"], mark(951) + b"\n" + mark(952) + b"\n"
+    yield ["apply", "FOLDER"], mark(951) + b"\n\n\r\n" + mark(952) + b"\n{}\n" + mark(953)
+    yield ["apply", "FOLDER"], mark(954) + b"\nx\n" + mark(951).replace(b"400", b"401") + b"\n" + mark(955) + b"\n"
+    yield ["apply", "FOLDER"], mark(956).replace(b", ", b",\n") + b"\n"
+    yield ["apply", "FOLDER"], b"\n" + mark(957)
+    yield ["apply", "FOLDER"], mark(957) + b"\n" + b"y" * 2200001
+    yield ["apply", "FOLDER"], b""
+
+
+def papers(room):
+    """Pages and drawings with names and without, a project, and a folder that is made tidy."""
+    names = written(room, "called.csv", f"uuid,name\r\n{TILE},Hafen\r\n{ARCHIVE},chart\r\n".encode())
+    bad = written(room, "bad.csv", b"uuid,name\r\nx,y\r\n")
+    for more in ([], ["--names", names], ["--names", bad], ["--names", f"{room}/none.csv"]):
+        yield ["report", "FOLDER", *more], b""
+        yield ["map", "FOLDER", *more], b""
+        yield ["map", "FOLDER", "--zoom", "4", *more], b""
+        yield ["report", "FOLDER", "9e87", *more], b""
+    yield ["report", "FOLDER", "chart", "--names", names], b""
+    yield ["report", "FOLDER", "ffff"], b""
+    yield ["report", "FOLDER", new_id(1)], b""
+    yield ["export", "FOLDER", ARCHIVE, "--qgis", "crew.gpkg"], b""
+    yield ["export", "FOLDER", "ffff", "--qgis", "crew.gpkg"], b""
+    yield ["tidy", "FOLDER"], b""
+    yield ["tidy", "FOLDER", "-q"], b""
+
+
+def session(twin, room):
+    """The words, and the standard input, of each line: all of them."""
+    yield from singles()
+    yield from imports(room)
+    yield from drops()
+    yield from brought(twin, room)
+    yield from trees(room)
+    yield from lines()
+    yield from papers(room)
+    yield ["log", "FOLDER", "--last", "20"], b""
+    yield ["audit", "FOLDER"], b""
+
+
+def singles():
+    """Those of one question: looks, requests, verbs, names, and what is refused of each."""
     loan = new_id(901)
     named = ["--at", LATER, "--request"]
     place = {"x": 500000100, "y": 5900000100, "code": "FP"}
@@ -173,26 +341,114 @@ def session():
     yield ["return", "FOLDER", loan[:13] + "-8000", *named, new_id(10)], b""
     yield ["return", "FOLDER", loan, *named, new_id(10)], b""
     yield ["log", "FOLDER", "--last", "9"], b""
-    yield ["drop", "FOLDER", "zzzz", "--at", LATER], b""
     yield ["audit", "FOLDER"], b""
 
 
-def compare(desk, twin, has_client):
+def plain(told):
+    """What was printed, without new UUIDs of requests."""
+    out, error, status = told
+    return re.sub(rb'"request":"[0-9a-f-]{36}","at":"[^"]*"', b'"request":"new"', out), error, status
+
+
+def has_names(words):
+    """Whether a desk is sent a file of names in place of standard input."""
+    return "--names" in words and "--zoom" not in words and os.path.exists(words[-1])
+
+
+def given_to_desk(words, given):
+    """What a desk is sent as standard input."""
+    if has_names(words):
+        with open(words[-1], "rb") as names:
+            return names.read()
+    return given
+
+
+def is_several(words):
+    """Whether a line is a command of several requests that are carried out."""
+    name, is_shown = words[0], "--dry-run" in words
+    return name in ("import", "apply") or "tiles" in words or (name in ("bring", "drop") and not is_shown)
+
+
+def compare_several(desk, twin, words, given):
+    """Such a line, carried out once on each."""
+    due, told = typed(words, twin, given), typed(words, desk.folder, given)
+    if plain(told) != plain(due):
+        sys.exit(f"served_folder: {words}: the client prints\n{told}\nand not\n{due}")
+    left = [name for name in os.listdir(desk.folder) if name.startswith("sheetdesk.input")]
+    assert not left, left
+
+
+def compare(desk, twin, room, has_client):
     """Each line, on the folder that is not served, and on the one that is."""
-    for words, given in session():
-        due = typed(words, twin, given)
-        told = desk.ask([desk.folder if word == "FOLDER" else word for word in words], given)
-        if told[2] == "not here":
-            assert words[0] == "drop" and told[:2] == (b"", b""), words
+    for words, given in session(twin, room):
+        asked = [desk.folder if word == "FOLDER" else word for word in words]
+        if is_several(words) and words[0] != "apply":
+            assert desk.ask(asked, given) == (b"", b"", "not here"), words
+        if is_several(words):
+            if has_client:
+                compare_several(desk, twin, words, given)
             continue
-        if told != due:
+        if "--names" in words and words[-1].endswith("none.csv"):
+            compare_several(desk, twin, words, given)
+            continue
+        due = typed(words, twin, given)
+        told = desk.ask(asked, given_to_desk(words, given))
+        if plain(told) != plain(due):
             sys.exit(f"served_folder: {words}: the desk answers\n{told}\nand not\n{due}")
         # (what was carried out once gets the same receipt again, so a line may be asked of one folder twice)
         again = typed(words, twin, given)
-        if has_client and (told := typed(words, desk.folder, given)) != again:
+        if has_client and plain(told := typed(words, desk.folder, given)) != plain(again):
             sys.exit(f"served_folder: {words}: the client prints\n{told}\nand not\n{again}")
         if not has_client:
-            desk.ask([desk.folder if word == "FOLDER" else word for word in words], given)
+            desk.ask(asked, given)
+
+
+def words_of_lists(desk, room):
+    """The words by which a client asks for each request of a list, and for what a file changes."""
+    add = {"identity": new_id(961), "kind": "media", "text": "text/plain", "data": "41"}
+    number = int(desk.ask(["audit", "maps"])[0].split()[1]) + 1
+    line = f"7,{new_id(961)},{number},0\n".encode()
+    for _ in range(2):
+        assert desk.ask(["row", "7"], request(961, "add", **add)) == (line, b"", 0)
+    refused = desk.ask(["row", "8"], request(962, "add", **add))
+    assert refused == (f"8,{new_id(962)},0,6\n".encode(), b"", 0), refused
+    told = desk.ask(["outcome"], request(963, "delete", identity=new_id(961)))
+    assert told[0].startswith(f"deleted {new_id(961)}\nreceipt {number + 1}: ".encode()) and told[1:] == (b"", 0), told
+    out, error, status = desk.ask(["outcome"], request(964, "delete", identity=new_id(961)))
+    assert out.startswith(b'{"name":"UnknownItem"') and error and status == 1, (out, error, status)
+    for words in (["row", "8"], ["outcome"]):
+        assert desk.ask(words, b"{}")[::2] == (b"refused: body\n", 1), words
+    for words in (["row"], ["row", "x"], ["row", "1", "2"], ["outcome", "1"], ["from"], ["from", "x", "changes"]):
+        assert desk.ask(words)[2] in ("not here", 1), words
+    # A file that no client wrote there is not read.
+    written(room, "sheetdesk.input-1", b"x")
+    for name in ("../sheetdesk.input-1", "names.csv", "sheetdesk.input-none", f"{room}/sheetdesk.input-1"):
+        told = desk.ask(["from", name, "changes", "maps", ARCHIVE])
+        assert told[2] in ("not here", 1, 3), (name, told)
+    assert os.path.exists(f"{desk.folder}/names.csv") and os.path.exists(f"{room}/sheetdesk.input-1")
+
+
+def beside_a_list(desk, room, count):
+    """A list by the program while a clerk asks: each is answered while the list goes on."""
+    with open(f"{TOP}/samples/archive.csv", "rb") as sample:
+        header = sample.readline()
+    records = "".join(medium(300000 + number, 2) for number in range(count))
+    path = written(room, "beside.csv", header + records.encode())
+    begun, faults, spent = time.monotonic(), [], []
+    process = subprocess.Popen([PROGRAM, "import", desk.folder, path], stdout=subprocess.PIPE, stderr=subprocess.PIPE)
+    reader = threading.Thread(target=lambda: spent.append((process.communicate(), time.monotonic() - begun)))
+    reader.start()
+    first = 400000
+    while reader.is_alive():
+        clerk(desk, first, 1, faults)
+        first += 1
+    reader.join()
+    (out, error), took = spent[0]
+    assert not faults and not error and process.returncode == 0, (faults[:3], error, process.returncode)
+    rows = out.decode().splitlines()[1:]
+    assert len(rows) == count and all(row.endswith(",0") for row in rows), rows[:3]
+    assert first - 400000 > count // 20, f"{first - 400000} requests beside {count}"
+    return took / count, first - 400000
 
 
 def turned_away(desk):
@@ -285,8 +541,12 @@ def main(count):
     desk = Desk(served)
     try:
         has_client = typed(["audit", "FOLDER"], served)[2] == 0
-        compare(desk, twin, has_client)
+        compare(desk, twin, room, has_client)
+        words_of_lists(desk, room)
         turned_away(desk)
+        if has_client:
+            each, beside = beside_a_list(desk, room, 10 * count)
+            print(f"a list: {each * 1000:.1f} ms a request, with {beside} requests of another clerk beside it")
         print(f"two clerks at once: {two_at_once(desk, count) * 1000:.1f} ms a request")
         print(f"status: {each_takes(desk, ['status', 'maps']) * 1000:.1f} ms")
     finally:
