@@ -245,7 +245,8 @@ def trees(room):
     yield [*put, f"{room}/tree", "--at", "noon"], b""
     for word in ("ffff", "6f0", new_id(1), "harbour"):
         yield ["put", "FOLDER", word, "tiles", f"{room}/tree", "--at", LATER], b""
-    yield ["manifest", "FOLDER", ARCHIVE], b""
+    # (the identities of these tiles are new, so other texts of the two folders differ)
+    yield ["status", "FOLDER"], b""
 
 
 def lines():
@@ -287,13 +288,14 @@ def session(twin, room):
     """The words, and the standard input, of each line: all of them."""
     yield from singles()
     yield from imports(room)
-    yield from drops()
     yield from brought(twin, room)
-    yield from trees(room)
     yield from lines()
     yield from papers(room)
     yield ["log", "FOLDER", "--last", "20"], b""
     yield ["audit", "FOLDER"], b""
+    # (the UUIDs that these make are new, so later pages of the two folders differ)
+    yield from drops()
+    yield from trees(room)
 
 
 def singles():

@@ -35,6 +35,10 @@ from program import program
 
 PROGRAM = program()
 CRATE = os.path.join(TOP, "crates", "sheetdesk")
+# A folder of the sessions whose log they remove.
+LOGLESS = "whole"
+# The archive of the sample.
+ARCHIVE = "6f0d3a52-9c1e-4b7a-8f24-1d5be07c9a10"
 WITHOUT = {"init", "rehearse", "serve", "holds", "completions"}
 # Options with a value behind them.
 VALUED = {"--archive", "--as", "--at", "--box", "--code", "--count", "--frame", "--from", "--geometry", "--label"}
@@ -103,7 +107,8 @@ class Side:
         given = subprocess.DEVNULL
         if line.given:
             given = open(os.path.join(self.room, line.given), "rb")
-        elif line.kind == "rehearse":
+        elif line.kind == "rehearse" and ARCHIVE in line.words:
+            # (the first of them reads all that there is)
             given = open(sample, "rb")
         try:
             done = subprocess.run(
@@ -116,7 +121,6 @@ class Side:
         if path and os.path.isfile(path):
             with open(path, "rb") as it:
                 kept = it.read()
-            os.remove(path)
         status = b"%d" % done.returncode
         return {"standard output": done.stdout, "standard error": done.stderr, "status": status, "file": kept}
 
@@ -174,6 +178,12 @@ class Pair:
         if line.kind in WITHOUT:
             self.beside.end()
             return f"without a desk: {line.kind}"
+        if line.folder == LOGLESS:
+            return "without a desk: its log is removed, which has what a desk did that was ended"
+        if "--tms" in line.words:
+            # (no desk tells the frame by which such a tree is turned about)
+            self.beside.end()
+            return "without a desk: put tiles --tms"
         if not line.folder:
             return "without a desk: no folder"
         if not os.path.isdir(os.path.join(self.beside.room, line.folder)):
@@ -204,6 +214,10 @@ class Pair:
                     parts.append(f"  {what} {name}:\n{self.shown(side[what])}")
         print("\n".join(parts), flush=True)
 
+    def lacks_input(self, line):
+        """Whether the file is not there that a line reads."""
+        return bool(line.given) and not os.path.isfile(os.path.join(self.alone.room, line.given))
+
     def carry_out(self, line, sample):
         """Carries a line out both ways."""
         if line.kind in {"mkdir", "rm"}:
@@ -211,6 +225,9 @@ class Pair:
             return
         if line.words is None or line.kind == "session":
             self.ways["passed over: a session in a session, or no line of one"] += 1
+            return
+        if self.lacks_input(line):
+            self.ways["passed over: what it reads is not there"] += 1
             return
         alone = self.alone.run(line, sample)
         self.ways[self.way(line)] += 1
