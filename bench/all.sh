@@ -30,5 +30,6 @@ fi
 each growth - "$bench/growth_times.py" $((quick ? 1000 : 10000)) $((quick ? 10000 : 100000))
 each field - "$bench/field_times.py" --folder "$disk" --tiles $((quick ? 1000 : 10000)) $((quick ? 2 : 3))
 each folder - "$bench/folder_times.py" --folder "$disk" $((quick ? 1 : 3)) $((quick ? 300 : 1000)) $((quick ? 1000 : 10000))
+each look_memory - "$bench/look_memory.py" $((quick ? 1024 : 2048))
 each folder_memory - "$bench/folder_times.py" --memory "${items[@]}"
 finish

@@ -13,6 +13,8 @@ mod help_tests;
 #[cfg(test)]
 mod import_tests;
 #[cfg(test)]
+mod large_tests;
+#[cfg(test)]
 mod line_tests;
 #[cfg(test)]
 mod look_tests;

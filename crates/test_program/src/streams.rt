@@ -5,6 +5,7 @@ ghost use Rattle.std.specs.Prelude.{None};
 use desk_http::telling::DeskTeller;
 use manifest_csv::progress::Teller;
 use package_tables::fault::Fault;
+use sha2::{Digest, Sha256};
 use std::alloc::{AllocError, Global};
 use std::io::{Error, ErrorKind, Read, Result as IoResult};
 use std::str::from_utf8;
@@ -61,23 +62,43 @@ pub(crate) fn paper(alloc: Global, room: usize) -> Result<Narrow, AllocError> {
     Ok(out)
 }
 
-// What was written: all of a text, so many bytes of one, or what begins and ends in two.
+// Room for more than the hexadecimal of 16 MiB.
+pub(crate) const GREAT: usize = 40_000_000;
+
+// What was written: all of a text, so many bytes of one, what begins and ends in two, or so many bytes of this SHA-256.
 #[derive(Clone, Copy)]
 pub(crate) enum Wrote {
     All(&'static str),
     Front(&'static str, usize),
     Ends(&'static str, &'static str),
+    Sha256(usize, &'static str),
 }
 
 pub(crate) const NOTHING: Wrote = Wrote::All("");
 
-pub(crate) fn is_wrote(out: &[u8], wrote: Wrote) -> bool {
+// The SHA-256 of bytes, in hexadecimal.
+fn sha256_of(alloc: Global, bytes: &[u8]) -> Result<String, AllocError> {
+    let mut hasher = Sha256::new();
+    hasher.update(bytes);
+    let digest = hasher.finalize();
+    hex::encode(alloc, digest.as_slice())
+}
+
+fn is_digest(alloc: Global, bytes: &[u8], text: &str) -> bool {
+    match sha256_of(alloc, bytes) {
+        Ok(digest) => digest.as_str() == text,
+        Err(_) => false,
+    }
+}
+
+pub(crate) fn is_wrote(alloc: Global, out: &[u8], wrote: Wrote) -> bool {
     match wrote {
         Wrote::All(text) => out == text.as_bytes(),
         Wrote::Front(text, count) => out.len() == count && text.as_bytes().starts_with(out),
         Wrote::Ends(front, back) => {
             out.starts_with(front.as_bytes()) && out.ends_with(back.as_bytes())
         }
+        Wrote::Sha256(length, digest) => out.len() == length && is_digest(alloc, out, digest),
     }
 }
 
@@ -88,8 +109,11 @@ pub(crate) fn judged(
     out: &[u8],
     wrote: Wrote,
 ) -> Result<String, Fault> {
-    if is_wrote(out, wrote) {
+    if is_wrote(alloc, out, wrote) {
         return Ok(ended);
+    }
+    if let Wrote::Sha256(_, _) = wrote {
+        return Ok(format!(in alloc; "{} and wrote {} bytes", ended.as_str(), out.len())?);
     }
     let text = from_utf8(out).unwrap_or("no text");
     Ok(format!(in alloc; "{} and wrote {text}", ended.as_str())?)

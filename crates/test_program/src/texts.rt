@@ -37,6 +37,8 @@ pub(crate) enum List {
     Lends,
     // One tile of 1,048,576 bytes 0xa5.
     Greatest,
+    // Seventeen such tiles, of the bytes 1, 2 and so on: sixteen at zoom 2, row by row, and one at zoom 1.
+    Many,
     // The first tile, asked for 4,097 times.
     Often,
     // No header.
@@ -49,6 +51,35 @@ fn greatest(alloc: Global) -> Result<String, AllocError> {
     text.push_str(FIRST_TILE.trim_end_matches("41"))?;
     text.push_str("a5".repeat(alloc, 1_048_576)?.as_str())?;
     text.push_str("\n")?;
+    Ok(text)
+}
+
+// The tile of a number from 1, at the next place.
+fn push_great(alloc: Global, text: &mut String, number: usize) -> Result<(), AllocError> {
+    let at = number.saturating_sub(1);
+    let (zoom, column, row) = if at < 16 {
+        (2, at % 4, at / 4)
+    } else {
+        (1, 0, 0)
+    };
+    let front = format!(in alloc;
+        "90000000-0000-4000-8000-0000000000{number:02x},2024-05-01T08:00:00.000Z,add,a0000000-0000-4000-8000-000000000000,"
+    )?;
+    let place = format!(in alloc;
+        "00000000-0000-4000-8000-0000000000{number:02x},,tile,{zoom},{column},{row},,,,,,,,"
+    )?;
+    let byte = format!(in alloc; "{number:02x}")?;
+    text.push_str(front.as_str())?;
+    text.push_str(place.as_str())?;
+    text.push_str(byte.as_str().repeat(alloc, 1_048_576)?.as_str())?;
+    text.push_str("\n")
+}
+
+fn many(alloc: Global) -> Result<String, AllocError> {
+    let mut text = list(alloc, &[])?;
+    for number in 1..18 {
+        push_great(alloc, &mut text, number)?;
+    }
     Ok(text)
 }
 
@@ -66,6 +97,7 @@ pub(crate) fn list_text(alloc: Global, which: List) -> Result<String, AllocError
         List::Two => list(alloc, &[FIRST_TILE, SECOND_BESIDE]),
         List::Lends => list(alloc, &[TILE_TO_LEND, SPLIT, STALE, HOME]),
         List::Greatest => greatest(alloc),
+        List::Many => many(alloc),
         List::Often => often(alloc),
         List::Headless => String::from_str(alloc, FIRST_TILE),
     }

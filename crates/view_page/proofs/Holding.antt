@@ -1,13 +1,11 @@
 -- What packages hold, one after the other.
-use Rattle.std.proofs.Common.{◌≡◌, ◌∙◌, ◌<◌, ◌+◌, ◌++◌, ◌∷◌, [], ℕ, List, Some, unwrap_or, Bool, true, false, refl, ap, sym, length, take, get_or, map}
-use Rattle.std.specs.Bool.{then_some}
+use Rattle.std.proofs.Common.{◌≡◌, ◌∙◌, ◌<◌, ◌+◌, ◌++◌, ◌∷◌, [], ℕ, List, Bool, true, false, refl, ap, sym, length, take, get_or, map}
 use Rattle.std.specs.Prelude.{flat_map, if◌then◌else◌}
 use Rattle.std.proofs.lemmas.List.{append-nil}
-use Rattle.sheet_types.specs.Answers.{PackageSight as ModelSight, holdings_answer, package_sights}
+use Rattle.std.proofs.lemmas.List.Concat.{flat_map_single}
+use Rattle.sheet_types.specs.Answers.{PackageSight as ModelSight, package_sights}
 use Rattle.sheet_types.specs.Ordered.{arranged, put, is_before}
-use Rattle.sheet_types.specs.World.{World, holdings, is_live}
-use Rattle.sheet_types.specs.declared.command.Item.{Item}
-use Rattle.sheet_types.specs.declared.command.Relation.{Relation}
+use Rattle.sheet_types.specs.World.{World, holdings}
 use Rattle.command_requests.proofs.Listed.{flat_more}
 use Rattle.view_report.specs.Registers.{thing_of}
 use Rattle.view_report.specs.declared.registers.Thing.{Thing}
@@ -17,20 +15,13 @@ use Rattle.view_page.specs.declared.contents.Contents.{Contents}
 use Rattle.world.specs.Reading.{sight_of}
 use Rattle.world.specs.declared.reading.PackageSight.{PackageSight}
 
-found : (b : Bool) (held : List Item × List Relation) (items : List Item) (links : List Relation) → Some (items, links) ≡ then_some b held
-    → (items ≡ held.0) × (links ≡ held.1)
-found true held items links e = (ap (λ o. (unwrap_or o held).0) e, ap (λ o. (unwrap_or o held).1) e)
-found false held items links e = absurd (cc)
-
--- what was found of a package is what it holds
-pub one_held : (w : World) (p : List ℕ) (items : List Item) (links : List Relation) (c : Contents) → Some (items, links) ≡ holdings_answer w p
-    → c.things.items ≡ map (thing_of p) items → c.ties.items ≡ map (tie_of p) links → AreContents w (λ u. u) (p ∷ []) c
-one_held w p items links c is things ties =
-    let here = found (is_live w p) ((holdings w p).items, (holdings w p).links) items links is in
-    record {
-      things = things ∙ ap (map (thing_of p)) here.0 ∙ sym (append-nil (things_under w p));
-      ties = ties ∙ ap (map (tie_of p)) here.1 ∙ sym (append-nil (ties_under w p));
-    }
+-- what is kept of a package, a thing for each item, is what it holds
+pub one_held : (w : World) (p : List ℕ) (c : Contents) → c.things.items ≡ flat_map (λ i. thing_of p i ∷ []) (holdings w p).items
+    → c.ties.items ≡ map (tie_of p) (holdings w p).links → AreContents w (λ u. u) (p ∷ []) c
+one_held w p c things ties = record {
+  things = things ∙ flat_map_single (thing_of p) (holdings w p).items ∙ sym (append-nil (things_under w p));
+  ties = ties ∙ sym (append-nil (ties_under w p));
+}
 
 -- what one package more holds stands behind what the others hold
 pub more_held : (w : World) (sights : List PackageSight) (i : ℕ) (s : PackageSight) (so_far more all : Contents) → i < length sights → s ≡ get_or sights i s

@@ -1,6 +1,5 @@
 //! What the packages of a world hold, without the bytes of it.
 ghost use Rattle.std.specs.Prelude.{◌≡◌, ◌++◌, [], ◌∷◌, map, IfOk, OnOk};
-ghost use Rattle.view_report.specs.Registers.{thing_of};
 ghost use Rattle.view_page.specs.Registers.{AreContents, by_depth, tie_of};
 ghost use Rattle.world.specs.Reading.{sight_of};
 ghost use Rattle.world.specs.Worlds.{IsRead, TellsOf};
@@ -11,6 +10,7 @@ use sheet_types::command::{Item, Relation};
 use sqlite::Alter;
 use std::alloc::{AllocError, Global};
 use uuid::Uuid;
+use view_items::parts::{Part, parts_in};
 use view_report::registers::{Thing, Tie, thing_of};
 use world::reading::PackageSight;
 use world::world::World;
@@ -22,18 +22,25 @@ pub struct Contents {
     pub ties: Vec<Tie>,
 }
 
-/// The items of a package.
-fn things_of(alloc: Global, holder: Uuid, items: &[Item]) -> Result<Vec<Thing>, Fault>
-    ensures { IfOk result (λ things. things.items ≡ map (thing_of holder) items.now) }
-{
-    let mut things = Vec::new(alloc);
-    for item in items {
-        let Ok(thing) = thing_of(holder, item) else {
+/// An item of a package, without its bytes.
+#[derive(Clone, Copy)]
+struct ThingOf {
+    holder: Uuid,
+}
+
+impl Part<Thing> for ThingOf {
+    ghost use Rattle.std.specs.Prelude.{[], ◌∷◌};
+    ghost use Rattle.view_report.specs.Registers.{thing_of};
+
+    ghost parts = { λ part item. thing_of part.holder item ∷ [] };
+
+    fn put(&self, _alloc: Global, item: &Item, kept: &mut Vec<Thing>) -> Result<(), Fault> {
+        let Ok(thing) = thing_of(self.holder, item) else {
             return Err(Fault::OutOfMemory);
         };
-        things.push(thing)?;
+        kept.push(thing)?;
+        Ok(())
     }
-    Ok(things)
 }
 
 /// A link of a package.
@@ -68,10 +75,7 @@ fn contents_in<S: Alter + Drop>(
     ensures told { TellsOf S.Store (λ w contents. AreContents w (λ u. u) (holder ∷ []) contents) world.old world.new result }
     ensures read { IsRead S.Store world.old world.new }
 {
-    let Some((items, links)) = world.holdings(alloc, holder)? else {
-        return Err(Fault::StoreFault);
-    };
-    let things = things_of(alloc, holder, items.as_slice())?;
+    let (things, links) = parts_in(alloc, world, holder, &ThingOf { holder })?;
     let ties = ties_of(alloc, holder, links.as_slice())?;
     Ok(Contents { things, ties })
 }

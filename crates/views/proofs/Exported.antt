@@ -23,7 +23,7 @@ is_held : (b : Bool) (held : List Item × List Relation) (items : List Item) (li
 is_held true held items links e = (refl, ap (λ o. (unwrap_or o held).0) e, ap (λ o. (unwrap_or o held).1) e)
 is_held false held items links e = absurd (cc)
 
-export_same : (w : World) (p : List ℕ) (f : Frame) (n : ℕ) (items : List Item) (links : List Relation) → f ≡ w.frame → n ≡ ticket w p → items ≡ (holdings w p).items → links ≡ (holdings w p).links
+pub export_same : (w : World) (p : List ℕ) (f : Frame) (n : ℕ) (items : List Item) (links : List Relation) → f ≡ w.frame → n ≡ ticket w p → items ≡ (holdings w p).items → links ≡ (holdings w p).links
     → export_text f p n items links ≡ export w p
 export_same w p f n items links frame number same_items same_links =
     ap (λ f. export_text f p n items links) frame ∙ ap (λ k. export_text w.frame p k items links) number ∙ ap (λ is. export_text w.frame p (ticket w p) is links) same_items
@@ -31,7 +31,7 @@ export_same w p f n items links frame number same_items same_links =
 
 -- ---- what was written of it
 
-live_written : (w : World) (p : List ℕ) (a b : Option (List ℕ)) (r : Result (Unit {0}) ManifestFault) → is_live w p ≡ true
+pub live_written : (w : World) (p : List ℕ) (a b : Option (List ℕ)) (r : Result (Unit {0}) ManifestFault) → is_live w p ≡ true
     → OnOk r (Appends a b (export w p)) → OnErr r (WentOut a b (export w p)) → IsOfLive r → WritesExport w p a b r
 live_written w p a b (Ok x) live ok err of = (live, ok)
 live_written w p a b (Err Unknown) live ok err of = absurd of

@@ -1,29 +1,24 @@
 -- What is drawn of packages, one after the other.
-use Rattle.std.proofs.Common.{◌≡◌, ◌∙◌, ◌<◌, ◌+◌, ◌++◌, ◌∷◌, [], ℕ, ℤ, List, Some, unwrap_or, Result, Ok, Err, IfOk, Bool, true, false, ap, subst, sym, length, take, get_or, map}
-use Rattle.std.specs.Bool.{then_some}
+use Rattle.std.proofs.Common.{◌≡◌, ◌∙◌, ◌<◌, ◌+◌, ◌++◌, ◌∷◌, [], ℕ, ℤ, List, Result, Ok, Err, IfOk, refl, ap, subst, sym, length, take, get_or, map}
+use Rattle.std.specs.Prelude.{flat_map}
 use Rattle.std.specs.List.{AllZip}
 use Rattle.std.proofs.lemmas.List.{take_more}
-use Rattle.sheet_types.specs.Answers.{holdings_answer, package_sights}
-use Rattle.sheet_types.specs.World.{World, holdings, is_live}
+use Rattle.std.proofs.lemmas.List.Elements.{filter_map-append}
+use Rattle.sheet_types.specs.Answers.{package_sights}
+use Rattle.sheet_types.specs.World.{World}
 use Rattle.sheet_types.specs.declared.command.Item.{Item}
-use Rattle.sheet_types.specs.declared.command.Relation.{Relation}
-use Rattle.view_map.specs.Worlds.{AreHolders, IsHolder, places_of}
+use Rattle.view_map.specs.Worlds.{AreHolders, IsHolder, place_at, places_of}
 use Rattle.view_map.specs.declared.holders.Holder.{Holder}
-use Rattle.view_map.specs.declared.holders.Place.{Place}
 use Rattle.sqlite.specs.Store.{Ghosts}
 use Rattle.world.specs.Reading.{sight_of}
 use Rattle.world.specs.Worlds.{Seen, StandsFor}
 use Rattle.world.specs.declared.reading.PackageSight.{PackageSight}
 
-items_held : (b : Bool) (held : List Item × List Relation) (items : List Item) (links : List Relation) → Some (items, links) ≡ then_some b held → items ≡ held.0
-items_held true held items links e = ap (λ o. (unwrap_or o held).0) e
-items_held false held items links e = absurd (cc)
-
--- the places of the items that were found
-pub places_found : (w : World) (zoom : ℤ) (p : List ℕ) (items : List Item) (links : List Relation) (places : List Place) → Some (items, links) ≡ holdings_answer w p
-    → places ≡ places_of zoom items → places ≡ places_of zoom (holdings w p).items
-places_found w zoom p items links places found is =
-    is ∙ ap (places_of zoom) (items_held (is_live w p) ((holdings w p).items, (holdings w p).links) items links found)
+-- places item by item are those of all items
+pub places_one_by_one : (zoom : ℤ) (items : List Item) → flat_map (λ i. places_of zoom (i ∷ [])) items ≡ places_of zoom items
+places_one_by_one zoom [] = refl
+places_one_by_one zoom (i ∷ items) =
+    ap (λ l. places_of zoom (i ∷ []) ++ l) (places_one_by_one zoom items) ∙ sym (filter_map-append (place_at zoom) (i ∷ []) items)
 
 -- it is drawn of this package
 abbrev pub IsDrawn : World → ℤ → PackageSight → Holder → Type 0

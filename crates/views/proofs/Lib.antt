@@ -1,6 +1,8 @@
 mod Beginnings
+mod BareItems
 mod CountWords
 mod Exported
+mod ExportedByItems
 mod Gathered
 mod Named
 mod Printed

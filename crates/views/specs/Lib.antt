@@ -1,3 +1,4 @@
+pub mod ByItems
 pub mod Contents
 pub mod Excerpts
 pub mod Endings

@@ -7,13 +7,35 @@ ghost use Rattle.world.specs.Worlds.{IsRead, TellsOf};
 ghost use Rattle.views.specs.Printed.{IsUntouched};
 
 use package_tables::fault::Fault;
+use sheet_types::command::Item;
 use sqlite::Alter;
 use std::alloc::Global;
+use std::slice::from_ref;
 use uuid::Uuid;
+use view_items::parts::{Part, parts_in};
 use view_map::holders::{Holder, Place};
 use view_map::places::places_of;
 use world::reading::PackageSight;
 use world::world::World;
+
+/// The place of a tile of this zoom.
+#[derive(Clone, Copy)]
+struct PlaceAt {
+    zoom: i64,
+}
+
+impl Part<Place> for PlaceAt {
+    ghost use Rattle.std.specs.Prelude.{[], ◌∷◌};
+    ghost use Rattle.view_map.specs.Worlds.{places_of};
+
+    ghost parts = { λ part item. places_of part.zoom (item ∷ []) };
+
+    fn put(&self, alloc: Global, item: &Item, kept: &mut Vec<Place>) -> Result<(), Fault> {
+        let mut places: Vec<Place> = places_of(alloc, self.zoom, from_ref(item))?;
+        kept.append(&mut places)?;
+        Ok(())
+    }
+}
 
 /// What is drawn of a package that the world listed.
 fn holder_of<S: Alter + Drop>(
@@ -25,11 +47,8 @@ fn holder_of<S: Alter + Drop>(
     ensures told { TellsOf S.Store (λ w holder. IsHolder w zoom (sight_of sight) holder) world.old world.new result }
     ensures read { IsRead S.Store world.old world.new }
 {
-    let Some((items, _links)) = world.holdings(alloc, sight.uuid)? else {
-        return Err(Fault::StoreFault);
-    };
     let uuid: Uuid = sight.uuid;
-    let places: Vec<Place> = places_of(alloc, zoom, items.as_slice())?;
+    let (places, _links) = parts_in(alloc, world, uuid, &PlaceAt { zoom })?;
     Ok(Holder {
         uuid,
         depth: sight.depth,

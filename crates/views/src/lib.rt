@@ -3,6 +3,7 @@
 #![tactic(auto)]
 
 pub mod auditing;
+mod by_items;
 pub mod contents;
 pub mod endings;
 pub mod excerpts;

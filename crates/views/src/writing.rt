@@ -14,7 +14,9 @@ ghost use Rattle.view_export.specs.Numbers.{AreNumbersOf, no_counts};
 ghost use Rattle.manifest_csv.specs.Sent.{WentOut};
 ghost use Rattle.views.specs.Written.{Began, IsExport, IsOfLive, LeavesUnknown};
 
+use crate::by_items::write_by_items;
 use manifest_csv::package_manifests::ManifestFault;
+use manifest_csv::questions::is_large;
 use manifest_csv::sending::send;
 use matrix_rules::check::FrameRules;
 use package_tables::fault::Fault;
@@ -53,7 +55,7 @@ fn send_items<W: Write>(
 }
 
 /// Writes the rows of links.
-fn send_links<W: Write>(
+pub(crate) fn send_links<W: Write>(
     alloc: Global,
     numbers: &BTreeMap<Uuid, u64>,
     links: &[Relation],
@@ -108,7 +110,11 @@ fn sight_among(sights: &[PackageSight], package: Uuid) -> Option<&PackageSight>
 }
 
 /// The number of the last receipt of a package that is live.
-fn ticket_of<S: Alter + Drop>(alloc: Global, world: &World<S>, package: Uuid) -> Result<u64, Fault>
+pub(crate) fn ticket_of<S: Alter + Drop>(
+    alloc: Global,
+    world: &World<S>,
+    package: Uuid,
+) -> Result<u64, Fault>
     ensures { IfOk result (λ number. (w : ModelWorld) → StandsFor S.Store world.now w
         → is_live w «package» ≡ true → number ≡ ticket w «package») }
 {
@@ -119,13 +125,13 @@ fn ticket_of<S: Alter + Drop>(alloc: Global, world: &World<S>, package: Uuid) ->
     }
 }
 
-fn is_good(frame: &Frame) -> bool
+pub(crate) fn is_good(frame: &Frame) -> bool
     ensures { IsTrue result → IsTrue (is_good_frame frame.now) }
 {
     frame.check().is_ok()
 }
 
-/// Writes the SQL of a package. Its holdings are read whole before any of it is written.
+/// Writes the SQL of a package. Of one of many bytes one content is in memory at a time; of another all are read before any is written.
 ///
 /// # Errors
 ///
@@ -140,6 +146,9 @@ pub fn write_export<S: Alter + Drop, W: Write>(
     ensures written { IsExport S.Store «package» world.old world.new (W.contents writer.old) (W.contents writer.new) result }
     ensures unknown { LeavesUnknown writer.old writer.new result }
 {
+    if is_large(world, package) {
+        return write_by_items(alloc, world, package, writer);
+    }
     let frame = world.frame();
     let Some((items, links)) = world.holdings(alloc, package)? else {
         return Err(ManifestFault::Unknown);

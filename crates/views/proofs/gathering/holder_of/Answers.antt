@@ -1,16 +1,14 @@
--- The places of what was found are those of what the package holds.
-use Rattle.std.proofs.Common.{◌≡◌, Some, refl, rules, to_z-of_z}
-use Rattle.sheet_types.specs.Answers.{holdings_answer}
-use Rattle.views.proofs.Gathered.{places_found}
+-- What is kept of the items of the package is the places of its tiles.
+use Rattle.std.proofs.Common.{◌∙◌, refl, to_z-of_z}
+use Rattle.sheet_types.specs.World.{holdings}
+use Rattle.views.proofs.Gathered.{places_one_by_one}
 use Rattle.views.proofs.gathering.holder_of.Goals as goal
 
 pub returns-clause-told : goal.returns-clause-told
 returns-clause-told g c = λ clean w stands.
-    let told = c.in_ok-items.ensures.told clean w stands in
-    let found : Some (c.as_slice.result.now, c.in-Some._links.items) ≡ holdings_answer w c.args.sight.uuid = search rules in
-    let places = simp (to_z-of_z, c.ranges.zoom) at c.in_ok-places.ensures in
+    let held = simp (to_z-of_z, c.ranges.zoom) at (c.in_ok-places.ensures.told clean w stands).0 in
     record {
       uuid = refl;
       depth = refl;
-      places = places_found w c.args.zoom c.args.sight.uuid c.as_slice.result.now c.in-Some._links.items c.in_ok-places.places.items found places;
+      places = held ∙ places_one_by_one c.args.zoom (holdings w c.args.sight.uuid).items;
     }
