@@ -179,6 +179,9 @@ class Verbs:
                     f"{path}/{zoom}/{column}/{row}.png", nordmark.SHEETS.get(place, "no sheet").encode()
                 )
             ]
+            if option and row >= rows:
+                told = "refused: place\n"
+                break
             held = self.world.packages[nordmark.ARCHIVE]
             if place in held.places and held.items[held.places[place]]["data"] == data:
                 passed += 1
@@ -387,6 +390,8 @@ def trees_and_boxes(session):
     verbs.tree("samples/tree", sheets)
     # (a TMS counts rows from below: the last of twelve is the first from above, and of three the middle one stays)
     verbs.tree("samples/upward", [(4, 1, 1), (6, 0, 11)], " --tms")
+    # (row 2 of zoom 4 is the last from below; there is no row 3)
+    verbs.tree("samples/past", [(4, 0, 2), (4, 1, 0), (4, 1, 3), (5, 0, 5)], " --tms")
     verbs.tree("samples/beside", [(4, 1, 0), (6, 8, 0), (6, 9, 0)])
     verbs.refused("put", f"{nordmark.ARCHIVE[:4]} tiles samples/first.csv", "body")
     verbs.lend_box("500000,5951200,510240,5961440", 5, nordmark.HARBOUR)

@@ -240,11 +240,32 @@ def several(folder, room):
             assert not os.path.exists(f"{folder}/{name}"), name
 
 
+def turned_about(folder, room):
+    """A tree whose rows run upwards is turned about by the frame that the desk tells."""
+    os.makedirs(f"{room}/upward/4/1")
+    with open(f"{room}/upward/4/1/2.png", "wb") as sheet:
+        sheet.write(b"edge")
+    asked = {"request": uuid(1), "at": AT, "command": "add", "package": ARCHIVE, "identity": uuid(2), "kind": "media"}
+    shown = answer_of(json.dumps({**asked, "text": "text/plain", "data": "78"}).encode() + b"\n")
+    nothing, done = answer_of(b""), answer_of(b"added\n")
+    for told, answers, due in (
+        (FRAME, [nothing, done], (b"added 1, passed over 0\n", b"", 0)),
+        (FRAME.replace(",4,3,2,3", ",5,2,4,6"), [nothing], (b"added 0, passed over 0\nrefused: place\n", b"", 1)),
+        (FRAME + "\n", [], (b"", BROKEN, 3)),
+        ("", [], (b"", BROKEN, 3)),
+    ):
+        with OddDesk(folder, shown, answer_of(told.encode()), *answers) as desk:
+            expect(due, typed("put", folder, "6f0d", "tiles", f"{room}/upward", "--tms"), told)
+            desk.thread.join()
+            expect(request_of(desk.port, ["frame"], b"x"), desk.sent[1], "the frame")
+            # (row 2 from below is row 0 from above, of three)
+            assert told != FRAME or b'"row":0' in desk.sent[3], desk.sent[3]
+
+
 def not_asked(folder):
     """Commands that no desk carries out, and files that name no desk, end as beside any other process."""
-    for words in (["serve", folder, "1"], ["put", folder, ARCHIVE, "tiles", folder, "--tms"]):
-        with OddDesk(folder, HEAD + b"1 1\nx0 0\n"):
-            expect((b"", HELD, 3), typed(*words), words)
+    with OddDesk(folder, HEAD + b"1 1\nx0 0\n"):
+        expect((b"", HELD, 3), typed("serve", folder, "1"), "serve")
     with OddDesk(folder, HEAD + b"1 1\nx0 0\n"):
         # (the words are looked at first, and what the folder holds)
         made = typed("init", folder, f"--frame={FRAME}")
@@ -272,6 +293,7 @@ def main():
         what_is_sent(folder, room)
         lists(folder, room)
         several(folder, room)
+        turned_about(folder, room)
         not_asked(folder)
         # A desk that was killed left its file: nobody has the folder, so the command is carried out, and the file goes.
         with open(f"{folder}/sheetdesk.desk", "w", encoding="ascii") as said:

@@ -238,6 +238,14 @@ def trees(room):
     yield [*put, f"{room}/tree", "--at", LATER], b""
     written(room, "far/9/99/99.png", b"far")
     yield [*put, f"{room}/far", "--at", LATER], b""
+    # (row 2 from below is row 0 from above, and there is no row 3)
+    written(room, "upward/4/1/2.png", b"edge")
+    yield [*put, f"{room}/upward", "--tms", "--at", LATER], b""
+    yield [*put, f"{room}/upward", "--at", LATER, "--tms", "-q"], b""
+    written(room, "upward/4/1/3.png", b"past")
+    yield [*put, f"{room}/upward", "--tms", "--at", LATER], b""
+    yield [*put, f"{room}/upward", "--tms", "--at", LATER, "-q"], b""
+    yield ["put", "FOLDER", "harbour", "tiles", f"{room}/upward", "--tms"], b""
     os.makedirs(f"{room}/odd/4/0/3.png")
     yield [*put, f"{room}/odd", "--at", LATER], b""
     yield [*put, f"{room}/odd", "--at", LATER, "-q"], b""
@@ -418,9 +426,10 @@ def words_of_lists(desk, room):
     assert told[0].startswith(f"deleted {new_id(961)}\nreceipt {number + 1}: ".encode()) and told[1:] == (b"", 0), told
     out, error, status = desk.ask(["outcome"], request(964, "delete", identity=new_id(961)))
     assert out.startswith(b'{"name":"UnknownItem"') and error and status == 1, (out, error, status)
+    assert desk.ask(["frame"]) == (FRAME.encode(), b"", 0)
     for words in (["row", "8"], ["outcome"]):
         assert desk.ask(words, b"{}")[::2] == (b"refused: body\n", 1), words
-    for words in (["row"], ["row", "x"], ["row", "1", "2"], ["outcome", "1"], ["from"], ["from", "x", "changes"]):
+    for words in (["row"], ["row", "x"], ["row", "1", "2"], ["outcome", "1"], ["frame", "1"], ["from"], ["from", "x", "changes"]):
         assert desk.ask(words)[2] in ("not here", 1), words
     # A file that no client wrote there is not read.
     written(room, "sheetdesk.input-1", b"x")

@@ -180,10 +180,6 @@ class Pair:
             return f"without a desk: {line.kind}"
         if line.folder == LOGLESS:
             return "without a desk: its log is removed, which has what a desk did that was ended"
-        if "--tms" in line.words:
-            # (no desk tells the frame by which such a tree is turned about)
-            self.beside.end()
-            return "without a desk: put tiles --tms"
         if not line.folder:
             return "without a desk: no folder"
         if not os.path.isdir(os.path.join(self.beside.room, line.folder)):

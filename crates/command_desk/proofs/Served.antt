@@ -103,3 +103,5 @@ module _ {S : Type 0} (g : Ghosts S) {W : Type 0} (writer' : W) (after : Option 
       (told, ends, none, inl (unread, same, rest)) = same_by g old new same
   done_served old new writer before input (deed.Carry report) ending hint (told, ends, none, inr (q, asks, is)) =
       step_by g q old new is.reply is.step
+  done_served old new writer before input deed.Frame ending hint (told, ends, none, same, rest) =
+      same_by g old new same

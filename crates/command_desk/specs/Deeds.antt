@@ -1,7 +1,9 @@
 -- What is made of a world that stays by a command, what is printed, and how it ends. Profile.
 use Rattle.std.specs.Prelude.{◌≡◌, ◌⊎◌, ℕ, List, Option, Some, None, Result, Ok, Err}
 use Rattle.sqlite.specs.Store.{Ghosts}
+use Rattle.sheet_types.specs.Reading.{frame_text}
 use Rattle.world.specs.Worlds.{Seen}
+use Rattle.command_folder.specs.Endings.{done}
 use Rattle.command_folder.specs.declared.endings.Ending.{Ending as CommandEnding}
 use Rattle.command_folder.specs.declared.endings.Ending.TheVariants as usual
 use Rattle.command_names.specs.declared.hints.Hint.{Hint}
@@ -17,6 +19,7 @@ use Rattle.command_ordering.specs.Naming.{NamesPackage}
 use Rattle.command_ordering.specs.Ordering.{HintsOrder}
 use Rattle.command_words.specs.declared.statuses.Outcome.TheVariants.{Refused}
 use Rattle.command_words.specs.declared.statuses.What.{What}
+use Rattle.commands.specs.Orders.{PrintsLine}
 use Rattle.commands.specs.Subcommands.{Applies}
 use Rattle.std.specs.Borrow.{Bor}
 use Rattle.views.specs.Looks.{Asks, IsUnread, LooksOver}
@@ -80,3 +83,6 @@ module _ {S : Type 0} (g : Ghosts S) {W : Type 0} (old new : Seen S) (writer wri
   IsDone input (deed.Carry report) ending hint =
       (told : CommandEnding) × (ending ≡ Usual told) × (hint ≡ None)
       × Carries g report input old new writer writer' before after told
+  IsDone input deed.Frame ending hint =
+      (told : CommandEnding) × (ending ≡ Usual told) × (hint ≡ None) × (new ≡ old)
+      × PrintsLine writer writer' before after (frame_text old.frame) done told

@@ -46,7 +46,7 @@ fn asked_of(alloc: Global, body: &[u8]) -> Result<Request, Ending>
 }
 
 /// Writes a text, and ends as is due.
-fn print<W: Write>(writer: &mut W, text: &str, due: Ending) -> Ending
+pub(crate) fn print<W: Write>(writer: &mut W, text: &str, due: Ending) -> Ending
     ensures { Prints text.now due (W.contents writer.old) (W.contents writer.new) result }
 {
     match send(writer, text.as_bytes()) {

@@ -3,6 +3,7 @@ ghost use Rattle.desk_http.specs.Connections.{IsServedBy};
 ghost use Rattle.command_desk.specs.Deeds.{IsDone, IsLooked, IsNamedLooked, IsPackageLooked};
 
 use crate::carrying::{Report, carry_in};
+use crate::turning::tell_frame;
 use command_folder::endings::Ending as CommandEnding;
 use command_named::items::tell_item;
 use command_named::looking::NamedLook;
@@ -39,6 +40,8 @@ pub enum Deed<'t> {
     LendBox(BoxedLoan<'t>, Purpose),
     /// One request as JSON is carried out, and told as this part of a report.
     Carry(Report),
+    /// The frame of the register is told.
+    Frame,
 }
 
 /// How many stores of a folder with so many are of no live package.
@@ -139,6 +142,10 @@ pub fn carry_out<'t, S: Alter + Drop, H: Shelf<S>, W: Write>(
         }
         Deed::Carry(report) => {
             let told = carry_in(alloc, world, shelf, *report, input, writer);
+            (Ending::Usual(told), None)
+        }
+        Deed::Frame => {
+            let told = tell_frame(alloc, world, writer);
             (Ending::Usual(told), None)
         }
     }

@@ -7,4 +7,5 @@ pub mod changing;
 pub mod deeds;
 pub mod frames;
 pub mod pages;
+pub mod turning;
 pub mod words;

@@ -210,13 +210,9 @@ fn ask_served<'m, W: AsStr>(
     }
 }
 
-/// Whether a desk is asked for this command. One that turns the rows of a tree about needs the frame, which no desk
-/// tells.
+/// Whether a desk is asked for this command.
 fn is_asked(name: &str, given: &ArgMatches<'_>) -> bool {
-    if let Some(options) = tree_words(name, given) {
-        return !options.get_flag("tms");
-    }
-    matches!(name, "import" | "drop" | "bring" | "changes") || is_served(name, given)
+    matches!(name, "put" | "import" | "drop" | "bring" | "changes") || is_served(name, given)
 }
 
 /// Has the desk that serves a command's folder carry the command out, and answers the exit status; none where no desk

@@ -28,8 +28,8 @@ fn row_number(word: &str) -> Option<u64> {
     }
 }
 
-/// The part of a report as which a request is told, where words ask for one: they are no command of a command line.
-pub(crate) fn report_of(words: &[&str]) -> Option<Report> {
+/// The part of a report as which a request is told, where words ask for one.
+fn report_of(words: &[&str]) -> Option<Report> {
     if words.len() == 1 && words[0] == "outcome" {
         return Some(Report::Outcome);
     }
@@ -38,6 +38,15 @@ pub(crate) fn report_of(words: &[&str]) -> Option<Report> {
         return Some(Report::Row(number));
     }
     None
+}
+
+/// The deed that words ask for which are no command of a command line: a client asks so for a part of one.
+pub(crate) fn part_of(words: &[&str]) -> Option<Deed<'static>> {
+    if words.len() == 1 && words[0] == "frame" {
+        return Some(Deed::Frame);
+    }
+    let report = report_of(words)?;
+    Some(Deed::Carry(report))
 }
 
 /// The words with the program's name before them, as they are matched.

@@ -10,17 +10,22 @@ use crate::running::{ended, text_of};
 use crate::streams::Output;
 use crate::trees::{Tree, places_of};
 use clap::ArgMatches;
-use command_folder::endings::{Ending, FAILED, NO_MEMORY};
+use command_desk::turning::upward_place;
+use command_folder::endings::{Ending, FAILED, NO_MEMORY, status_of};
 use command_lines::trees::counts_line;
 use command_plans::requests::{Identities, PlanFault, request_from};
 use command_trees::adding::{Counts, Sheets};
 use command_verbs::areas::Place;
+use command_verbs::faults::verb_line;
+use command_verbs::verbs::VerbFault;
 use desk_asking::answers::AnswerFault;
 use desk_asking::desks::DeskAt;
 use request_json::requests::read_request;
 use sheet_types::collections::Bytes;
 use sheet_types::command::{Command, Content, Request};
 use sheet_types::fingerprints::{Spelled, fingerprint};
+use sheet_types::frame::Frame;
+use sheet_types::reading::read_frame;
 use std::alloc::{AllocError, Global};
 use std::io::Write;
 use std::str::from_utf8;
@@ -30,18 +35,20 @@ use uuid::Uuid;
 const BEFORE_PLACE: usize = 41;
 
 /// The package to which tiles are added by a desk, at a moment, and the ends of the lines of the tiles that it held.
+/// Where the rows of files run upwards, the frame turns them about.
 #[derive(Clone, Copy)]
 struct Target<'t> {
     desk: DeskAt<'t>,
     package: Uuid,
     at: &'t str,
     held: &'t [&'t str],
+    turning: Option<Frame>,
 }
 
 /// Why no more tiles are added.
 #[derive(Clone, Copy)]
 enum Stop {
-    /// This was told of the last one in its answer, with this status.
+    /// This was told of the last one, with this status.
     Refused(u8),
     /// The desk gave no status.
     Silent(Silence),
@@ -120,6 +127,53 @@ fn add_tile(
     }
 }
 
+/// Has a desk add a tile of these bytes at a place, unless it was there. Answers whether it was added.
+fn add_bytes(
+    rt: &HostRuntime,
+    target: &Target<'_>,
+    place: &Place,
+    bytes: Vec<u8>,
+    told: &mut Vec<u8>,
+) -> Result<bool, Stop> {
+    let size = bytes.len();
+    let content = Content::Tile {
+        zoom: place.zoom,
+        column: place.column,
+        row: place.row,
+        bytes: Bytes::from_vec(bytes),
+    };
+    let Ok(end) = tile_end(rt.alloc(), place, size, &content) else {
+        return Err(Stop::Ended(NO_MEMORY));
+    };
+    if target.held.iter().any(|held| *held == end.as_str()) {
+        return Ok(false);
+    }
+    match add_tile(rt, target, content, told) {
+        Ok(()) => Ok(true),
+        Err(stop) => Err(stop),
+    }
+}
+
+/// The place of a file's tile; none where the frame has no such row.
+fn place_for(target: &Target<'_>, file: &Place) -> Option<Place> {
+    match &target.turning {
+        Some(frame) => upward_place(frame, file),
+        None => Some(*file),
+    }
+}
+
+/// Tells that the frame has no such row, as of a tile that is refused.
+fn misplaced(alloc: Global, told: &mut Vec<u8>) -> Stop {
+    let Ok(line) = verb_line(alloc, &VerbFault::BadPlace) else {
+        return Stop::Ended(NO_MEMORY);
+    };
+    told.clear();
+    match told.extend_from_slice(line.as_bytes()) {
+        Ok(()) => Stop::Refused(status_of(Ending::NoRequest)),
+        Err(_) => Stop::Ended(NO_MEMORY),
+    }
+}
+
 /// Has a desk add the tile of a file, unless it was there. Answers whether it was added.
 fn add_file(
     rt: &HostRuntime,
@@ -131,22 +185,9 @@ fn add_file(
     let Some(bytes) = sheets.bytes_of(file) else {
         return Err(Stop::Ended(Ending::BadBody));
     };
-    let size = bytes.len();
-    let content = Content::Tile {
-        zoom: file.zoom,
-        column: file.column,
-        row: file.row,
-        bytes: Bytes::from_vec(bytes),
-    };
-    let Ok(end) = tile_end(rt.alloc(), file, size, &content) else {
-        return Err(Stop::Ended(NO_MEMORY));
-    };
-    if target.held.iter().any(|held| *held == end.as_str()) {
-        return Ok(false);
-    }
-    match add_tile(rt, target, content, told) {
-        Ok(()) => Ok(true),
-        Err(stop) => Err(stop),
+    match place_for(target, file) {
+        Some(place) => add_bytes(rt, target, &place, bytes, told),
+        None => Err(misplaced(rt.alloc(), told)),
     }
 }
 
@@ -286,12 +327,30 @@ fn ask_manifest(
     ask_kept(rt, &served.desk, words.as_slice(), output)
 }
 
+/// The frame of the register, where the rows of files run upwards.
+fn ask_frame(
+    rt: &HostRuntime,
+    served: &Served<'_, '_>,
+    is_upward: bool,
+    output: &mut Output<'_>,
+) -> Result<Option<Frame>, Stop> {
+    if !is_upward {
+        return Ok(None);
+    }
+    let text = ask_kept(rt, &served.desk, ["frame"].as_slice(), output)?;
+    match read_frame(from_utf8(text.as_slice()).unwrap_or("")) {
+        Some(frame) => Ok(Some(frame)),
+        None => Err(Stop::Silent(Silence::Faulty(AnswerFault::Cut))),
+    }
+}
+
 /// A tree of files, as a person names it.
 #[derive(Clone, Copy)]
 struct TreeWords<'t> {
     package: &'t str,
     at: &'t str,
     directory: &'t str,
+    is_upward: bool,
 }
 
 /// Has the desk of a folder add the tiles of files.
@@ -303,6 +362,7 @@ fn add_tree(
     output: &mut Output<'_>,
 ) -> Result<(), Stop> {
     let package = ask_package(rt, served, words.package, &mut *output)?;
+    let turning = ask_frame(rt, served, words.is_upward, &mut *output)?;
     let manifest = ask_manifest(rt, served, package, &mut *output)?;
     let Ok(held) = tiles_in(rt.alloc(), from_utf8(manifest.as_slice()).unwrap_or("")) else {
         return Err(Stop::Silent(WANT));
@@ -312,6 +372,7 @@ fn add_tree(
         package,
         at: words.at,
         held: held.as_slice(),
+        turning,
     };
     add_to(rt, &target, words.directory, files, output)
 }
@@ -367,6 +428,7 @@ pub(crate) fn put_tree_by(
         package,
         at: at.as_str(),
         directory,
+        is_upward: options.get_flag("tms"),
     };
     let mut output = verb_output(rt, options);
     let added = add_tree(rt, served, &words, files.as_slice(), &mut output);

@@ -30,6 +30,7 @@ mod row_texts;
 mod running;
 mod serving;
 mod sessions;
+mod settling;
 mod showing;
 mod streams;
 mod tile_names;

@@ -8,7 +8,7 @@ use crate::clerk_pages::{
     Errand, attend_changes, attend_drop, attend_page, attend_project, attend_tidy,
 };
 use crate::clerk_telling::{pass_on, tell_ending, tell_unnamed, tell_usual};
-use crate::clerk_words::{Filled, deed_of, fill, report_of, whole_words};
+use crate::clerk_words::{Filled, deed_of, fill, part_of, whole_words};
 use crate::ordering::is_verb;
 use crate::reporting::is_paper;
 use crate::running::matched;
@@ -91,7 +91,7 @@ pub(crate) fn is_served(name: &str, given: &ArgMatches<'_>) -> bool {
     }
 }
 
-/// Carries out what was asked: a request as a part of a report, or a command.
+/// Carries out what was asked: a part of a command, or a command.
 fn attend_asked<S: Alter + Drop, H: Shelf<S>, W: Write>(
     rt: &HostRuntime,
     folder: &str,
@@ -102,11 +102,8 @@ fn attend_asked<S: Alter + Drop, H: Shelf<S>, W: Write>(
 )
     ensures { IsServedBy S.Store 1 world.old world.new }
 {
-    match report_of(asked.words.as_slice()) {
-        Some(report) => {
-            let deed = Deed::Carry(report);
-            attend_deed(rt, folder, world, shelf, &deed, asked.input, frames)
-        }
+    match part_of(asked.words.as_slice()) {
+        Some(deed) => attend_deed(rt, folder, world, shelf, &deed, asked.input, frames),
         None => attend_heard(rt, folder, world, shelf, asked, frames),
     }
 }

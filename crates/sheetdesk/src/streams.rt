@@ -4,6 +4,7 @@ ghost use Rattle.std.specs.Prelude.{None};
 use crate::clock::moment_now;
 use crate::desk_files::{DeskPlace, keep_desk};
 use crate::outputs::Headed;
+use crate::settling::settle_heap;
 use command_words::desk_lines::{exchange_line, listening_line};
 use command_words::progress::{Progress, Teller};
 use desk_http::telling::DeskTeller;
@@ -127,6 +128,7 @@ impl<'r> Teller for Onlooker<'r> {
 
 impl<'r> DeskTeller for Onlooker<'r> {
     fn tell_port(&mut self, port: u16) {
+        settle_heap(self.rt);
         // A desk serves where nobody can be told of it.
         if let Some(place) = &self.place {
             let _unkept = keep_desk(self.rt, place, port);

@@ -1,5 +1,6 @@
 -- What was done is one request, at most.
 use Rattle.std.proofs.Common.{refl}
+use Rattle.desk_http.proofs.ServedBy.{same_by}
 use Rattle.command_desk.specs.declared.deeds.Deed.TheVariants as deed
 use Rattle.command_desk.proofs.Served.{done_served}
 use Rattle.command_desk.proofs.deeds.carry_out.Goals as goal
@@ -63,3 +64,10 @@ returns-in-Carry-clause-served g c =
     c.args.world.now c.carry_in-told.new.world c.args.writer.now (g.W.Write.contents c.args.writer.now)
     c.args.input.now (deed.Carry c.in-Carry.report) _ _
     (c.carry_in-told.result, refl, refl, c.carry_in-told.ensures)
+
+pub returns-in-Frame-clause-done : goal.returns-in-Frame-clause-done
+returns-in-Frame-clause-done g c =
+    rw c.in-Frame.is (c.tell_frame-told.result, refl, refl, refl, c.tell_frame-told.ensures)
+
+pub returns-in-Frame-clause-served : goal.returns-in-Frame-clause-served
+returns-in-Frame-clause-served g c = same_by g.S.Store c.args.world.now c.args.world.now refl
