@@ -390,7 +390,7 @@ def trees_and_boxes(session):
     verbs.tree("samples/tree", sheets)
     # (a TMS counts rows from below: the last of twelve is the first from above, and of three the middle one stays)
     verbs.tree("samples/upward", [(4, 1, 1), (6, 0, 11)], " --tms")
-    # (row 2 of zoom 4 is the last from below; there is no row 3)
+    # (zoom 4 has three rows: the file that is numbered 3 from below, from 0, is past the last)
     verbs.tree("samples/past", [(4, 0, 2), (4, 1, 0), (4, 1, 3), (5, 0, 5)], " --tms")
     verbs.tree("samples/beside", [(4, 1, 0), (6, 8, 0), (6, 9, 0)])
     verbs.refused("put", f"{nordmark.ARCHIVE[:4]} tiles samples/first.csv", "body")

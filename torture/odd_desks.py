@@ -258,7 +258,7 @@ def turned_about(folder, room):
             expect(due, typed("put", folder, "6f0d", "tiles", f"{room}/upward", "--tms"), told)
             desk.thread.join()
             expect(request_of(desk.port, ["frame"], b"x"), desk.sent[1], "the frame")
-            # (row 2 from below is row 0 from above, of three)
+            # (of three rows the last from below is the first from above)
             assert told != FRAME or b'"row":0' in desk.sent[3], desk.sent[3]
 
 
