@@ -15,14 +15,14 @@ use Rattle.manifest_csv.specs.declared.importing.ImportFault.{ImportFault}
 use Rattle.manifest_csv.specs.declared.importing.ImportFault.TheVariants.{Unread, Stopped, Unwritten}
 
 module _ {S H : Type 0} (Asks : List ℕ → H → H → Type 0) (Takes : List ℕ → S → H → H → Type 0) where
-  asks_nothing : (child : Option (List ℕ)) (same : H) → AsksFor Asks child (λ child. ⊤) same same
+  asks_nothing : (child : Option (List ℕ)) (same : H) → AsksFor Asks Takes child (λ child. ⊤) same same
   asks_nothing None same = refl
   asks_nothing (Some child) same = inl refl
 
-  asks_some : (child : Option (List ℕ)) (Fact : List ℕ → Type 0) (before after : H) → AsksFor Asks child Fact before after → AsksFor Asks child (λ child. ⊤) before after
+  asks_some : (child : Option (List ℕ)) (Fact : List ℕ → Type 0) (before after : H) → AsksFor Asks Takes child Fact before after → AsksFor Asks Takes child (λ child. ⊤) before after
   asks_some None Fact before after asked = asked
   asks_some (Some child) Fact before after (inl same) = inl same
-  asks_some (Some child) Fact before after (inr once) = inr (once.0, tt)
+  asks_some (Some child) Fact before after (inr once) = inr (once.0, once.1, tt, once.3)
 
   -- in a step it was used at most once
   pub used_for : (g : Ghosts S) (members : List (Member S)) (q : Request) (New NoMore : List ℕ → Type 0) (gone : List (Held S)) (before after : H) → ((x : List ℕ) → NoMore x → child_returned q.command ≡ Some x) → UsesFor g Asks Takes members (child_asked q.command) New NoMore gone before after → IsUsedFor Asks Takes q before after
@@ -31,7 +31,7 @@ module _ {S H : Type 0} (Asks : List ℕ → H → H → Type 0) (Takes : List �
       let it = used.1 in
       inr (it.1.uuid, named it.1.uuid it.5, it.4.0, it.4.2)
 
-  uses_more : (qs : List Request) (q : Request) (before between after : H) → IsUsedForEach Asks Takes qs before between → IsUsedFor Asks Takes q between after → IsUsedForEach Asks Takes (qs ++ q ∷ []) before after
+  pub uses_more : (qs : List Request) (q : Request) (before between after : H) → IsUsedForEach Asks Takes qs before between → IsUsedFor Asks Takes q between after → IsUsedForEach Asks Takes (qs ++ q ∷ []) before after
   uses_more [] q before between after used one = (after, subst (λ s. IsUsedFor Asks Takes q s after) used one, refl)
   uses_more (p ∷ qs) q before between after used one = (used.0, used.1, uses_more qs q used.0 between after used.2 one)
 

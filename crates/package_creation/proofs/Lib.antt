@@ -2,3 +2,4 @@ pub mod SchemaMakes
 pub mod Texts
 pub mod NewPackage
 pub mod Creating
+mod Unmakes

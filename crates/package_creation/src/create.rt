@@ -1,5 +1,5 @@
 //! A package with nothing in it: its tables, the rows that each package has, and its head.
-ghost use Rattle.std.specs.Prelude.{◌≡◌, IfOk, IsTrue};
+ghost use Rattle.std.specs.Prelude.{◌≡◌, Err, IfErr, IfOk, IsTrue};
 ghost use Rattle.sqlite.specs.State.{HasCleanDisk};
 ghost use Rattle.sqlite.specs.Held.{state};
 ghost use Rattle.sheet_types.specs.Matrix.{is_good_frame};
@@ -9,10 +9,12 @@ ghost use Rattle.package_tables.specs.Calls.{OnTables};
 ghost use Rattle.package_tables.specs.Listed.{heads};
 ghost use Rattle.package_tables.specs.Changes.{Adds};
 ghost use Rattle.package_tables.specs.Creation.{head_of, new_tables, HoldsTables, Fills, IsFitInfo};
+ghost use Rattle.package_tables.specs.declared.fault.Fault.{Fault};
 
 use crate::fixed_rows::insert_fixed;
 use crate::package::Package;
 use crate::schema::create_schema;
+use crate::unmade::Unmade;
 use package_tables::fault::Fault;
 use package_tables::head::insert_head;
 use sheet_types::frame::Frame;
@@ -86,13 +88,13 @@ fn make<S: Alter>(
 ///
 /// # Errors
 ///
-/// Where it fails, nothing is committed but where the commit itself failed, and the connection is dropped.
+/// Where it fails, nothing is committed but where the commit itself failed. The connection is handed back.
 pub fn create<S: Alter + Drop>(
     alloc: Global,
     mut conn: Connection<S>,
     frame: &Frame,
     info: &Info<'_>,
-) -> Result<Package<S>, Fault>
+) -> Result<Package<S>, Unmade<S>>
     requires rests { Rests (state S.Store conn) }
     requires frame { IsTrue (is_good_frame frame.now) }
     requires info { IsFitInfo info.now.depth info.now.loan }
@@ -100,7 +102,10 @@ pub fn create<S: Alter + Drop>(
         → HoldsTables (state S.Store made.conn).now (new_tables frame.now (head_of info.now.package info.now.parent info.now.depth info.now.loan info.now.created.now)) × Holds (state S.Store made.conn) (state S.Store made.conn).now) }
     ensures rests { IfOk result (λ made. Rests (state S.Store made.conn)) }
     ensures clean { IfOk result (λ made. HasCleanDisk (state S.Store made.conn) → HasCleanDisk (state S.Store conn)) }
+    ensures failed { IfErr result (λ unmade. Turns {X = Unit {0}} {E = Fault} (λ _. Fills (new_tables frame.now (head_of info.now.package info.now.parent info.now.depth info.now.loan info.now.created.now))) (state S.Store conn) (state S.Store unmade.conn) (Err unmade.why)) }
 {
-    make(alloc, &mut conn, frame, info)?;
-    Ok(Package { conn })
+    match make(alloc, &mut conn, frame, info) {
+        Ok(()) => Ok(Package { conn }),
+        Err(why) => Err(Unmade { conn, why }),
+    }
 }

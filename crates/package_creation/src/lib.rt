@@ -8,3 +8,4 @@ mod insertions;
 mod levels;
 pub mod package;
 pub mod schema;
+pub mod unmade;

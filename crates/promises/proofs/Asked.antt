@@ -99,7 +99,8 @@ module _ {S : Type 0} (g : Ghosts S) (law : LeftAsItStands g) (q : Request) (old
 module _ {S : Type 0} (g : Ghosts S) (law : LeftAsItStands g) {H : Type 0} (Asked : List ℕ → H → H → Type 0)
     (Taken : List ℕ → S → H → H → Type 0) (q : Request) (old new : Seen S) (before after : H)
     (is_held : IsHeld g new) where
-  pub asks : (reply : Reply) → IsStepWith g Asked Taken q old reply new before after → LeavesNoTrace g old reply new
+  pub asks : {Fails : H → ℕ} (reply : Reply) → IsStepWith g Asked Taken Fails q old reply new before after
+      → LeavesNoTrace g old reply new
       → (¬ IsFault reply → new.has_failed ≡ old.has_failed) → (is_fault : Bool) → IsTrue is_fault ↔ IsFault reply
       → Asks g Asked Taken q old new before after reply
   asks reply it no_trace usable is_fault faults =

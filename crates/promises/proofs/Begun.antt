@@ -44,9 +44,9 @@ timely_last w (q ∷ qs) (reply ∷ replies) next types timely ran =
 
 module _ {S : Type 0} (g : Ghosts S) {H : Type 0} (Asked : List ℕ → H → H → Type 0)
     (Taken : List ℕ → S → H → H → Type 0) where
-  pub begun : (archive : List ℕ) (frame : Frame) (requests : List Request) (first new : Seen S)
+  pub begun : {Fails : H → ℕ} (archive : List ℕ) (frame : Frame) (requests : List Request) (first new : Seen S)
       (replies : List Reply) (failed fails : ℕ) (before made after : H) → IsNew g archive frame first
-      → Asked archive before made → IsRunWith g Asked Taken requests first replies new failed fails made after
+      → Asked archive before made → IsRunWith g Asked Taken Fails requests first replies new failed fails made after
       → WhereClean g (IsGivenFromNew Asked Taken archive requests before after) new
       (StandsAfter g archive frame requests replies new)
   begun archive frame requests first new replies failed fails before made after is_new asked ran =

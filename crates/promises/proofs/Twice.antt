@@ -28,10 +28,10 @@ use Rattle.promises.proofs.Given.{
 
 module _ {S : Type 0} (g : Ghosts S) {H : Type 0} (Asked : List ℕ → H → H → Type 0)
     (Taken : List ℕ → S → H → H → Type 0) where
-  pub runs_twice : (q : Request) (others : List Request) (old one two new : Seen S) (first again : Reply)
-      (between : List Reply) (failed fails : ℕ) (s t u v : H) → IsStepWith g Asked Taken q old first one s t
-      → IsRunWith g Asked Taken others one between two failed fails t u
-      → IsStepWith g Asked Taken q two again new u v
+  pub runs_twice : {Fails : H → ℕ} (q : Request) (others : List Request) (old one two new : Seen S) (first again : Reply)
+      (between : List Reply) (failed fails : ℕ) (s t u v : H) → IsStepWith g Asked Taken Fails q old first one s t
+      → IsRunWith g Asked Taken Fails others one between two failed fails t u
+      → IsStepWith g Asked Taken Fails q two again new u v
       → Repeats g Asked Taken q others old new s v (record { first = first; again = again })
   runs_twice q others old one two new first again between failed fails s t u v step run repeat =
       let by_first = given_by_step g Asked Taken q old first one s t step in

@@ -47,7 +47,7 @@ pub fn new_tables<S: Alter + Drop>(
     if !is_at_rest(&conn) || !can_be_made(frame, info) {
         return Err(Fault::StoreFault);
     }
-    create(alloc, conn, frame, info)
+    Ok(create(alloc, conn, frame, info)?)
 }
 
 /// A new package, by the layer above the tables.
@@ -60,7 +60,7 @@ pub fn new_package<S: Alter + Drop>(
     if !is_at_rest(&conn) || !can_be_made(frame, info) {
         return Err(Fault::StoreFault);
     }
-    package_creation::creation::create(alloc, conn, frame, info)
+    Ok(package_creation::creation::create(alloc, conn, frame, info)?)
 }
 
 /// A package with nothing in it, without parent.

@@ -1,12 +1,11 @@
 -- What is due is carried out among the members of a world that can be used.
-use Rattle.std.specs.Prelude.{◌≡◌, ◌≤◌, ℕ, length, ◌+◌, List, [], ◌∷◌, ◌++◌, map, refl, Some, slice_get, Result, Ok, Err, IsTrue}
-use Rattle.std.proofs.Common.{arith, sym, ap, subst, ◌∙◌, inl, inr}
+use Rattle.std.specs.Prelude.{◌≡◌, ℕ, ◌+◌, List, [], ◌∷◌, ◌++◌, map, refl, Some, slice_get, Result, Ok, Err, IsTrue}
+use Rattle.std.proofs.Common.{sym, ap, subst, ◌∙◌, inl, inr}
 use Rattle.std.specs.List.{AllByRecursion}
 use Rattle.std.proofs.lemmas.List.{append-nil}
 use Rattle.std.proofs.lemmas.List.Elements.{All-from_recursion}
 use Rattle.std.proofs.lemmas.List.Sorted.{IsPermutation-refl}
 use Rattle.std.specs.List.Sorted.{IsPermutation}
-use Rattle.sqlite.specs.Tree.{Trees}
 use Rattle.sqlite.specs.Store.{Ghosts}
 use Rattle.sqlite.specs.Held.{Held, state}
 use Rattle.sqlite.specs.State.{HasCleanDisk}
@@ -20,7 +19,8 @@ use Rattle.store_sql.proofs.Transactions.{Shuts, Settles}
 use Rattle.store_sql.proofs.StoreLemmas.{same_world}
 use Rattle.package_tables.specs.declared.fault.Fault.TheVariants as fault
 use Rattle.world_changes.specs.Carries.{Carries, IsBeforeCommit, OfEachDue}
-use Rattle.world_changes.specs.Leaving.{IsBeside, AreAtRest, AreBeside, LeavesOneOf}
+use Rattle.world_changes.specs.Giving.{IsUnlent, LeavesBlankOr}
+use Rattle.world_changes.specs.Leaving.{AreAtRest, LeavesOneOf}
 use Rattle.world_changes.specs.Writing.{WritesTwoAtMost}
 use Rattle.world_decisions.specs.Deciding.{child_asked}
 use Rattle.world_loans.specs.Loans.{IsLent, IsReturned}
@@ -70,16 +70,12 @@ module _ {S : Type 0} (g : Ghosts S) where
   module _ (shuts : Shuts g) (settles : Settles g) where
     -- ---- nothing was begun
 
-    pub carries_unbegun : (Due : World → World → Type 0) (due : Receipt) (old mid : List (Member S)) (strays : List (Held S)) (count : ℕ) (why : ServeFault) → strays ≡ [] → AllRest g old → AllRest g mid → AllStay g old mid → IsBeforeCommit why → (left_over : List (Held S)) → length left_over ≤ 1 → (AllClean g mid → (w next : World) → AreMembers g old count w → Due w next → AllOpen g old → AreBeside g w.frame w.packages left_over)
+    pub carries_unbegun : (Due : World → World → Type 0) (due : Receipt) (old mid : List (Member S)) (strays : List (Held S)) (count : ℕ) (why : ServeFault) → strays ≡ [] → AllRest g old → AllRest g mid → AllStay g old mid → IsBeforeCommit why
         → Carries g Due due old mid strays count count (Err why)
-    carries_unbegun Due due old mid strays count why none at_rest rests stay early left_over few beside = record {
+    carries_unbegun Due due old mid strays count why none at_rest rests stay early = record {
       gone = [];
-      left_over = left_over;
-      few = few;
-      unlent = λ receipt is. absurd (let e = is in cc);
       read = tt;
       survive = λ other is. stay_survive g old mid stay;
-      beside_before = λ clean gone w next are is_due was. beside clean w next are is_due was;
       rests = rests;
       stray_rests = All-from_recursion (λ h. Rests (state g h)) strays (no_held (λ h. Rests (state g h)) strays none);
       clean = λ clean gone. clean_before g old mid stay clean;
@@ -106,12 +102,8 @@ module _ {S : Type 0} (g : Ghosts S) where
           let done = it.done receipt refl in (
             record {
               gone = [];
-              left_over = [];
-              few = omega arith;
-              unlent = λ x is. refl;
               read = tt;
               survive = λ why is. absurd (let e = is in cc);
-              beside_before = λ clean gone w next are is_due was. none_beside g w.frame w.packages;
               rests = it.rests;
               stray_rests = All-from_recursion (λ h. Rests (state g h)) strays (no_held (λ h. Rests (state g h)) strays done.1);
               clean = λ clean gone. clean_before g old mid stay (it.clean clean);
@@ -160,33 +152,16 @@ module _ {S : Type 0} (g : Ghosts S) where
         early_of : (x : ServeFault) → Turn why ≡ x → IsBeforeCommit x → IsUncommitted {X = Receipt} (Err why)
         early_of x is early = elim why as (λ t. IsBeforeCommit (Turn t) → IsUncommitted {X = Receipt} (Err t)) [ Before y ↦ λ e. tt | Committing y ↦ λ e. absurd e ] (subst IsBeforeCommit (sym is) early)
 
-        -- the child is dropped where it is not kept
-        abbrev left_behind : TurnFault → List (Held S)
-        left_behind (Before fault.OutOfMemory) = child ∷ []
-        left_behind (Before fault.StoreFault) = []
-        left_behind (Committing x) = []
-
-        one_at_most : (x : TurnFault) → length (left_behind x) ≤ 1
-        one_at_most (Before fault.OutOfMemory) = omega arith
-        one_at_most (Before fault.StoreFault) = omega arith
-        one_at_most (Committing x) = omega arith
-
-        dropped_beside : (w next : World) (count : ℕ) → AreMembers g old count w → f ≡ w.frame → IsLent w next due → AllClean g mid → (x : TurnFault) → AreBeside g w.frame w.packages (left_behind x)
-        dropped_beside w next count are same is clean (Before fault.OutOfMemory) =
-            All-from_recursion (λ h. HasCleanDisk (state g h) → (trees : Trees) → (state g h).may_leave trees → IsBeside w.frame w.packages trees) (child ∷ [])
-            ((λ disk trees may. is_beside g w next due is trees (inr (child_left g shuts settles due child old mid strays at_rest child_rests w next is (keeps clean w next count same are is) disk trees may))), tt)
-        dropped_beside w next count are same is clean (Before fault.StoreFault) = none_beside g w.frame w.packages
-        dropped_beside w next count are same is clean (Committing x) = none_beside g w.frame w.packages
+        -- what the shelf may get back is beside the world
+        pub child_beside : LeavesBlankOr g (IsUnlent g f due old new) child
+        child_beside disk trees may =
+            inr (λ clean w next count same are is was. is_beside g w next due is trees (inr (child_left g shuts settles due child old mid strays at_rest child_rests w next is (keeps (it.clean clean) w next count same are is) disk trees may)))
 
         pub carries_unlent : Carries g (λ w next. (f ≡ w.frame) × IsLent w next due) due.receipt old new strays before before (Err (Turn why))
         carries_unlent = record {
           gone = [];
-          left_over = left_behind why;
-          few = one_at_most why;
-          unlent = λ receipt is. absurd (let e = is in cc);
           read = tt;
           survive = λ other is. survive_then g old mid new (stay_survive g old mid stay) (it.survive why refl);
-          beside_before = λ clean gone w next are is_due was. dropped_beside w next before are is_due.0 is_due.1 (it.clean clean) why;
           rests = it.rests;
           stray_rests = kept_or_dropped (AreAtRest g) (λ early none. All-from_recursion (λ h. Rests (state g h)) strays (no_held (λ h. Rests (state g h)) strays none)) (All-from_recursion (λ h. Rests (state g h)) (child ∷ []) (child_rests, tt));
           clean = λ clean gone. clean_before g old mid stay (it.clean clean);
@@ -213,12 +188,8 @@ module _ {S : Type 0} (g : Ghosts S) where
           let done = it.done (receipt, child) refl in (
             record {
               gone = child ∷ [];
-              left_over = [];
-              few = omega arith;
-              unlent = λ x is. refl;
               read = it.read;
               survive = λ why is. absurd (let e = is in cc);
-              beside_before = λ clean gone w next are is_due was. none_beside g w.frame w.packages;
               rests = it.rests;
               stray_rests = All-from_recursion (λ h. Rests (state g h)) [] tt;
               clean = it.clean;
@@ -261,12 +232,8 @@ module _ {S : Type 0} (g : Ghosts S) where
       pub carries_unreturned : (why : TurnFault) → Merges g due old new (Err why) → Carries g (λ w next. IsReturned w next due) due.receipt old new [] before before (Err (Turn why))
       carries_unreturned why it = record {
         gone = [];
-        left_over = [];
-        few = omega arith;
-        unlent = λ receipt is. absurd (let e = is in cc);
         read = tt;
         survive = λ other is. it.survive why refl;
-        beside_before = λ clean gone w next are is_due was. none_beside g w.frame w.packages;
         rests = it.rests;
         stray_rests = All-from_recursion (λ h. Rests (state g h)) [] tt;
         clean = it.clean;

@@ -31,11 +31,13 @@ use Rattle.world.proofs.Faults.{fault_is_err}
 use Rattle.world.proofs.CarriedOut.{leaves_before}
 use Rattle.world_changes.proofs.Surviving.{same_survive}
 use Rattle.world_changes.proofs.HeldStores.{left_clean, right_clean}
-use Rattle.world_changes.proofs.Lent.{none_beside}
 use Rattle.sqlite.specs.Held.{Held}
-use Rattle.std.specs.Prelude.{Some, [], ◌++◌}
+use Rattle.std.specs.Prelude.{Option, Some, None, [], ◌++◌}
+use Rattle.sqlite.specs.Tree.{Trees}
+use Rattle.world.proofs.Settled.{gives_weaker, unserved_settles}
+use Rattle.world_changes.specs.Leaving.{IsChildBeside}
 use Rattle.world_decisions.specs.Deciding.{child_asked}
-use Rattle.world.specs.Asked.{IsNewTo, IsHomeBy, IsNoPackage, IsStepWith, ServesWith, UsesFor, child_returned}
+use Rattle.world.specs.Asked.{IsNewTo, IsHomeBy, IsNoPackage, IsStepWith, ServesChild, ServesWith, SettlesChild, UsesFor, child_returned}
 use Rattle.world.proofs.Asks.{asks_nothing, uses_asked, uses_weaker}
 use Rattle.world.specs.Worlds.{Seen, StandsFor, IsHeld, IsAccepted, IsStep, StandsStill, LeavesNoTrace, LeftAsItStands}
 use Rattle.register_lending.specs.declared.turn_fault.TurnFault.TheVariants.{Before, Committing}
@@ -89,14 +91,10 @@ module _ {S : Type 0} (g : Ghosts S) where
   pub step_unserved : (shuts : Shuts g) (settles : Settles g) (q : Request) (seen : Seen S) → AllRest g seen.members → seen.has_failed ≡ true → IsStep g q seen (Err StoreFault) seen
   step_unserved shuts settles q seen at_rest failed = record {
     gone = [];
-    left_over = [];
-    beside_before = λ clean gone w stands opened. none_beside g w.frame w.packages;
     register = λ w stands. stands.members.register;
     survive = λ refused. same_survive g seen.members;
     dropped = λ refused. refl;
     writes = none_written g (child_asked q.command) (child_returned q.command) seen.members seen.members (all_still g shuts settles seen.members at_rest);
-    few = omega arith;
-    unlent = λ accepted. refl;
     clean = λ clean gone. clean;
     step = λ clean gone w stands. (w, inr (inr refl, refl), stands);
     opens = λ clean gone no_fault. absurd (no_fault (inr refl));
@@ -105,12 +103,13 @@ module _ {S : Type 0} (g : Ghosts S) where
   }
 
   -- and asks a shelf for nothing and gives nothing back
-  pub unserved_with : {H : Type 0} (Asks : List ℕ → H → H → Type 0) (Takes : List ℕ → S → H → H → Type 0) (shuts : Shuts g) (settles : Settles g) (q : Request) (seen : Seen S) (s : H) → AllRest g seen.members → seen.has_failed ≡ true → IsStepWith g Asks Takes q seen (Err StoreFault) seen s s
-  unserved_with Asks Takes shuts settles q seen s at_rest failed =
+  pub unserved_with : {H : Type 0} (Asks : List ℕ → H → H → Type 0) (Takes : List ℕ → S → H → H → Type 0) (Fails : H → ℕ) (shuts : Shuts g) (settles : Settles g) (q : Request) (seen : Seen S) (s : H) → AllRest g seen.members → seen.has_failed ≡ true → IsStepWith g Asks Takes Fails q seen (Err StoreFault) seen s s
+  unserved_with Asks Takes Fails shuts settles q seen s at_rest failed =
       let it : IsStep g q seen (Err StoreFault) seen = step_unserved shuts settles q seen at_rest failed in
       record {
         step = it;
-        uses = uses_asked g Asks Takes seen.members (child_asked q.command) (IsNewTo g seen seen) (IsHomeBy g q seen seen it.gone) it.gone s s (it.dropped refl) (asks_nothing Asks (child_asked q.command) (IsNewTo g seen seen) s s refl);
+        uses = uses_asked g Asks Takes seen.members (child_asked q.command) (IsNewTo g seen seen) (IsHomeBy g q seen seen it.gone) it.gone s s (it.dropped refl) (asks_nothing Asks Takes (child_asked q.command) (IsNewTo g seen seen) s s refl);
+        child = unserved_settles g Asks Takes Fails (child_asked q.command) seen s;
       }
 
   -- Between two calls a crash leaves what the world stands for.
@@ -142,13 +141,9 @@ module _ {S : Type 0} (g : Ghosts S) where
     step_told reply is = (
       record {
         gone = it.gone;
-        left_over = it.left_over;
-        few = it.few;
-        unlent = λ accepted. it.unlent reply is;
         writes = were_written;
         dropped = λ refused. it.dropped (subst HasNoReceipt (sym is) refused);
         survive = λ refused. were_there (it.survive (subst HasNoReceipt (sym is) refused));
-        beside_before = λ clean gone w stands opened. it.beside_before clean gone w (stood w stands).0 (stood w stands).1 (were_open opened);
         register = λ w stands. stands.members.register;
         clean = were_clean;
         step = λ clean gone w stands.
@@ -170,13 +165,9 @@ module _ {S : Type 0} (g : Ghosts S) where
     step_faulted e is why told = (
       record {
         gone = it.gone;
-        left_over = it.left_over;
-        few = it.few;
-        unlent = λ accepted. absurd (let x = accepted in cc);
         writes = were_written;
         dropped = λ refused. it.dropped (subst HasNoReceipt (sym is) tt);
         survive = λ refused. were_there (it.survive (subst HasNoReceipt (sym is) tt));
-        beside_before = λ clean gone w stands opened. it.beside_before clean gone w (stood w stands).0 (stood w stands).1 (were_open opened);
         register = λ w stands. stands.members.register;
         clean = were_clean;
         step = λ clean gone w stands. (w, inr (told_as_fault e why told, refl), record { frame = (stood w stands).0.0; members = it.failed e is w (stood w stands).1; known = knows_more known noted w it.grows (stood w stands).0.1 });
@@ -191,10 +182,11 @@ module _ {S : Type 0} (g : Ghosts S) where
     step_failed e is why told = (step_faulted e is why told).0
 
     -- with what the shelf was asked for and given back
-    module _ {H : Type 0} (Asks : List ℕ → H → H → Type 0) (Takes : List ℕ → S → H → H → Type 0) (s t : H) (used : ServesWith g Asks Takes f q old new known before it.gone s t) where
-      step_with : (reply : Result Receipt Refusal) → (step : IsStep g q was reply now_seen) × (step.gone ≡ it.gone) → IsStepWith g Asks Takes q was reply now_seen s t
-      step_with reply both = record {
+    module _ {H : Type 0} (Asks : List ℕ → H → H → Type 0) (Takes : List ℕ → S → H → H → Type 0) (Fails : H → ℕ) (s t : H) (used : ServesWith g Asks Takes f q old new known before it.gone s t) where
+      step_with : (reply : Result Receipt Refusal) → (step : IsStep g q was reply now_seen) × (step.gone ≡ it.gone) → SettlesChild g Asks Takes Fails (child_asked q.command) was reply now_seen s t → IsStepWith g Asks Takes Fails q was reply now_seen s t
+      step_with reply both settled = record {
         step = both.0;
+        child = settled;
         uses = subst (λ gone. UsesFor g Asks Takes was.members (child_asked q.command) (IsNewTo g was now_seen) (IsHomeBy g q was now_seen gone) gone s t) (sym both.1)
             (subst (λ ms. UsesFor g Asks Takes ms (child_asked q.command) (IsNewTo g was now_seen) (IsHomeBy g q was now_seen it.gone) it.gone s t) (ap (λ x. x.members) seen)
             (uses_weaker g Asks Takes old (child_asked q.command) (λ x. AllClean g new → OfEachSeen g f known old before (λ w. IsNoPackage w x)) (IsNewTo g was now_seen)
@@ -202,11 +194,26 @@ module _ {S : Type 0} (g : Ghosts S) where
             (λ x told clean w stands. told clean w (stood w stands).0 (stood w stands).1) (λ x told. (told.0, λ clean gone w stands. told.1 clean gone w (stood w stands).0 (stood w stands).1)) used));
       }
 
-      pub replied_with : (reply : Result Receipt Refusal) → r ≡ Ok reply → IsStepWith g Asks Takes q was reply now_seen s t
-      replied_with reply is = step_with reply (step_told reply is)
+      pub replied_with : (reply : Result Receipt Refusal) → r ≡ Ok reply → SettlesChild g Asks Takes Fails (child_asked q.command) was reply now_seen s t → IsStepWith g Asks Takes Fails q was reply now_seen s t
+      replied_with reply is settled = step_with reply (step_told reply is) settled
 
-      pub failed_with : (e : ServeFault) → r ≡ Err e → (why : Refusal) → why ≡ told_refusal e → IsStepWith g Asks Takes q was (Err why) now_seen s t
-      failed_with e is why told = step_with (Err why) (step_faulted e is why told)
+      pub failed_with : (e : ServeFault) → r ≡ Err e → (why : Refusal) → why ≡ told_refusal e → SettlesChild g Asks Takes Fails (child_asked q.command) was (Err why) now_seen s t → IsStepWith g Asks Takes Fails q was (Err why) now_seen s t
+      failed_with e is why told settled = step_with (Err why) (step_faulted e is why told) settled
+
+    -- what became of the store that the shelf gave for a child
+    module _ {H : Type 0} (Asks : List ℕ → H → H → Type 0) (Takes : List ℕ → S → H → H → Type 0) (Fails : H → ℕ) (s t : H) where
+      abbrev BesideSeen : List ℕ → Trees → Type 0
+      BesideSeen child trees = AllClean g new → OfEachSeen g f known old before (λ w. AllOpen g old → IsChildBeside w.frame w.packages child trees)
+
+      pub settled_replied : (asked : Option (List ℕ)) (reply : Result Receipt Refusal) → ServesChild g Asks Takes Fails asked BesideSeen strays (Ok reply) s t → SettlesChild g Asks Takes Fails asked was reply now_seen s t
+      settled_replied None reply used = tt
+      settled_replied (Some child) (Ok receipt) used = used
+      settled_replied (Some child) (Err why) used = inl used
+
+      pub settled_failed : (asked : Option (List ℕ)) (e : ServeFault) (why : Refusal) → (IsTrue has_failed ↔ IsLastingFault e) → ServesChild g Asks Takes Fails asked BesideSeen strays (Err e) s t → SettlesChild g Asks Takes Fails asked was (Err why) now_seen s t
+      settled_failed None e why lasting used = tt
+      settled_failed (Some child) e why lasting used =
+          gives_weaker g Asks Takes Fails child (BesideSeen child) _ (IsLastingFault e) (has_failed ≡ true) strays s t (λ trees beside clean w stands opened. beside clean w (stood w stands).0 (stood w stands).1 (were_open opened)) (λ l. lasting.1 l) used
 
     -- a crash shows nothing of what was refused, or failed before its commit
     pub no_trace_replied : (reply : Result Receipt Refusal) → r ≡ Ok reply → LeavesNoTrace g was reply now_seen

@@ -9,4 +9,5 @@ pub mod Sights
 mod CarriedOut
 mod ServedAll
 mod Asks
+mod Settled
 pub mod Room

@@ -253,16 +253,16 @@ module _ {S : Type 0} (g : Ghosts S) where
   run_more qs q old mid new replies reply before between after first next = (more_told qs q old mid new replies reply before between after first next).0
 
   -- with what a shelf was asked for and given back
-  module _ {H : Type 0} (Asks : List ℕ → H → H → Type 0) (Takes : List ℕ → S → H → H → Type 0) where
-    pub none_with : (seen : Seen S) (n : ℕ) (s : H) → IsRunWith g Asks Takes [] seen [] seen n n s s
+  module _ {H : Type 0} (Asks : List ℕ → H → H → Type 0) (Takes : List ℕ → S → H → H → Type 0) (Fails : H → ℕ) where
+    pub none_with : (seen : Seen S) (n : ℕ) (s : H) → IsRunWith g Asks Takes Fails [] seen [] seen n n s s
     none_with seen n s = record { run = (none_told seen n).0; uses = (refl, (none_told seen n).1, refl) }
 
-    pub more_with : (qs : List Request) (q : Request) (old mid new : Seen S) (replies : List (Result Receipt Refusal)) (reply : Result Receipt Refusal) (before between after : ℕ) (s b t : H) → IsRunWith g Asks Takes qs old replies mid before between s b → (next : IsApplied g q mid reply new between after) → (one : IsStepWith g Asks Takes q mid reply new b t) → next.step.gone ≡ one.step.gone
-        → IsRunWith g Asks Takes (qs ++ q ∷ []) old (replies ++ reply ∷ []) new before after s t
+    pub more_with : (qs : List Request) (q : Request) (old mid new : Seen S) (replies : List (Result Receipt Refusal)) (reply : Result Receipt Refusal) (before between after : ℕ) (s b t : H) → IsRunWith g Asks Takes Fails qs old replies mid before between s b → (next : IsApplied g q mid reply new between after) → (one : IsStepWith g Asks Takes Fails q mid reply new b t) → next.step.gone ≡ one.step.gone
+        → IsRunWith g Asks Takes Fails (qs ++ q ∷ []) old (replies ++ reply ∷ []) new before after s t
     more_with qs q old mid new replies reply before between after s b t first next one same =
         let both = more_told qs q old mid new replies reply before between after first.run next in
         record {
           run = both.0;
-          uses = subst (λ gone. AreStepsWith g Asks Takes (qs ++ q ∷ []) old (replies ++ reply ∷ []) new gone s t) (sym (both.1 ∙ ap (λ x. first.run.gone ++ x) same))
+          uses = subst (λ gone. AreStepsWith g Asks Takes Fails (qs ++ q ∷ []) old (replies ++ reply ∷ []) new gone s t) (sym (both.1 ∙ ap (λ x. first.run.gone ++ x) same))
               (steps_more g Asks Takes qs old mid new replies q reply first.run.gone s b t first.uses one);
         }

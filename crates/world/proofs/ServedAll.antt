@@ -1,6 +1,6 @@
 -- What serving a request says in each of the ways in which it ends, for all commands.
 use Rattle.std.specs.Prelude.{◌≡◌, ◌≤◌, ℕ, ◌+◌, List, [], ◌++◌, map, refl, Some, Result, Ok, Err, IsOk}
-use Rattle.std.proofs.Common.{arith, sym, ap, subst, ◌∙◌, inl, inr}
+use Rattle.std.proofs.Common.{sym, ap, subst, ◌∙◌, inl, inr}
 use Rattle.std.specs.List.{AllByRecursion}
 use Rattle.std.proofs.lemmas.List.{append-nil}
 use Rattle.std.proofs.lemmas.List.Elements.{All-from_recursion}
@@ -25,7 +25,9 @@ use Rattle.world_known.specs.Known.{Grows, Notes}
 use Rattle.world_known.proofs.Remembering.{knows_more}
 use Rattle.world_changes.specs.Carries.{Carries, ServesAll, HasNoReceipt, IsSeenBy, IsBeforeCommit, OfEachDue, OfEachSeen}
 use Rattle.world_decisions.specs.Deciding.{IsOf, Decides, DecidesWhere, child_asked}
-use Rattle.world_changes.specs.Leaving.{AreAtRest, AreClean, AreBeside, LeavesOneOf}
+use Rattle.world_changes.specs.Giving.{IsUnlent}
+use Rattle.world_changes.specs.Leaving.{AreAtRest, AreClean, AreBeside, IsChildBeside, LeavesOneOf}
+use Rattle.sqlite.specs.Tree.{Trees}
 use Rattle.world_changes.specs.Writing.{WritesTwoAtMost}
 use Rattle.world_members.specs.Members.{AllRest, AllClean, AllOpen, AreMembers}
 use Rattle.world_loans.specs.ServeFaults.{IsLastingFault, CountsShelf}
@@ -66,12 +68,8 @@ module _ {S : Type 0} (g : Ghosts S) (shuts : Shuts g) (settles : Settles g) whe
         let done = it.ok receipt refl in (
           record {
             gone = [];
-            left_over = [];
-            few = omega arith;
-            unlent = λ x is. refl;
             read = tt;
             survive = λ why is. absurd (let e = is in cc);
-            beside_before = λ clean gone w next are is_due was. none_beside g w.frame w.packages;
             rests = it.rests;
             stray_rests = All-from_recursion (λ h. Rests (state g h)) [] tt;
             clean = λ clean gone. it.clean clean;
@@ -105,12 +103,8 @@ module _ {S : Type 0} (g : Ghosts S) (shuts : Shuts g) (settles : Settles g) whe
         let failed = it.err why refl in
         record {
           gone = [];
-          left_over = [];
-          few = omega arith;
-          unlent = λ receipt is. absurd (let e = is in cc);
           read = tt;
           survive = λ other is. it.survive;
-          beside_before = λ clean gone w next are is_due was. none_beside g w.frame w.packages;
           rests = it.rests;
           stray_rests = All-from_recursion (λ h. Rests (state g h)) [] tt;
           clean = λ clean gone. it.clean clean;
@@ -145,14 +139,10 @@ module _ {S : Type 0} (g : Ghosts S) (shuts : Shuts g) (settles : Settles g) whe
     pub all_undecided : (strays : List (Held S)) (why : ServeFault) → strays ≡ [] → IsBeforeCommit why → ServesAll g f q old mid strays known noted before before (Err why)
     all_undecided strays why none early = record {
       gone = [];
-      left_over = [];
-      few = omega arith;
-      unlent = λ reply is. refl;
       read = tt;
       dropped = λ none. refl;
       survive = λ none. stay_survive g old mid it.stay;
       tried = λ x is. absurd (subst IsBeforeCommit (let same : why ≡ Turn (Committing x) = cc in same) early);
-      beside_before = λ clean gone w same are was. none_beside g w.frame w.packages;
       rests = it.rests;
       stray_rests = none_rest strays none;
       counted = low;
@@ -174,14 +164,10 @@ module _ {S : Type 0} (g : Ghosts S) (shuts : Shuts g) (settles : Settles g) whe
     all_answered strays answer none is = (
       record {
         gone = [];
-        left_over = [];
-        few = omega arith;
-        unlent = λ reply is'. refl;
         read = tt;
         dropped = λ none. refl;
         survive = λ none. stay_survive g old mid it.stay;
         tried = λ x is'. absurd (let e = is' in cc);
-        beside_before = λ clean gone w same are was. none_beside g w.frame w.packages;
         rests = it.rests;
         stray_rests = none_rest strays none;
         counted = low;
@@ -216,16 +202,10 @@ module _ {S : Type 0} (g : Ghosts S) (shuts : Shuts g) (settles : Settles g) whe
           let done = made.ok receipt refl in (
             record {
               gone = made.gone;
-              left_over = made.left_over;
-              few = made.few;
-              unlent = λ reply is'. made.unlent receipt refl;
               read = read_before g old mid made.gone it.stay made.read;
               dropped = λ none. absurd (let e = none in cc);
               survive = λ none. absurd (let e = none in cc);
               tried = λ x is'. absurd (let e = is' in cc);
-              beside_before = λ clean gone w same are was.
-                  let x = so (made.clean clean gone) w same are in
-                  made.beside_before clean gone w x.0 (members_stay g old mid before w it.stay are) x.3 (decided_opens decision is (made.clean clean gone) was);
               rests = made.rests;
               stray_rests = made.stray_rests;
               counted = rw done.1 bounded;
@@ -259,18 +239,12 @@ module _ {S : Type 0} (g : Ghosts S) (shuts : Shuts g) (settles : Settles g) whe
       pub all_failed : (why : ServeFault) → Carries g Due due mid new strays before after (Err why) → ServesAll g f q old new strays known noted before after (Err why)
       all_failed why made = record {
         gone = made.gone;
-        left_over = made.left_over;
-        few = made.few;
-        unlent = λ reply is'. absurd (let e = is' in cc);
         read = read_before g old mid made.gone it.stay made.read;
         dropped = λ none. made.kept why refl;
         survive = λ none. survive_then g old mid new (stay_survive g old mid it.stay) (made.survive why refl);
         tried = λ x is' clean w same are.
             let due_is = so (was_clean clean) w same are in
             subst (λ o. IsOk o.0) (sym due_is.1) refl;
-        beside_before = λ clean gone w same are was.
-            let x = so (made.clean clean gone) w same are in
-            made.beside_before clean gone w x.0 (members_stay g old mid before w it.stay are) x.3 (decided_opens decision is (made.clean clean gone) was);
         rests = made.rests;
         stray_rests = made.stray_rests;
         counted = rw (made.err why refl).0 low;
@@ -314,6 +288,12 @@ module _ {S : Type 0} (g : Ghosts S) (shuts : Shuts g) (settles : Settles g) (f 
   split_apart due is clean w same are =
       let d : Decides w q (SplitDue due) = decided g shuts settles f q old mid known noted grows at_rest before low it (SplitDue due) is clean w same are in
       d.2.apart
+
+  -- what is beside the world that it has not changed
+  pub unlent_seen : (due : Lending) (new : List (Member S)) → r ≡ Ok (SplitDue due) → (AllClean g new → AllClean g mid) → (trees : Trees) → IsUnlent g f due mid new trees → AllClean g new → OfEachSeen g f known old before (λ w. AllOpen g old → IsChildBeside w.frame w.packages due.child trees)
+  unlent_seen due new is was trees unlent clean w same are opened =
+      let x = split_so due is (was clean) w same are in
+      unlent clean w x.0 before same.0 (members_stay g old mid before w it.stay are) x.3.1 (decided_opens g shuts settles f q old mid known noted grows at_rest before low it (SplitDue due) is (was clean) opened)
 
   -- what no world is after a merge that is due is of none that the request makes
   pub merge_apart : (due : Returning) → r ≡ Ok (MergeDue due) → (uuid : List ℕ) → ((w next : World) → AreMembers g mid before w → IsReturned w next due → IsNoPackage next uuid) → AllClean g mid → (w : World) → IsSeenBy f known w → AreMembers g old before w → IsNoPackage (outcome w q).1 uuid
@@ -369,7 +349,7 @@ module _ {S : Type 0} (g : Ghosts S) (shuts : Shuts g) (settles : Settles g) (f 
 
 module _ {S : Type 0} (g : Ghosts S) {H : Type 0} (Asks : List ℕ → H → H → Type 0) (Takes : List ℕ → S → H → H → Type 0) {f : Frame} {q : Request} {old new : List (Member S)} {strays : List (Held S)} {known noted : List (List ℕ)} {before after : ℕ} {r : Result (Result Receipt Refusal) ServeFault} where
   -- nothing was given back
-  pub with_asked : (s t : H) → (all : ServesAll g f q old new strays known noted before after r) → all.gone ≡ [] → AsksFor Asks (child_asked q.command) (λ child. AllClean g new → OfEachSeen g f known old before (λ w. IsNoPackage w child)) s t
+  pub with_asked : (s t : H) → (all : ServesAll g f q old new strays known noted before after r) → all.gone ≡ [] → AsksFor Asks Takes (child_asked q.command) (λ child. AllClean g new → OfEachSeen g f known old before (λ w. IsNoPackage w child)) s t
       → WritesTwoAtMost g (child_asked q.command) (child_returned q.command) old new []
       → (x : ServesAll g f q old new strays known noted before after r) × ServesWith g Asks Takes f q old new known before x.gone s t × WritesTwoAtMost g (child_asked q.command) (child_returned q.command) old new x.gone
   with_asked s t all none asked writes = (
@@ -382,7 +362,7 @@ module _ {S : Type 0} (g : Ghosts S) {H : Type 0} (Asks : List ℕ → H → H �
   -- and nothing was asked for
   pub with_nothing : (s : H) → (all : ServesAll g f q old new strays known noted before after r) → all.gone ≡ [] → WritesTwoAtMost g (child_asked q.command) (child_returned q.command) old new []
       → (x : ServesAll g f q old new strays known noted before after r) × ServesWith g Asks Takes f q old new known before x.gone s s × WritesTwoAtMost g (child_asked q.command) (child_returned q.command) old new x.gone
-  with_nothing s all none writes = with_asked s s all none (asks_nothing Asks (child_asked q.command) (λ child. AllClean g new → OfEachSeen g f known old before (λ w. IsNoPackage w child)) s s refl) writes
+  with_nothing s all none writes = with_asked s s all none (asks_nothing Asks Takes (child_asked q.command) (λ child. AllClean g new → OfEachSeen g f known old before (λ w. IsNoPackage w child)) s s refl) writes
 
   -- where there is a fault no connection left the world
   pub none_gone : {why : ServeFault} → r ≡ Err why → (all : ServesAll g f q old new strays known noted before after r) → all.gone ≡ []

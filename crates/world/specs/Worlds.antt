@@ -1,5 +1,5 @@
 -- What a clause sees of a value of `World`, and the world of the model that it stands for. Profile.
-use Rattle.std.specs.Prelude.{◌≡◌, ◌⊎◌, ◌≤◌, ℕ, ℤ, Bool, true, false, List, [], ◌∷◌, ◌++◌, map, length, Option, None, Result, Err, IsTrue, IsOk, IfOk, IsErr, refl}
+use Rattle.std.specs.Prelude.{◌≡◌, ◌⊎◌, ◌≤◌, ℕ, ℤ, Bool, true, false, List, [], ◌∷◌, ◌++◌, map, Option, None, Result, Err, IsTrue, IsOk, IfOk, IsErr, refl}
 use Rattle.std.specs.List.{AllByRecursion}
 use Rattle.std.specs.Coded.{Coded, code_by, coded×, coded_bool, coded_list, coded_option, coded_ℕ, coded_ℤ}
 use Rattle.sqlite.specs.Store.{Ghosts}
@@ -184,9 +184,6 @@ module _ {S : Type 0} (g : Ghosts S) where
   pub record IsStep (q : Request) (old : Seen S) (reply : Result Receipt Refusal) (new : Seen S) : Type 0 where
     -- the last states of the connections that left the world: none, or that of a merged child
     pub gone : List (Held S)
-    -- those of children that a split dropped before they were of the world; a store in which no child came to be made
-    -- is not among them
-    pub left_over : List (Held S)
     pub clean : AllClean g new.members → AreClean g gone → AllClean g old.members
     pub step : AllClean g new.members → AreClean g gone → (w : World) → StandsFor old w
         → (next : World) × Step w q reply next × StandsFor new next
@@ -197,12 +194,9 @@ module _ {S : Type 0} (g : Ghosts S) where
     -- world before or as the one that the request is to make, whole, and what else is held is beside it.
     pub crash : IsFault reply → old.has_failed ≡ false → (w : World) → StandsFor old w → AllOpen g old.members
         → LeavesOneOf g w.frame (held new) w.packages (outcome w q).1.packages
-    -- What a crash leaves of what was dropped is beside the world that the request made.
+    -- What a crash leaves of what left is beside the world that the request made.
     pub beside : AllClean g new.members → AreClean g gone → ¬ IsFault reply → (w : World) → StandsFor old w
         → AllOpen g old.members → AreBeside g w.frame (outcome w q).1.packages gone
-    -- What it leaves of a child that was dropped is beside the world that it was to be of.
-    pub beside_before : AllClean g new.members → AreClean g gone → (w : World) → StandsFor old w
-        → AllOpen g old.members → AreBeside g w.frame w.packages left_over
     -- What it stands for afterwards is a register, balanced.
     pub register : (w : World) → StandsFor new w → IsRegister w
     -- After a refusal or a fault nothing but a failure of its disk has shut a store that was open.
@@ -211,8 +205,6 @@ module _ {S : Type 0} (g : Ghosts S) where
     -- home, where a receipt is the reply; none came but that of the package that a split makes.
     pub writes : WritesTwoAtMost g (child_asked q.command) (child_returned q.command) old.members new.members gone
     pub dropped : IsErr reply → gone ≡ []
-    pub few : length left_over ≤ 1
-    pub unlent : IsOk reply → left_over ≡ []
 
   -- After a refusal or a fault that leaves the world usable, whatever a crash leaves of stores that were open reads
   -- as the world before. So a world of which a commit may have gone through has failed.

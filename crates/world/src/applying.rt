@@ -1,16 +1,17 @@
 //! One request over the members of a world: what it comes to is decided, and where a change is due it is carried out.
-ghost use Rattle.std.specs.Prelude.{◌≡◌, ◌⊎◌, ℕ, ◌≤◌, ◌<◌, ◌+◌, [], IsTrue, OnOk, IfSome, None, Some, length, vec_len, vec_capacity};
+ghost use Rattle.std.specs.Prelude.{◌≡◌, ℕ, ◌≤◌, ◌<◌, ◌+◌, [], IsTrue, OnOk, IfSome, None, Some, length, vec_len, vec_capacity};
 ghost use Rattle.sheet_types.specs.Matrix.{is_good_frame};
 ghost use Rattle.sheet_types.specs.Refuse.{greatest_receipts};
 ghost use Rattle.world_decisions.specs.Deciding.{HasPlace, child_asked};
-ghost use Rattle.world_members.specs.Members.{AllRest, AllClean};
-ghost use Rattle.world_changes.specs.Carries.{Carries, ServesAll, OfEachDue};
+ghost use Rattle.world_members.specs.Members.{AllRest, AllClean, AllOpen};
+ghost use Rattle.world_changes.specs.Carries.{Carries, ServesAll, OfEachDue, OfEachSeen};
+ghost use Rattle.world_changes.specs.Leaving.{IsChildBeside};
 ghost use Rattle.world_changes.specs.Writing.{WritesTwoAtMost};
 ghost use Rattle.world.specs.Creating.{HasRoomFor};
 ghost use Rattle.world_loans.specs.Loans.{HasLendingPlace, HasReturnPlace, IsLent, IsReturned};
 ghost use Rattle.world_loans.specs.ServeFaults.{CountsShelf};
 ghost use Rattle.world.specs.Changes.{Changes};
-ghost use Rattle.world.specs.Asked.{ComeHome, HasUuidAt, IsNoPackage, ServesWith, child_returned};
+ghost use Rattle.world.specs.Asked.{ComeHome, HasUuidAt, IsNoPackage, ServesChild, ServesWith, UsesChild, child_returned};
 ghost use Rattle.world_decisions.specs.declared.deciding.Decision.TheVariants.{ChangeDue};
 
 use crate::noting::decide_and_note;
@@ -49,7 +50,7 @@ fn make_room<S: Alter + Drop>(
     Ok(())
 }
 
-/// Carries out a split that is due, with the room for the child made before anything is written. The count of receipts goes on by the one that is entered.
+/// Carries out a split that is due, with the room for the child made before anything is written. The count of receipts goes on by the one that is entered. Where it fails the shelf gets back the store that it gave, unless that is kept among the strays.
 fn carry_out_split<S: Alter + Drop, H: Shelf<S>>(
     members: &mut Vec<Member<S>>,
     strays: &mut Vec<Connection<S>>,
@@ -70,11 +71,11 @@ fn carry_out_split<S: Alter + Drop, H: Shelf<S>>(
     ensures room { HasRoomFor members.new.items strays.new }
     ensures shelf { CountsShelf result (H.failures_of shelf.old) (H.failures_of shelf.new) }
     ensures clean { AllClean S.Store members.new.items → AllClean S.Store members.old.items }
-    ensures asks { (shelf.new ≡ shelf.old) ⊎ H.asks due.child shelf.old shelf.new }
+    ensures uses { UsesChild S.Store H.asks H.takes H.failures_of frame.now due members.old.items members.new.items strays.new.items result shelf.old shelf.new }
 {
     make_room(members, strays)?;
     let child = child_store(members, shelf, alloc, frame, &due)?;
-    let receipt = lend_and_place(members, strays, due, child)?;
+    let receipt = lend_and_place(members, strays, shelf, due, child)?;
     *count = receipt.seq;
     Ok(receipt)
 }
@@ -163,6 +164,10 @@ pub(crate) fn serve<S: Alter + Drop, H: Shelf<S>>(
         it.gone shelf.old shelf.new
         × WritesTwoAtMost S.Store (child_asked request.now.command) (child_returned request.now.command)
         members.old.items members.new.items it.gone }
+    ensures child { ServesChild S.Store H.asks H.takes H.failures_of (child_asked request.now.command)
+        (λ child trees. AllClean S.Store members.new.items → OfEachSeen S.Store frame.now known.old members.old.items count.old
+        (λ w. AllOpen S.Store members.old.items → IsChildBeside w.frame w.packages child trees))
+        strays.new.items result shelf.old shelf.new }
     ensures room { HasRoomFor members.new.items strays.new }
     ensures shelf { CountsShelf result (H.failures_of shelf.old) (H.failures_of shelf.new) }
 {

@@ -140,7 +140,7 @@ impl<S: Alter + Drop> World<S> {
 
     /// Carries one request out, or tells why not. A request that comes again, with its line, gets the receipt that it got, and nothing is changed.
     ///
-    /// The shelf gives the store of the package that a split makes. It is asked for no other, once at most, and for none that a package of the world has. After the commit of a merge it is given back the store of the child, and no other.
+    /// The shelf gives the store of the package that a split makes. It is asked for no other, once at most, and for none that a package of the world has. After the commit of a merge it is given back the store of the child, and no other. Where a split fails it gets back the store that it gave, unless the world has failed: then that is among the strays.
     ///
     /// # Errors
     ///
@@ -152,7 +152,7 @@ impl<S: Alter + Drop> World<S> {
         shelf: &mut H,
     ) -> Result<Receipt, Refusal>
         ensures step { IsStep S.Store request.now self.old result self.new }
-        ensures uses { IsStepWith S.Store H.asks H.takes request.now self.old result self.new shelf.old shelf.new }
+        ensures uses { IsStepWith S.Store H.asks H.takes H.failures_of request.now self.old result self.new shelf.old shelf.new }
         ensures still { StandsStill S.Store self.old result self.new }
         ensures unharmed { LeavesNoTrace S.Store self.old result self.new }
         ensures failed { self.old.has_failed ≡ true → (result ≡ Err StoreFault) × (self.new ≡ self.old) × (H.failures_of shelf.new ≡ H.failures_of shelf.old) }
@@ -200,7 +200,7 @@ impl<S: Alter + Drop> World<S> {
         shelf: &mut H,
     ) -> Result<Vec<Result<Receipt, Refusal>>, OutOfMemory>
         ensures ran { IfOk result (λ replies. IsRun S.Store requests.now self.old replies.items self.new (H.failures_of shelf.old) (H.failures_of shelf.new)) }
-        ensures uses { IfOk result (λ replies. IsRunWith S.Store H.asks H.takes requests.now self.old replies.items self.new
+        ensures uses { IfOk result (λ replies. IsRunWith S.Store H.asks H.takes H.failures_of requests.now self.old replies.items self.new
             (H.failures_of shelf.old) (H.failures_of shelf.new) shelf.old shelf.new) }
         ensures refused { OnErr result ((self.new ≡ self.old) × (H.failures_of shelf.new ≡ H.failures_of shelf.old)) }
         ensures unasked { OnErr result (shelf.new ≡ shelf.old) }

@@ -1,6 +1,6 @@
 -- A split among the members of a world.
 use Rattle.std.specs.Prelude.{◌≡◌, ◌≢◌, ◌⊎◌, ◌≤◌, ℕ, true, zero, suc, ◌+◌, List, [], ◌∷◌, ◌++◌, map, Some, slice_get, slice_set, refl, Result, Ok, Err, IsTrue}
-use Rattle.std.proofs.Common.{sym, ap, subst, ◌∙◌, inl, inr, arith, length, length-append}
+use Rattle.std.proofs.Common.{IsErrAnd, sym, ap, subst, ◌∙◌, inl, inr, arith, length, length-append}
 use Rattle.std.specs.List.{AllByRecursion, AllZip, insert}
 use Rattle.std.specs.List.Sorted.{IsPermutation}
 use Rattle.std.proofs.lemmas.List.{append-nil}
@@ -25,7 +25,10 @@ use Rattle.identity_register.specs.Creation.{Keeps, new_package}
 use Rattle.identity_register.specs.Reads.{Reads}
 use Rattle.package_tables.specs.declared.fault.Fault.{Fault}
 use Rattle.package_tables.specs.declared.fault.Fault.TheVariants as fault
-use Rattle.world_changes.specs.Leaving.{IsBeside, StandsAmong, AreClean, AreBeside, MayBeLeft}
+use Rattle.package_creation.specs.Unmaking.{IsUnmade}
+use Rattle.store_sql.specs.Blank.{IsBlank, no_schema}
+use Rattle.world_changes.specs.Giving.{AsksChild, IsUnlent, IsUnshelved, LeavesBlankOr}
+use Rattle.world_changes.specs.Leaving.{IsBeside, IsChildBeside, StandsAmong, AreClean, AreBeside, MayBeLeft}
 use Rattle.custody.specs.Homing.{FromClean}
 use Rattle.register_lending.specs.Lending.{Fills, Lends, lent}
 use Rattle.world_loans.specs.Loans.{IsLent, loan}
@@ -33,13 +36,15 @@ use Rattle.world_members.specs.Members.{AllRest, AllClean, AllOpen, IsMember, Ar
 use Rattle.register_lending.specs.Selecting.{IsSelectionOf, IsPart, MayCome}
 use Rattle.transfer.specs.Parcels.{with_cut}
 use Rattle.world_changes.specs.Turns.{IsUncommitted}
-use Rattle.world_changes.specs.Splits.{Splits, KeepsLoan, LeavesChild, DropsUnfilled, member_of_child}
+use Rattle.world_changes.specs.Splits.{Splits, KeepsLoan, ReadsAsChild, member_of_child}
 use Rattle.identity_register.specs.declared.selection.Selection.{Selection}
 use Rattle.world_members.specs.Turning.{LeftAs, LeavesAsBefore}
 use Rattle.world_changes.specs.Turns.{TakesTurn}
 use Rattle.register_lending.specs.declared.turn_fault.TurnFault.{TurnFault}
 use Rattle.register_lending.specs.declared.turn_fault.TurnFault.TheVariants.{Before, Committing}
 use Rattle.world_loans.specs.declared.loans.Lending.{Lending}
+use Rattle.world_loans.specs.declared.loans.ServeFault.{ServeFault}
+use Rattle.world_loans.specs.declared.loans.ServeFault.TheVariants.{Unshelved, Turn}
 use Rattle.world_members.specs.declared.members.Member.{Member}
 use Rattle.world_members.proofs.Changing.{each_leaves}
 use Rattle.world_changes.proofs.HeldStores.{held_clean, members_left}
@@ -94,40 +99,57 @@ module _ {S : Type 0} (g : Ghosts S) where
       subst (λ v. Keeps v (loan due lent.taken) (state g child)) same (made lent.receipt.moment lent.taken lent.parent lent.selected reads lent.part lent.come)
 
   -- what reads as a child that is not of the world is beside it
-  pub is_beside : (w next : World) (due : Lending) (is : IsLent w next due) (trees : Trees) → LeftAs w.frame trees (new_package due.child (Some due.parent) due.depth due.receipt.seq) ⊎ LeftAs w.frame trees (loan due is.taken) → IsBeside w.frame w.packages trees
-  is_beside w next due is trees (inl empty) = record { other = new_package due.child (Some due.parent) due.depth due.receipt.seq; reads = empty; lent = refl; apart = is.apart }
-  is_beside w next due is trees (inr filled) = record { other = loan due is.taken; reads = filled; lent = refl; apart = is.apart }
+  pub is_beside : (w next : World) (due : Lending) (is : IsLent w next due) (trees : Trees) → LeftAs w.frame trees (new_package due.child (Some due.parent) due.depth due.receipt.seq) ⊎ LeftAs w.frame trees (loan due is.taken) → IsChildBeside w.frame w.packages due.child trees
+  is_beside w next due is trees (inl empty) = (record { other = new_package due.child (Some due.parent) due.depth due.receipt.seq; reads = empty; lent = refl; apart = is.apart }, refl)
+  is_beside w next due is trees (inr filled) = (record { other = loan due is.taken; reads = filled; lent = refl; apart = is.apart }, refl)
 
   pub none_beside : (f : Frame) (packages : List Package) → AreBeside g f packages []
   none_beside f packages = All-from_recursion (λ h. HasCleanDisk (state g h) → (trees : Trees) → (state g h).may_leave trees → IsBeside f packages trees) [] tt
 
+  -- of a store that the shelf gave it leaves what it left
+  pub blank_left : (P : Trees → Type 0) (conn : Held S) → (HasCleanDisk (state g conn) → IsBlank no_schema (state g conn).now) → LeavesBlankOr g P conn
+  blank_left P conn blank clean trees may = inl (conn, clean, blank clean, may)
+
+  pub left_weaker : {P Q : Trees → Type 0} (conn : Held S) → ((trees : Trees) → P trees → Q trees) → LeavesBlankOr g P conn → LeavesBlankOr g Q conn
+  left_weaker conn so it clean trees may = elim (it clean trees may) [ inl blank ↦ inl blank | inr other ↦ inr (so trees other) ]
+
+  -- of one in which no package came to be made, that or the package
+  pub unmade_leaves : (f : Frame) (empty : Package) (s : Selection) (at : List ℕ) (db : Database) (source : State) (blank conn : Held S) → (HasCleanDisk (state g blank) → IsBlank no_schema (state g blank).now) → IsUnmade f empty at (state g blank) (state g conn)
+      → LeavesBlankOr g (ReadsAsChild f at empty s db source) conn
+  unmade_leaves f empty s at db source blank conn is_blank it clean trees may =
+      let was : HasCleanDisk (state g blank) = it.clean clean in
+      elim (it.left clean (is_blank was) trees may) [
+        | inl before ↦ inl (blank, was, is_blank was, before)
+        | inr made ↦ inr (λ clean_source moment c from selected reads part come. inl (made moment))
+      ]
+
   -- of a child that was made and not filled it leaves one of two
   pub unfilled_leaves : {E : Type 0} {r : Result (Unit {0}) E} (f : Frame) (empty : Package) (s : Selection) (at : List ℕ) (db : Database) (source made : State) (child : Held S) → (is_moment at ≡ true → HasCleanDisk made → Keeps f empty made)
-      → Turns {X = Unit {0}} {E = E} (λ _. FromClean source (Fills s at db)) made (state g child) r → LeavesChild g f at empty s db source child
-  unfilled_leaves f empty s at db source made child keeps turns clean_source moment c from selected reads part come clean trees may =
+      → Turns {X = Unit {0}} {E = E} (λ _. FromClean source (Fills s at db)) made (state g child) r → LeavesBlankOr g (ReadsAsChild f at empty s db source) child
+  unfilled_leaves f empty s at db source made child keeps turns clean trees may =
+      inr (λ clean_source moment c from selected reads part come.
       let it : Keeps f empty made = keeps moment (omega (arith, turns.survives.clean, clean)) in
       elim (turns.left clean it.holds.is_open trees may) [
         | inl before ↦ inl (made.now, before, it.reads)
         | inr after ↦ inr (after.1, after.3, (after.2 clean_source moment c f from empty selected reads part it.reads come).0)
-      ]
+      ])
 
-  -- so what was dropped is beside the world
-  pub dropped_beside : (f : Frame) (w next : World) (count : ℕ) (due : Lending) (old : List (Member S)) (was : Member S) (source : State) → slice_get old due.at ≡ Some was → AllOpen g old → f ≡ w.frame → AreMembers g old count w → IsLent w next due → HasCleanDisk source
-      → (it : DropsUnfilled g f due.receipt.at (new_package due.child (Some due.parent) due.depth due.receipt.seq) due.selection (state g was.conn).now source) → AreBeside g w.frame w.packages it.left_over
-  dropped_beside f w next count due old was source place opened same are is clean_source it =
-      All-from_recursion (λ h. HasCleanDisk (state g h) → (trees : Trees) → (state g h).may_leave trees → IsBeside w.frame w.packages trees) it.left_over (each it.left_over it.leaves)
-    where
-      reads : Reads f is.parent (state g was.conn).now
-      reads = subst (λ v. Reads v is.parent (state g was.conn).now) (sym same)
-          (read_at w count old due.at was is.parent place is.place (all-slice_get (λ (m : Member S). IsTrue (state g m.conn).is_open) old due.at was place (recursion_from_All (λ (m : Member S). IsTrue (state g m.conn).is_open) old opened)) are)
+  -- so what the shelf gets back is beside the world
+  pub unlent_left : (f : Frame) (due : Lending) (old new : List (Member S)) (was : Member S) (source : State) (conn : Held S) → slice_get old due.at ≡ Some was → (AllClean g new → HasCleanDisk source)
+      → LeavesBlankOr g (ReadsAsChild f due.receipt.at (new_package due.child (Some due.parent) due.depth due.receipt.seq) due.selection (state g was.conn).now source) conn → LeavesBlankOr g (IsUnlent g f due old new) conn
+  unlent_left f due old new was source conn place clean_source =
+      left_weaker conn (λ trees child clean w next count same are is opened.
+      let reads : Reads f is.parent (state g was.conn).now = subst (λ v. Reads v is.parent (state g was.conn).now) (sym same)
+      (read_at w count old due.at was is.parent place is.place (all-slice_get (λ (m : Member S). IsTrue (state g m.conn).is_open) old due.at was place (recursion_from_All (λ (m : Member S). IsTrue (state g m.conn).is_open) old opened)) are) in
+      is_beside w next due is trees (subst (λ v. LeftAs v trees (new_package due.child (Some due.parent) due.depth due.receipt.seq) ⊎ LeftAs v trees (loan due is.taken)) same
+      (child (clean_source clean) is.receipt.moment is.taken is.parent is.selected reads is.part is.come)))
 
-      each : (hs : List (Held S)) → AllByRecursion (LeavesChild g f due.receipt.at (new_package due.child (Some due.parent) due.depth due.receipt.seq) due.selection (state g was.conn).now source) hs
-          → AllByRecursion (λ h. HasCleanDisk (state g h) → (trees : Trees) → (state g h).may_leave trees → IsBeside w.frame w.packages trees) hs
-      each [] all = tt
-      each (h ∷ hs) all = (
-        (λ clean trees may. is_beside w next due is trees (subst (λ v. LeftAs v trees (new_package due.child (Some due.parent) due.depth due.receipt.seq) ⊎ LeftAs v trees (loan due is.taken)) same (all.0 clean_source is.receipt.moment is.taken is.parent is.selected reads is.part is.come clean trees may))),
-        each hs all.1,
-      )
+  -- the shelf had none
+  pub asked_alone : {H : Type 0} (Takes : List ℕ → S → H → H → Type 0) (Asks : List ℕ → H → H → Type 0) (f : Frame) (due : Lending) (old new : List (Member S)) (r : Result (Held S) ServeFault) (came : ServeFault) (s t : H) → IsErrAnd r (λ why. why ≡ came) → IsUnshelved came → Asks due.child s t
+      → AsksChild g Takes Asks f due old new r s t
+  asked_alone Takes Asks f due old new (Ok child) came s t is none asked = absurd is
+  asked_alone Takes Asks f due old new (Err (Unshelved x)) came s t is none asked = asked
+  asked_alone Takes Asks f due old new (Err (Turn x)) came s t is none asked = absurd (subst IsUnshelved (sym is) none)
 
 -- ---- the members
 

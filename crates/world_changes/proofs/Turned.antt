@@ -1,6 +1,6 @@
 -- A member whose store took a turn, and what all members stand for then.
 use Rattle.std.specs.Prelude.{◌≡◌, ◌⊎◌, ℕ, zero, suc, List, [], ◌∷◌, Some, slice_get, slice_set, refl, Result, Ok, Err, IsErr, IsTrue}
-use Rattle.std.proofs.Common.{sym, ap, subst, ◌∙◌, inl, inr, arith, length, IfErr}
+use Rattle.std.proofs.Common.{sym, ap, subst, ◌∙◌, inl, inr, arith, length, IfErr, IsErrAnd}
 use Rattle.std.specs.List.{AllByRecursion, AllZip}
 use Rattle.std.proofs.lemmas.List.{length-set}
 use Rattle.std.proofs.lemmas.List.Elements.{All-set, All-from_recursion, recursion_from_All}
@@ -42,6 +42,11 @@ each_same R same (x ∷ xs) = (same x, each_same R same xs)
 pub if_err : {X E : Type 0} (P : Type 0) (r : Result X E) → P → IfErr r (λ why. P)
 if_err P (Ok x) p = tt
 if_err P (Err e) p = p
+
+-- and what holds of the one that came
+pub if_err_of : {X E : Type 0} (P : E → Type 0) (r : Result X E) (came : E) → IsErrAnd r (λ why. why ≡ came) → P came → IfErr r P
+if_err_of P (Ok x) came is p = tt
+if_err_of P (Err e) came is p = subst P (sym is) p
 
 module _ {S : Type 0} (g : Ghosts S) where
   same_conn : {E : Type 0} (sums : Sums) (number : ℕ) (was : Member S) (last : Held S) (reply : Result (Unit {0}) E) → (after_turn g sums number was last reply).conn ≡ last

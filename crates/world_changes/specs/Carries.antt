@@ -59,13 +59,8 @@ module _ {S : Type 0} (g : Ghosts S) where
   pub record Carries
       (Due : World → World → Type 0) (due : Receipt) (old new : List (Member S)) (strays : List (Held S))
       (before after : ℕ) (r : Result Receipt ServeFault) : Type 0 where
-    -- the last states of the connections that were dropped
+    -- the last states of the connections that left the list
     pub gone : List (Held S)
-    -- those of children that were dropped before they were of the world; a store in which no child came to be made is
-    -- not among them
-    pub left_over : List (Held S)
-    pub few : length left_over ≤ 1
-    pub unlent : (receipt : Receipt) → r ≡ Ok receipt → left_over ≡ []
     pub read : WereRead g old gone
     pub survive : (why : ServeFault) → r ≡ Err why → AllSurvive g old new
     pub rests : AllRest g new
@@ -77,8 +72,6 @@ module _ {S : Type 0} (g : Ghosts S) where
     pub opens : AllClean g new → AreClean g gone → IfOk r (λ receipt. AllOpen g old → AllOpen g new)
     pub beside : (receipt : Receipt) → r ≡ Ok receipt
         → OfEachDue Due old before (λ w next. AllOpen g old → AreBeside g w.frame next.packages gone)
-    pub beside_before : AllClean g new → AreClean g gone
-        → OfEachDue Due old before (λ w next. AllOpen g old → AreBeside g w.frame w.packages left_over)
     pub kept : (why : ServeFault) → r ≡ Err why → gone ≡ []
     pub err : (why : ServeFault) → r ≡ Err why → (after ≡ before) × StandOn old before new before
     pub usable : (why : ServeFault) → r ≡ Err why → ¬ IsLastingFault why → strays ≡ []
@@ -102,12 +95,8 @@ module _ {S : Type 0} (g : Ghosts S) where
   pub record ServesAll
       (f : Frame) (q : Request) (old new : List (Member S)) (strays : List (Held S)) (known noted : List (List ℕ))
       (before after : ℕ) (r : Result (Result Receipt Refusal) ServeFault) : Type 0 where
-    -- the last states of the connections that were dropped
+    -- the last states of the connections that left the list
     pub gone : List (Held S)
-    -- those of children that were dropped before they were of the world
-    pub left_over : List (Held S)
-    pub few : length left_over ≤ 1
-    pub unlent : (reply : Result Receipt Refusal) → r ≡ Ok reply → left_over ≡ []
     pub read : WereRead g old gone
     pub dropped : HasNoReceipt r → gone ≡ []
     pub survive : HasNoReceipt r → AllSurvive g old new
@@ -126,9 +115,6 @@ module _ {S : Type 0} (g : Ghosts S) where
     -- what a crash leaves of a merged child is beside the world after
     pub beside : AllClean g new → AreClean g gone → (reply : Result Receipt Refusal) → r ≡ Ok reply
         → OfEachSeen f known old before (λ w. AllOpen g old → AreBeside g w.frame (outcome w q).1.packages gone)
-    -- and that of a child that was dropped is beside the world before
-    pub beside_before : AllClean g new → AreClean g gone
-        → OfEachSeen f known old before (λ w. AllOpen g old → AreBeside g w.frame w.packages left_over)
     pub refused : (why : Refusal) → r ≡ Ok (Err why) → StandOn old before new after
     pub failed : (why : ServeFault) → r ≡ Err why → StandOn old before new after
     pub none : (reply : Result Receipt Refusal) → r ≡ Ok reply → strays ≡ []

@@ -21,6 +21,10 @@ pub record IsBeside (f : Frame) (packages : List Package) (trees : Trees) : Type
   pub lent : is_some other.parent ≡ true
   pub apart : AllByRecursion (λ p. bytes_eq p.uuid other.uuid ≡ false) packages
 
+-- The same, as the package of this UUID.
+abbrev pub IsChildBeside : Frame → List Package → List ℕ → Trees → Type 0
+IsChildBeside f packages child trees = (it : IsBeside f packages trees) × (it.other.uuid ≡ child)
+
 -- Of some contents, each package is read from one, and the rest are beside them.
 pub record StandsAmong (f : Frame) (packages : List Package) (contents : List Trees) : Type 0 where
   pub read : List Trees

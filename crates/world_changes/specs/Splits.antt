@@ -32,32 +32,17 @@ use Rattle.world_members.specs.declared.members.Member.{Member}
 abbrev pub member_of_child : {S : Type 0} → Lending → Held S → Member S
 member_of_child due child = record { conn = child; uuid = due.child; parent = Some due.parent; depth = due.depth; loan = due.receipt.seq; sums = due.lent; ticket = due.receipt.seq }
 
+-- It reads as the child with nothing in it, or with what was selected of its parent, which read as what this database
+-- holds: where the disk of the parent has given back what was written.
+abbrev pub ReadsAsChild : Frame → List ℕ → Package → Selection → Database → State → Trees → Type 0
+ReadsAsChild f at empty s source read trees = HasCleanDisk read → is_moment at ≡ true → (c : Cut) (from : Package)
+    → IsSelectionOf c s → Reads f from source → IsPart c from → MayCome c empty
+    → LeftAs f trees empty ⊎ LeftAs f trees (with_cut c empty)
+
 module _ {S : Type 0} (g : Ghosts S) where
   -- the store of the child keeps the loan, where its disk has given back what was written
   abbrev pub KeepsLoan : (w next : World) (due : Lending) → IsLent w next due → Held S → Type 0
   KeepsLoan w next due lent child = HasCleanDisk (state g child) → Keeps w.frame (loan due lent.taken) (state g child)
-
-  -- What a crash leaves of the store in which the child was made, at this moment, is the child with nothing in it, or
-  -- with what was selected of its parent.
-  abbrev pub LeavesChild : Frame → List ℕ → Package → Selection → Database → State → Held S → Type 0
-  LeavesChild f at empty s source read child = HasCleanDisk read → is_moment at ≡ true → (c : Cut) (from : Package)
-      → IsSelectionOf c s → Reads f from source → IsPart c from → MayCome c empty
-      → HasCleanDisk (state g child) → (trees : Trees) → (state g child).may_leave trees
-      → LeftAs f trees empty ⊎ LeftAs f trees (with_cut c empty)
-
-  -- The store in which the child was made was dropped, if one was made. The parent read as what this database holds.
-  pub record DropsUnfilled (f : Frame) (at : List ℕ) (empty : Package) (s : Selection) (source : Database)
-      (read : State) : Type 0 where
-    pub left_over : List (Held S)
-    pub few : length left_over ≤ 1
-    pub leaves : AllByRecursion (LeavesChild f at empty s source read) left_over
-
-  -- So what a crash leaves of it is beside the world, which the split has not changed.
-  pub record DropsChild (f : Frame) (due : Lending) (old new : List (Member S)) : Type 0 where
-    pub left_over : List (Held S)
-    pub few : length left_over ≤ 1
-    pub beside : AllClean g new → (w next : World) (count : ℕ) → f ≡ w.frame → AreMembers g old count w
-        → IsLent w next due → AllOpen g old → AreBeside g w.frame w.packages left_over
 
   -- The parent lent and the child stands at its place; or the parent is as it was, and where that may not be told or
   -- its store failed the child's store is kept among the strays.

@@ -21,12 +21,14 @@ ghost use Rattle.transfer.specs.Parcels.{with_cut};
 ghost use Rattle.world_loans.specs.ServeFaults.{CountsShelf};
 ghost use Rattle.package_tables.specs.declared.fault.Fault.TheVariants.{OutOfMemory};
 ghost use Rattle.register_lending.specs.declared.turn_fault.TurnFault.TheVariants.{Before};
-ghost use Rattle.world_changes.specs.Splits.{Splits, KeepsLoan, DropsUnfilled, DropsChild, member_of_child};
+ghost use Rattle.world_changes.specs.Giving.{AsksChild, IsUnshelved, LeavesBlankOr, ReturnsUnlent};
+ghost use Rattle.world_changes.specs.Splits.{Splits, KeepsLoan, ReadsAsChild, member_of_child};
 
 use crate::taking_turns::lend_at;
 use identity_register::selection::Selection;
 use package_creation::create::Info;
 use package_creation::creation::create;
+use package_creation::unmade::Unmade;
 use package_tables::fault::Fault;
 use register_lending::lending::fill;
 use register_lending::turn_fault::TurnFault;
@@ -41,7 +43,7 @@ use world_loans::loans::{Lending, ServeFault};
 use world_members::members::Member;
 use world_members::reserving::{insert_reserved, push_reserved};
 
-/// The store of a child: made, with what is selected of its parent in it, and committed. The parent is only read.
+/// The store of a child: made, with what is selected of its parent in it, and committed. The parent is only read. Where it fails the store is handed back.
 fn filled_store<S: Alter + Drop>(
     alloc: Global,
     blank: Connection<S>,
@@ -49,7 +51,7 @@ fn filled_store<S: Alter + Drop>(
     frame: &Frame,
     info: &Info<'_>,
     selection: &Selection,
-) -> Result<Connection<S>, Fault>
+) -> Result<Connection<S>, Unmade<S>>
     requires blank { HasCleanDisk (state S.Store blank) → IsBlank no_schema (state S.Store blank).now }
     requires source { Rests (state S.Store source.old) }
     requires good { IsTrue (is_good_frame frame.now) }
@@ -61,14 +63,19 @@ fn filled_store<S: Alter + Drop>(
     ensures made { IfOk result (λ made. HasCleanDisk (state S.Store made) → HasCleanDisk (state S.Store source.new) → is_moment info.now.created.now ≡ true → (c : Cut) (from : Package) → IsSelectionOf c selection.now → Reads frame.now from (state S.Store source.old).now → IsPart c from
         → MayCome c (new_package info.now.package info.now.parent info.now.depth info.now.loan)
         → Keeps frame.now (with_cut c (new_package info.now.package info.now.parent info.now.depth info.now.loan)) (state S.Store made)) }
-    ensures dropped { IfErr result (λ why. DropsUnfilled S.Store frame.now info.now.created.now (new_package info.now.package info.now.parent info.now.depth info.now.loan) selection.now (state S.Store source.old).now (state S.Store source.new)) }
+    ensures left { IfErr result (λ unmade. LeavesBlankOr S.Store (ReadsAsChild frame.now info.now.created.now (new_package info.now.package info.now.parent info.now.depth info.now.loan) selection.now (state S.Store source.old).now (state S.Store source.new)) unmade.conn) }
 {
     if !is_at_rest(&blank) {
-        return Err(Fault::StoreFault);
+        return Err(Unmade {
+            conn: blank,
+            why: Fault::StoreFault,
+        });
     }
     let mut made = create(alloc, blank, frame, info)?;
-    fill(source, &mut made, selection, info.created)?;
-    Ok(made)
+    match fill(source, &mut made, selection, info.created) {
+        Ok(()) => Ok(made),
+        Err(why) => Err(Unmade { conn: made, why }),
+    }
 }
 
 /// The store that the shelf gives for a new package.
@@ -78,6 +85,7 @@ fn blank_store<S: Alter + Drop, H: Shelf<S>>(
 ) -> Result<Connection<S>, ServeFault>
     ensures blank { IfOk result (λ conn. HasCleanDisk (state S.Store conn) → IsBlank no_schema (state S.Store conn).now) }
     ensures early { IfErr result IsBeforeCommit }
+    ensures unshelved { IfErr result IsUnshelved }
     ensures shelf { CountsShelf result (H.failures_of shelf.old) (H.failures_of shelf.new) }
     ensures asks { H.asks «package» shelf.old shelf.new }
 {
@@ -85,7 +93,7 @@ fn blank_store<S: Alter + Drop, H: Shelf<S>>(
     Ok(blank)
 }
 
-/// The store of the child of a split that is due: made, filled and committed. The members are only read.
+/// The store of the child of a split that is due: made, filled and committed. The members are only read. Where it fails the shelf gets back what it gave.
 pub fn child_store<S: Alter + Drop, H: Shelf<S>>(
     members: &mut Vec<Member<S>>,
     shelf: &mut H,
@@ -104,10 +112,9 @@ pub fn child_store<S: Alter + Drop, H: Shelf<S>>(
     ensures child { IfOk result (λ child. Rests (state S.Store child)) }
     ensures is_open { IfOk result (λ child. HasCleanDisk (state S.Store child) → IsTrue (state S.Store child).is_open) }
     ensures keeps { IfOk result (λ child. AllClean S.Store members.new.items → (w next : World) (count : ℕ) → frame.now ≡ w.frame → AreMembers S.Store members.old.items count w → (lent : IsLent w next due.now) → KeepsLoan S.Store w next due.now lent child) }
-    ensures dropped { IfErr result (λ why. DropsChild S.Store frame.now due.now members.old.items members.new.items) }
     ensures early { IfErr result IsBeforeCommit }
     ensures shelf { CountsShelf result (H.failures_of shelf.old) (H.failures_of shelf.new) }
-    ensures asks { H.asks due.now.child shelf.old shelf.new }
+    ensures uses { AsksChild S.Store H.takes H.asks frame.now due.now members.old.items members.new.items result shelf.old shelf.new }
 {
     let blank = blank_store(shelf, due.child)?;
     let info = Info {
@@ -118,8 +125,13 @@ pub fn child_store<S: Alter + Drop, H: Shelf<S>>(
         created: due.receipt.at.as_str(),
     };
     let member = &mut members[due.at];
-    let child = filled_store(alloc, blank, &mut member.conn, frame, &info, &due.selection)?;
-    Ok(child)
+    match filled_store(alloc, blank, &mut member.conn, frame, &info, &due.selection) {
+        Ok(child) => Ok(child),
+        Err(unmade) => {
+            shelf.retire(due.child, unmade.conn.into_store());
+            Err(ServeFault::Turn(TurnFault::Before(unmade.why)))
+        }
+    }
 }
 
 /// The member of a child, whose store is filled.
@@ -137,26 +149,33 @@ fn child_member<S: Alter + Drop>(due: &Lending, child: Connection<S>) -> Member<
     }
 }
 
-/// Keeps the store of a child whose parent's store failed or may have the change or not; drops it where memory was wanting before the commit. Takes no memory.
-fn keep_if_lasting<S: Alter + Drop>(
+/// Keeps the store of a child whose parent's store failed or may have the change or not; gives it back to the shelf where memory was wanting before the commit. Takes no memory.
+fn keep_or_return<S: Alter + Drop, H: Shelf<S>>(
     strays: &mut Vec<Connection<S>>,
+    shelf: &mut H,
+    package: Uuid,
     child: Connection<S>,
     why: TurnFault,
 )
     requires { vec_len strays.old < vec_capacity strays.old }
     ensures kept { why ≢ Before OutOfMemory → strays.new.items ≡ strays.old.items ++ child ∷ [] }
     ensures dropped { why ≡ Before OutOfMemory → strays.new.items ≡ strays.old.items }
+    ensures uses { ReturnsUnlent S.Store H.takes «package» child (Err why) shelf.old shelf.new }
+    ensures shelf { H.failures_of shelf.new ≡ H.failures_of shelf.old }
     ensures capacity { vec_capacity strays.old ≤ vec_capacity strays.new }
 {
     if why.is_lasting() {
         push_reserved(strays, child);
+    } else {
+        shelf.retire(package, child.into_store());
     }
 }
 
-/// The parent lends, and the child comes to its place. Where the parent's store failed or may have the change or not, the child's store is kept among the strays; else it is dropped. After the commit nothing takes memory.
-pub fn lend_and_place<S: Alter + Drop>(
+/// The parent lends, and the child comes to its place. Where the parent's store failed or may have the change or not, the child's store is kept among the strays; else the shelf gets it back. After the commit nothing takes memory.
+pub fn lend_and_place<S: Alter + Drop, H: Shelf<S>>(
     members: &mut Vec<Member<S>>,
     strays: &mut Vec<Connection<S>>,
+    shelf: &mut H,
     due: Lending,
     child: Connection<S>,
 ) -> Result<Receipt, TurnFault>
@@ -167,6 +186,8 @@ pub fn lend_and_place<S: Alter + Drop>(
     requires room { vec_len members.old < vec_capacity members.old }
     requires stray_room { vec_len strays.old < vec_capacity strays.old }
     ensures splits { Splits S.Store due child members.old.items members.new.items strays.old.items strays.new.items result }
+    ensures uses { ReturnsUnlent S.Store H.takes due.child child result shelf.old shelf.new }
+    ensures shelf { H.failures_of shelf.new ≡ H.failures_of shelf.old }
     ensures capacity { vec_capacity members.new ≡ vec_capacity members.old }
     ensures stray_capacity { vec_capacity strays.old ≤ vec_capacity strays.new }
 {
@@ -177,7 +198,7 @@ pub fn lend_and_place<S: Alter + Drop>(
             Ok(due.receipt)
         }
         Err(why) => {
-            keep_if_lasting(strays, child, why);
+            keep_or_return(strays, shelf, due.child, child, why);
             Err(why)
         }
     }

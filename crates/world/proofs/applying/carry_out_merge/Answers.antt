@@ -8,7 +8,6 @@ use Rattle.world.proofs.Asks.{none_home}
 use Rattle.package_tables.specs.declared.fault.Fault.TheVariants.{StoreFault}
 use Rattle.register_lending.specs.declared.turn_fault.TurnFault.TheVariants.{Before}
 use Rattle.world_loans.specs.declared.loans.ServeFault.TheVariants.{Turn}
-use Rattle.world_changes.proofs.Lent.{none_beside}
 use Rattle.world_members.proofs.Standing.{all_still}
 use Rattle.world.proofs.CarriedOut.{carries_returned, carries_unbegun, carries_unreturned, comes_home, home_written}
 use Rattle.world_changes.specs.Writing.{WritesTwoAtMost}
@@ -24,7 +23,7 @@ child_at-requires g c = rw c.as_slice.ensures.value c.requires.place.from
 pub returns-in_default-clause-carries : goal.returns-in_default-clause-carries
 returns-in_default-clause-carries g c =
     let made = carries_unbegun g.S.Store g.met.S.Store.shut_if_dirty g.met.S.Store.settled (λ w next. IsReturned w next c.args.due) c.args.due.receipt c.args.members.now.items c.args.members.now.items [] c.args.count.now (Turn (Before StoreFault)) refl c.requires.rests c.requires.rests
-    (all_still g.S.Store g.met.S.Store.shut_if_dirty g.met.S.Store.settled c.args.members.now.items c.requires.rests) tt [] (omega arith) (λ clean w next are is_due was. none_beside g.S.Store w.frame w.packages) in (
+    (all_still g.S.Store g.met.S.Store.shut_if_dirty g.met.S.Store.settled c.args.members.now.items c.requires.rests) tt in (
       made,
       none_home g.S.Store g.H.Shelf.takes c.args.members.now.items (λ uuid. (child_returned c.args.command.now ≡ Some uuid) × OfEachDue g.S.Store (λ w next. IsReturned w next c.args.due) c.args.members.now.items c.args.count.now (λ w next. IsNoPackage next uuid)) made.gone c.args.shelf.now (made.kept _ refl),
       subst (WritesTwoAtMost g.S.Store (child_asked c.args.command.now) (child_returned c.args.command.now) c.args.members.now.items c.args.members.now.items) (sym (made.kept _ refl))

@@ -3,14 +3,16 @@ use Rattle.std.proofs.Common.{◌∙◌, refl, sym, ap, subst, arith, [], Result
 use Rattle.sheet_types.specs.declared.receipt.Receipt.{Receipt}
 use Rattle.sheet_types.specs.declared.refusal.Refusal.{Refusal}
 use Rattle.world_changes.specs.Carries.{ServesAll, OfEachSeen}
-use Rattle.world_members.specs.Members.{AllClean}
-use Rattle.world.specs.Asked.{IsNoPackage, child_returned}
+use Rattle.world_members.specs.Members.{AllClean, AllOpen}
+use Rattle.world.specs.Asked.{IsNoPackage, ServesChild, child_returned}
+use Rattle.world_changes.specs.Leaving.{IsChildBeside}
 use Rattle.world_decisions.specs.Deciding.{HasPlace, IsNoted}
 use Rattle.register_lending.specs.declared.turn_fault.TurnFault.TheVariants.{Before}
 use Rattle.world_loans.specs.declared.loans.ServeFault.TheVariants.{Turn}
 use Rattle.world_decisions.specs.Deciding.{child_asked, Makes}
 use Rattle.world.proofs.Asks.{asks_due}
-use Rattle.world.proofs.ServedAll.{split_apart, all_undecided, all_answered, change_served, change_failed, split_served, split_failed, merge_served, merge_failed, merge_with, with_asked, with_nothing, none_gone, counts_turn, counts_handed}
+use Rattle.world.proofs.Settled.{asked_of_child, child_merged, child_split, child_unasked, child_unsplit}
+use Rattle.world.proofs.ServedAll.{split_apart, unlent_seen, all_undecided, all_answered, change_served, change_failed, split_served, split_failed, merge_served, merge_failed, merge_with, with_asked, with_nothing, none_gone, counts_turn, counts_handed}
 use Rattle.world.proofs.ChangesMade.{turned_into}
 use Rattle.world_changes.proofs.Writing.{asked_written, none_written, one_written, written_since}
 use Rattle.world_members.proofs.Standing.{stay_length}
@@ -62,8 +64,8 @@ returns-in_err-receipt-in-SplitDue-clause-serves g c =
     let all = subst (ServesAll g.S.Store c.args.frame.now c.args.request.now c.args.members.now.items c.carry_out_split.new.members.items c.carry_out_split.new.strays.items c.args.known.now c.decide_and_note.new.known c.args.count.now c.carry_out_split.new.count) (sym (turned_into _ _ c.from_residual-in_err-receipt-in-SplitDue.ensures.1))
     (split_failed g.S.Store g.met.S.Store.shut_if_dirty g.met.S.Store.settled c.args.frame.now c.args.request.now c.args.members.now.items c.decide_and_note.new.members.items c.args.known.now c.decide_and_note.new.known c.decide_and_note.ensures.grows c.requires.rests c.args.count.now c.requires.counted c.decide_and_note.ensures.asks c.carry_out_split.new.members.items c.carry_out_split.new.strays.items c.carry_out_split.new.count c.in-SplitDue.due c.in_err-receipt-in-SplitDue.field-0.0 (c.in_ok-reply.was ∙ ap Ok c.in-SplitDue.is) c.in_err-receipt-in-SplitDue.ensures.carries.0) in
     with_asked g.S.Store g.H.Shelf.asks g.H.Shelf.takes c.args.shelf.now c.carry_out_split.new.shelf all (none_gone g.S.Store g.H.Shelf.asks g.H.Shelf.takes told all)
-    (asks_due g.H.Shelf.asks (child_asked c.args.request.now.command) c.in-SplitDue.due.child (λ child. AllClean g.S.Store c.carry_out_split.new.members.items → OfEachSeen g.S.Store c.args.frame.now c.args.known.now c.args.members.now.items c.args.count.now (λ w. IsNoPackage w child)) _ _ (subst (Makes (child_asked c.args.request.now.command)) c.in-SplitDue.is c.in_ok-reply.ensures.makes)
-    (λ clean w same are. split_apart g.S.Store g.met.S.Store.shut_if_dirty g.met.S.Store.settled c.args.frame.now c.args.request.now c.args.members.now.items c.decide_and_note.new.members.items c.args.known.now c.decide_and_note.new.known c.decide_and_note.ensures.grows c.requires.rests c.args.count.now c.requires.counted c.decide_and_note.ensures.asks c.in-SplitDue.due (c.in_ok-reply.was ∙ ap Ok c.in-SplitDue.is) (c.carry_out_split.ensures.clean clean) w same are) c.carry_out_split.ensures.asks)
+    (asks_due g.H.Shelf.asks g.H.Shelf.takes (child_asked c.args.request.now.command) c.in-SplitDue.due.child (λ child. AllClean g.S.Store c.carry_out_split.new.members.items → OfEachSeen g.S.Store c.args.frame.now c.args.known.now c.args.members.now.items c.args.count.now (λ w. IsNoPackage w child)) _ _ (subst (Makes (child_asked c.args.request.now.command)) c.in-SplitDue.is c.in_ok-reply.ensures.makes)
+    (λ clean w same are. split_apart g.S.Store g.met.S.Store.shut_if_dirty g.met.S.Store.settled c.args.frame.now c.args.request.now c.args.members.now.items c.decide_and_note.new.members.items c.args.known.now c.decide_and_note.new.known c.decide_and_note.ensures.grows c.requires.rests c.args.count.now c.requires.counted c.decide_and_note.ensures.asks c.in-SplitDue.due (c.in_ok-reply.was ∙ ap Ok c.in-SplitDue.is) (c.carry_out_split.ensures.clean clean) w same are) (asked_of_child g.S.Store g.H.Shelf.asks g.H.Shelf.takes g.H.Shelf.failures_of c.args.frame.now c.in-SplitDue.due c.decide_and_note.new.members.items c.carry_out_split.new.members.items c.carry_out_split.new.strays.items _ _ _ c.carry_out_split.ensures.uses))
     (written_since g.S.Store (child_asked c.args.request.now.command) (child_returned c.args.request.now.command) c.args.members.now.items c.decide_and_note.new.members.items c.decide_and_note.ensures.asks.stay c.carry_out_split.new.members.items []
     (asked_written g.S.Store (Some c.in-SplitDue.due.child) (child_asked c.args.request.now.command) None (child_returned c.args.request.now.command) c.decide_and_note.new.members.items c.carry_out_split.new.members.items
     (sym (subst (Makes (child_asked c.args.request.now.command)) c.in-SplitDue.is c.in_ok-reply.ensures.makes)) c.carry_out_split.ensures.writes))
@@ -72,8 +74,8 @@ pub returns-in_ok-receipt-in-SplitDue-clause-serves : goal.returns-in_ok-receipt
 returns-in_ok-receipt-in-SplitDue-clause-serves g c =
     let both = split_served g.S.Store g.met.S.Store.shut_if_dirty g.met.S.Store.settled c.args.frame.now c.args.request.now c.args.members.now.items c.decide_and_note.new.members.items c.args.known.now c.decide_and_note.new.known c.decide_and_note.ensures.grows c.requires.rests c.args.count.now c.requires.counted c.decide_and_note.ensures.asks c.carry_out_split.new.members.items c.carry_out_split.new.strays.items c.carry_out_split.new.count c.in-SplitDue.due c.in_ok-receipt-in-SplitDue.receipt (subst (IsNoted c.decide_and_note.new.known) c.in-SplitDue.is c.in_ok-reply.ensures.noted) (c.in_ok-reply.was ∙ ap Ok c.in-SplitDue.is) (subst (HasPlace c.decide_and_note.new.members.items c.args.count.now) c.in-SplitDue.is c.in_ok-reply.ensures.place).counted c.in_ok-receipt-in-SplitDue.ensures.carries.0 in
     with_asked g.S.Store g.H.Shelf.asks g.H.Shelf.takes c.args.shelf.now c.carry_out_split.new.shelf both.0 (both.1 ∙ c.in_ok-receipt-in-SplitDue.ensures.carries.1)
-    (asks_due g.H.Shelf.asks (child_asked c.args.request.now.command) c.in-SplitDue.due.child (λ child. AllClean g.S.Store c.carry_out_split.new.members.items → OfEachSeen g.S.Store c.args.frame.now c.args.known.now c.args.members.now.items c.args.count.now (λ w. IsNoPackage w child)) _ _ (subst (Makes (child_asked c.args.request.now.command)) c.in-SplitDue.is c.in_ok-reply.ensures.makes)
-    (λ clean w same are. split_apart g.S.Store g.met.S.Store.shut_if_dirty g.met.S.Store.settled c.args.frame.now c.args.request.now c.args.members.now.items c.decide_and_note.new.members.items c.args.known.now c.decide_and_note.new.known c.decide_and_note.ensures.grows c.requires.rests c.args.count.now c.requires.counted c.decide_and_note.ensures.asks c.in-SplitDue.due (c.in_ok-reply.was ∙ ap Ok c.in-SplitDue.is) (c.carry_out_split.ensures.clean clean) w same are) c.carry_out_split.ensures.asks)
+    (asks_due g.H.Shelf.asks g.H.Shelf.takes (child_asked c.args.request.now.command) c.in-SplitDue.due.child (λ child. AllClean g.S.Store c.carry_out_split.new.members.items → OfEachSeen g.S.Store c.args.frame.now c.args.known.now c.args.members.now.items c.args.count.now (λ w. IsNoPackage w child)) _ _ (subst (Makes (child_asked c.args.request.now.command)) c.in-SplitDue.is c.in_ok-reply.ensures.makes)
+    (λ clean w same are. split_apart g.S.Store g.met.S.Store.shut_if_dirty g.met.S.Store.settled c.args.frame.now c.args.request.now c.args.members.now.items c.decide_and_note.new.members.items c.args.known.now c.decide_and_note.new.known c.decide_and_note.ensures.grows c.requires.rests c.args.count.now c.requires.counted c.decide_and_note.ensures.asks c.in-SplitDue.due (c.in_ok-reply.was ∙ ap Ok c.in-SplitDue.is) (c.carry_out_split.ensures.clean clean) w same are) (asked_of_child g.S.Store g.H.Shelf.asks g.H.Shelf.takes g.H.Shelf.failures_of c.args.frame.now c.in-SplitDue.due c.decide_and_note.new.members.items c.carry_out_split.new.members.items c.carry_out_split.new.strays.items _ _ _ c.carry_out_split.ensures.uses))
     (written_since g.S.Store (child_asked c.args.request.now.command) (child_returned c.args.request.now.command) c.args.members.now.items c.decide_and_note.new.members.items c.decide_and_note.ensures.asks.stay c.carry_out_split.new.members.items []
     (asked_written g.S.Store (Some c.in-SplitDue.due.child) (child_asked c.args.request.now.command) None (child_returned c.args.request.now.command) c.decide_and_note.new.members.items c.carry_out_split.new.members.items
     (sym (subst (Makes (child_asked c.args.request.now.command)) c.in-SplitDue.is c.in_ok-reply.ensures.makes)) c.carry_out_split.ensures.writes))
@@ -129,3 +131,37 @@ returns-in_err-reply-clause-shelf g c =
 
 pub returns-in_err-receipt-in-MergeDue-clause-shelf : goal.returns-in_err-receipt-in-MergeDue-clause-shelf
 returns-in_err-receipt-in-MergeDue-clause-shelf g c = counts_handed Receipt (Result Receipt Refusal) _ c.in_err-receipt-in-MergeDue.field-0.0 _ _ (turned_into _ _ c.from_residual-in_err-receipt-in-MergeDue.ensures.1) (c.in_err-receipt-in-MergeDue.ensures.shelf)
+
+pub returns-in_err-reply-clause-child : goal.returns-in_err-reply-clause-child
+returns-in_err-reply-clause-child g c = child_unasked g.S.Store g.H.Shelf.asks g.H.Shelf.takes g.H.Shelf.failures_of _ c.args.strays.now.items (child_asked c.args.request.now.command) _ c.args.shelf.now
+
+pub returns-in-Answered-clause-child : goal.returns-in-Answered-clause-child
+returns-in-Answered-clause-child g c = child_unasked g.S.Store g.H.Shelf.asks g.H.Shelf.takes g.H.Shelf.failures_of _ c.args.strays.now.items (child_asked c.args.request.now.command) _ c.args.shelf.now
+
+pub returns-in_err-receipt-in-ChangeDue-clause-child : goal.returns-in_err-receipt-in-ChangeDue-clause-child
+returns-in_err-receipt-in-ChangeDue-clause-child g c = child_unasked g.S.Store g.H.Shelf.asks g.H.Shelf.takes g.H.Shelf.failures_of _ c.args.strays.now.items (child_asked c.args.request.now.command) _ c.args.shelf.now
+
+pub returns-in_ok-receipt-in-ChangeDue-clause-child : goal.returns-in_ok-receipt-in-ChangeDue-clause-child
+returns-in_ok-receipt-in-ChangeDue-clause-child g c = child_unasked g.S.Store g.H.Shelf.asks g.H.Shelf.takes g.H.Shelf.failures_of _ c.args.strays.now.items (child_asked c.args.request.now.command) _ c.args.shelf.now
+
+pub returns-in_err-receipt-in-SplitDue-clause-child : goal.returns-in_err-receipt-in-SplitDue-clause-child
+returns-in_err-receipt-in-SplitDue-clause-child g c =
+    subst (λ r. ServesChild g.S.Store g.H.Shelf.asks g.H.Shelf.takes g.H.Shelf.failures_of (child_asked c.args.request.now.command)
+    (λ child trees. AllClean g.S.Store c.carry_out_split.new.members.items → OfEachSeen g.S.Store c.args.frame.now c.args.known.now c.args.members.now.items c.args.count.now (λ w. AllOpen g.S.Store c.args.members.now.items → IsChildBeside w.frame w.packages child trees)) c.carry_out_split.new.strays.items r c.args.shelf.now c.carry_out_split.new.shelf)
+    (sym (turned_into _ _ c.from_residual-in_err-receipt-in-SplitDue.ensures.1))
+    (child_unsplit g.S.Store g.H.Shelf.asks g.H.Shelf.takes g.H.Shelf.failures_of _ c.carry_out_split.new.strays.items (child_asked c.args.request.now.command) c.args.frame.now c.in-SplitDue.due c.decide_and_note.new.members.items c.carry_out_split.new.members.items c.in_err-receipt-in-SplitDue.field-0.0 c.args.shelf.now c.carry_out_split.new.shelf
+    (subst (Makes (child_asked c.args.request.now.command)) c.in-SplitDue.is c.in_ok-reply.ensures.makes)
+    (unlent_seen g.S.Store g.met.S.Store.shut_if_dirty g.met.S.Store.settled c.args.frame.now c.args.request.now c.args.members.now.items c.decide_and_note.new.members.items c.args.known.now c.decide_and_note.new.known c.decide_and_note.ensures.grows c.requires.rests c.args.count.now c.requires.counted c.decide_and_note.ensures.asks c.in-SplitDue.due c.carry_out_split.new.members.items (c.in_ok-reply.was ∙ ap Ok c.in-SplitDue.is) c.carry_out_split.ensures.clean) c.in_err-receipt-in-SplitDue.ensures.uses)
+
+pub returns-in_ok-receipt-in-SplitDue-clause-child : goal.returns-in_ok-receipt-in-SplitDue-clause-child
+returns-in_ok-receipt-in-SplitDue-clause-child g c =
+    child_split g.S.Store g.H.Shelf.asks g.H.Shelf.takes g.H.Shelf.failures_of _ c.carry_out_split.new.strays.items (child_asked c.args.request.now.command) c.args.frame.now c.in-SplitDue.due c.decide_and_note.new.members.items c.carry_out_split.new.members.items c.in_ok-receipt-in-SplitDue.receipt c.args.shelf.now c.carry_out_split.new.shelf
+    (subst (Makes (child_asked c.args.request.now.command)) c.in-SplitDue.is c.in_ok-reply.ensures.makes) c.in_ok-receipt-in-SplitDue.ensures.uses
+
+pub returns-in_err-receipt-in-MergeDue-clause-child : goal.returns-in_err-receipt-in-MergeDue-clause-child
+returns-in_err-receipt-in-MergeDue-clause-child g c =
+    child_merged g.S.Store g.H.Shelf.asks g.H.Shelf.takes g.H.Shelf.failures_of _ c.args.strays.now.items c.decide_and_note.new.members.items c.args.request.now.command _ _ _ c.args.shelf.now c.carry_out_merge.new.shelf c.in_err-receipt-in-MergeDue.ensures.carries.1 (λ uuid fact. fact.0)
+
+pub returns-in_ok-receipt-in-MergeDue-clause-child : goal.returns-in_ok-receipt-in-MergeDue-clause-child
+returns-in_ok-receipt-in-MergeDue-clause-child g c =
+    child_merged g.S.Store g.H.Shelf.asks g.H.Shelf.takes g.H.Shelf.failures_of _ c.args.strays.now.items c.decide_and_note.new.members.items c.args.request.now.command _ _ _ c.args.shelf.now c.carry_out_merge.new.shelf c.in_ok-receipt-in-MergeDue.ensures.carries.1 (λ uuid fact. fact.0)

@@ -14,5 +14,5 @@ returns-in-Ok-clause-splits g c =
 
 pub returns-in-Err-clause-splits : goal.returns-in-Err-clause-splits
 returns-in-Err-clause-splits g c =
-    splits_failed g.S.Store g.met.S.Store.shut_if_dirty g.met.S.Store.settled c.args.due c.args.child c.args.members.now.items c.lend_at.new.members.items c.args.strays.now.items c.requires.rests c.requires.child c.in-Err.why c.in-Err.ensures.turned c.args.strays.now.items c.keep_if_lasting.new.strays.items
-    c.keep_if_lasting.ensures.kept c.keep_if_lasting.ensures.dropped (λ fault is. c.in-Err.ensures.unharmed fault (ap Err is))
+    splits_failed g.S.Store g.met.S.Store.shut_if_dirty g.met.S.Store.settled c.args.due c.args.child c.args.members.now.items c.lend_at.new.members.items c.args.strays.now.items c.requires.rests c.requires.child c.in-Err.why c.in-Err.ensures.turned c.args.strays.now.items c.keep_or_return.new.strays.items
+    c.keep_or_return.ensures.kept c.keep_or_return.ensures.dropped (λ fault is. c.in-Err.ensures.unharmed fault (ap Err is))

@@ -5,7 +5,8 @@ use Rattle.sheet_types.specs.declared.refusal.Refusal.TheVariants.{StoreFault}
 use Rattle.sheet_types.specs.declared.receipt.Receipt.{Receipt}
 use Rattle.world.specs.Asked.{IsStepWith}
 use Rattle.world.specs.Worlds.{IsStep}
-use Rattle.world.proofs.Keeping.{held_after, step_unserved, unserved_with, replied_with, failed_with, step_replied, step_failed, still_replied, still_failed, no_trace_replied, no_trace_failed, none_failed, told_as_fault, rises_failed, usable_after, cause_failed, counts_grow}
+use Rattle.world_decisions.specs.Deciding.{child_asked}
+use Rattle.world.proofs.Keeping.{settled_replied, settled_failed, held_after, step_unserved, unserved_with, replied_with, failed_with, step_replied, step_failed, still_replied, still_failed, no_trace_replied, no_trace_failed, none_failed, told_as_fault, rises_failed, usable_after, cause_failed, counts_grow}
 use Rattle.world.proofs.world.World.apply.Goals as goal
 
 pub serve-requires-clause-none : goal.serve-requires-clause-none
@@ -21,7 +22,8 @@ pub invariant_of-self-in-Err : goal.invariant_of-self-in-Err
 invariant_of-self-in-Err g c = (held_after g.S.Store c.args.request.now _ _ _ c.self.invariant.0 refl c.serve.ensures.serves.0.rests c.serve.ensures.serves.0.stray_rests (none_failed g.S.Store _ _ _ _ _ _ _ _ _ _ c.serve.ensures.serves.0 c.serve.ensures.serves.2 c.self.inside.has_failed _ c.self.inside.strays.items _ refl c.in-Err.fault c.in-Err.is c.is_lasting-self-inside.ensures) c.serve.ensures.serves.0.counted (step_failed g.S.Store _ _ _ _ _ _ _ _ _ _ c.serve.ensures.serves.0 c.serve.ensures.serves.2 _ _ _ _ refl c.in-Err.fault c.in-Err.is _ refl), c.serve.ensures.room)
 
 pub returns-in-Ok-clause-uses : goal.returns-in-Ok-clause-uses
-returns-in-Ok-clause-uses g c = replied_with g.S.Store _ _ _ _ _ _ _ _ _ _ c.serve.ensures.serves.0 c.serve.ensures.serves.2 c.self.inside.has_failed c.is_store_fault-self-inside.result _ _ c.self.view_is g.H.Shelf.asks g.H.Shelf.takes c.args.shelf.now c.serve.new.shelf c.serve.ensures.serves.1 c.in-Ok.reply c.in-Ok.is
+returns-in-Ok-clause-uses g c = replied_with g.S.Store _ _ _ _ _ _ _ _ _ _ c.serve.ensures.serves.0 c.serve.ensures.serves.2 c.self.inside.has_failed c.is_store_fault-self-inside.result _ _ c.self.view_is g.H.Shelf.asks g.H.Shelf.takes g.H.Shelf.failures_of c.args.shelf.now c.serve.new.shelf c.serve.ensures.serves.1 c.in-Ok.reply c.in-Ok.is
+    (settled_replied g.S.Store _ _ _ _ _ _ _ _ _ _ c.serve.ensures.serves.0 c.serve.ensures.serves.2 c.self.inside.has_failed c.is_store_fault-self-inside.result _ _ c.self.view_is g.H.Shelf.asks g.H.Shelf.takes g.H.Shelf.failures_of c.args.shelf.now c.serve.new.shelf (child_asked c.args.request.now.command) c.in-Ok.reply c.in-Ok.ensures.child)
 
 pub returns-in-Ok-clause-step : goal.returns-in-Ok-clause-step
 returns-in-Ok-clause-step g c = step_replied g.S.Store _ _ _ _ _ _ _ _ _ _ c.serve.ensures.serves.0 c.serve.ensures.serves.2 c.self.inside.has_failed c.is_store_fault-self-inside.result _ _ c.self.view_is c.in-Ok.reply c.in-Ok.is
@@ -36,14 +38,15 @@ pub returns-in-Ok-clause-still : goal.returns-in-Ok-clause-still
 returns-in-Ok-clause-still g c = still_replied g.S.Store _ _ _ _ _ _ _ _ _ _ c.serve.ensures.serves.0 c.serve.ensures.serves.2 c.self.inside.has_failed c.is_store_fault-self-inside.result _ _ c.self.view_is c.in-Ok.reply c.in-Ok.is
 
 pub returns-in-Err-clause-uses : goal.returns-in-Err-clause-uses
-returns-in-Err-clause-uses g c = failed_with g.S.Store _ _ _ _ _ _ _ _ _ _ c.serve.ensures.serves.0 c.serve.ensures.serves.2 c.self.inside.has_failed c.is_lasting-self-inside.result _ _ c.self.view_is g.H.Shelf.asks g.H.Shelf.takes c.args.shelf.now c.serve.new.shelf c.serve.ensures.serves.1 c.in-Err.fault c.in-Err.is _ c.refusal.ensures
+returns-in-Err-clause-uses g c = failed_with g.S.Store _ _ _ _ _ _ _ _ _ _ c.serve.ensures.serves.0 c.serve.ensures.serves.2 c.self.inside.has_failed c.is_lasting-self-inside.result _ _ c.self.view_is g.H.Shelf.asks g.H.Shelf.takes g.H.Shelf.failures_of c.args.shelf.now c.serve.new.shelf c.serve.ensures.serves.1 c.in-Err.fault c.in-Err.is _ c.refusal.ensures
+    (settled_failed g.S.Store _ _ _ _ _ _ _ _ _ _ c.serve.ensures.serves.0 c.serve.ensures.serves.2 c.self.inside.has_failed c.is_lasting-self-inside.result _ _ c.self.view_is g.H.Shelf.asks g.H.Shelf.takes g.H.Shelf.failures_of c.args.shelf.now c.serve.new.shelf (child_asked c.args.request.now.command) c.in-Err.fault c.refusal.result c.is_lasting-self-inside.ensures c.in-Err.ensures.child)
 
 pub returns-in-Err-clause-still : goal.returns-in-Err-clause-still
 returns-in-Err-clause-still g c = still_failed g.S.Store _ _ _ _ _ _ _ _ _ _ c.serve.ensures.serves.0 c.serve.ensures.serves.2 c.self.inside.has_failed c.is_lasting-self-inside.result _ _ c.self.view_is c.in-Err.fault c.in-Err.is c.refusal.result
 
 pub returns-then-self-clause-uses : goal.returns-then-self-clause-uses
 returns-then-self-clause-uses g c =
-    subst (λ s. IsStepWith g.S.Store g.H.Shelf.asks g.H.Shelf.takes c.args.request.now s (Err StoreFault) s c.args.shelf.now c.args.shelf.now) c.self.view_is (unserved_with g.S.Store g.H.Shelf.asks g.H.Shelf.takes g.met.S.Store.shut_if_dirty g.met.S.Store.settled c.args.request.now _ c.args.shelf.now c.self.invariant.0.rests c.if-self.true)
+    subst (λ s. IsStepWith g.S.Store g.H.Shelf.asks g.H.Shelf.takes g.H.Shelf.failures_of c.args.request.now s (Err StoreFault) s c.args.shelf.now c.args.shelf.now) c.self.view_is (unserved_with g.S.Store g.H.Shelf.asks g.H.Shelf.takes g.H.Shelf.failures_of g.met.S.Store.shut_if_dirty g.met.S.Store.settled c.args.request.now _ c.args.shelf.now c.self.invariant.0.rests c.if-self.true)
 
 pub returns-in-Ok-clause-unharmed : goal.returns-in-Ok-clause-unharmed
 returns-in-Ok-clause-unharmed g c = no_trace_replied g.S.Store _ _ _ _ _ _ _ _ _ _ c.serve.ensures.serves.0 c.serve.ensures.serves.2 c.self.inside.has_failed c.is_store_fault-self-inside.result _ _ c.self.view_is c.in-Ok.reply c.in-Ok.is
