@@ -178,6 +178,11 @@ def deep(digits):
     return {name: Copy("deep/" + name, ()) for name in names}
 
 
+def blank(count):
+    """So many files that hold nothing, under names of packages."""
+    return {f"{worked_lists.uuid_of('f', number)}.gpkg": NO_BYTES for number in range(1, count + 1)}
+
+
 # Each folder: the fault that it is, or None, and its files. Of one that has a package of the first version plain Python says nothing.
 CASES = {
     "lent": (None, {ARCHIVE: lent(), LOAN: loan(), OTHER: NO_BYTES, "notes.txt": NOTES}),
@@ -204,6 +209,9 @@ CASES = {
     "went_on_apart": ("OutOfAccount", {ARCHIVE: lent(*taken_out()), LOAN: loan(*worked_on(LOAN))}),
     "deep": (None, deep("abcde")),
     "lost_below": ("MissingPackage", deep("abde")),
+    # More files than are opened at once.
+    "crowded": (None, {**deep("abcde"), **blank(29), "f1" + LOAN[2:]: loan(*named("f1" + LOAN[2:]))}),
+    "lost_in_a_crowd": ("MissingPackage", {**deep("abde"), **blank(30)}),
     "same_keys": (None, {ARCHIVE: lent(*SAME_KEYS), LOAN: loan(*SAME_KEYS)}),
     # Somebody renamed the file of the loan.
     "misnamed": (None, {ARCHIVE: lent(), FOURTH: loan()}),

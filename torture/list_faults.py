@@ -45,10 +45,21 @@ def run(words, given=None):
     return subprocess.run([PROGRAM, *words], stdin=given, stdout=subprocess.PIPE, stderr=subprocess.PIPE)
 
 
+def carried(reply):
+    """What stands behind the name of a reason, by what the second machine knows."""
+    texts = {
+        18: "item {} is linked with an item that stays",
+        20: "the last receipt is {}",
+        21: "loan {} is not home",
+        22: "the place of tile {} is taken",
+    }
+    return ": " + texts[reply.number].format(reply.detail) if reply.number in texts else ""
+
+
 def refusal_lines(replies):
     """A line for each of the first refusals, and how many there are besides."""
-    refused = [(number, reply.number) for number, reply in enumerate(replies, 1) if not isinstance(reply, reference.Receipt)]
-    lines = [f"record {number}: refusal {reason} {REASONS[reason - 1]}\n" for number, reason in refused[:20]]
+    refused = [(number, reply) for number, reply in enumerate(replies, 1) if not isinstance(reply, reference.Receipt)]
+    lines = [f"record {number}: refusal {reply.number} {REASONS[reply.number - 1]}{carried(reply)}\n" for number, reply in refused[:20]]
     return lines + [f"and {len(refused) - 20} more\n"] * (len(refused) > 20)
 
 

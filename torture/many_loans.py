@@ -10,13 +10,16 @@ loans of one mark each live beside the archive, and `status` of them has to take
 here, by hand.
 """
 import os
+import resource
 import shutil
+import sqlite3
 import subprocess
 import sys
 import tempfile
 
 HERE = os.path.dirname(os.path.abspath(__file__))
 MOST = 600 * 1024
+LEFT, OPEN, LITTLE = 2000, 256, 300 * 1024
 MOMENT = "2024-05-01T08:00:00.000Z"
 ARCHIVE = "a0000000-0000-4000-8000-000000000000"
 MAKING = ["--archive", ARCHIVE, "--at", MOMENT, "--frame", "25832,0,0,4096,4096,256,256,0,3,1,1"]
@@ -108,6 +111,47 @@ def come_home(room, count):
     assert run("manifest", maps, ARCHIVE) == before
 
 
+def left_files(maps, loan, count):
+    """Copies of a loan's file, each of a loan of its own that came home."""
+    file = os.path.join(maps, f"{loan}.gpkg")
+    for number in range(1, count + 1):
+        name = uuid("e", number)
+        copy = os.path.join(maps, f"{name}.gpkg")
+        shutil.copyfile(file, copy)
+        store = sqlite3.connect(copy, isolation_level=None)
+        store.execute("UPDATE sheet_package SET package = ?", (name,))
+        store.close()
+
+
+def narrow():
+    resource.setrlimit(resource.RLIMIT_NOFILE, (OPEN, OPEN))
+
+
+def run_narrow(*words):
+    """What a command prints with few files open, and its memory in kilobytes."""
+    process = subprocess.Popen([*program(), *words], stdout=subprocess.PIPE, text=True, preexec_fn=narrow)
+    printed = process.stdout.read()
+    _, status, used = os.wait4(process.pid, 0)
+    assert status == 0, (words, status, printed[-200:])
+    return printed, used.ru_maxrss
+
+
+def left_behind(room):
+    maps = os.path.join(room, "left")
+    os.mkdir(maps)
+    run("init", *WIDE, maps)
+    run("import", maps, list_of(room, living(2)))
+    before = run("status", maps)
+    left_files(maps, uuid("c", 1), LEFT)
+    printed, size = run_narrow("status", maps)
+    assert printed == before + f"strays {LEFT}\n", printed[-200:]
+    removed, tidied = run_narrow("tidy", maps)
+    files = [line for line in removed.splitlines() if line.endswith(".gpkg")]
+    assert files == [f"removed {uuid('e', number)}.gpkg" for number in range(1, LEFT + 1)], files[:3]
+    assert run("status", maps) == before
+    return max(size, tidied)
+
+
 def live(room, count):
     maps = os.path.join(room, "wide")
     os.mkdir(maps)
@@ -131,6 +175,9 @@ def main():
     count = int(sys.argv[1]) if sys.argv[1:] else 100
     with tempfile.TemporaryDirectory() as room:
         come_home(room, count)
+        most = left_behind(room)
+        print(f"{LEFT} files beside three live packages, {OPEN} open at most: {most / 1024:.0f} MB")
+        assert most <= LITTLE, most
         maps = live(room, 255)
         size = taken(maps, 255)
         print(f"{count} loans came home and left one file; a status of 256 live packages took {size / 1024:.0f} MB")

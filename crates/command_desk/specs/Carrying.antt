@@ -13,6 +13,7 @@ use Rattle.manifest_csv.specs.Reports.{report_line}
 use Rattle.command_folder.specs.Endings.{done, no_memory}
 use Rattle.command_folder.specs.Printing.{Prints}
 use Rattle.command_folder.specs.declared.endings.Ending.{Ending}
+use Rattle.command_folder.specs.declared.endings.Ending.TheVariants.{RecordDeclined}
 use Rattle.command_lines.specs.Drops.{outcomes_text}
 use Rattle.commands.specs.Orders.{PrintsLine}
 use Rattle.commands.specs.Subcommands.{IsWhyUnasked}
@@ -20,17 +21,17 @@ use Rattle.command_ordering.specs.Telling.{replies_ending, stopped}
 use Rattle.command_desk.specs.declared.carrying.Report.{Report}
 use Rattle.command_desk.specs.declared.carrying.Report.TheVariants.{Row, Outcome}
 
--- After a row an import goes on, or stops by what gave out.
-abbrev pub row_ending : Result Receipt Refusal → Ending
-row_ending (Ok receipt) = done
-row_ending (Err refusal.OutOfMemory) = stopped OutOfMemory
-row_ending (Err refusal.StoreFault) = stopped StoreFault
-row_ending (Err why) = done
+-- After the row of this number an import goes on, and standard error is told of a refusal; or it stops by what gave out.
+abbrev pub row_ending : ℕ → Result Receipt Refusal → Ending
+row_ending n (Ok receipt) = done
+row_ending n (Err refusal.OutOfMemory) = stopped OutOfMemory
+row_ending n (Err refusal.StoreFault) = stopped StoreFault
+row_ending n (Err why) = RecordDeclined n why
 
 module _ {W : Type 0} (writer writer' : W) (before after : Option (List ℕ)) where
   -- The row of an import's report; or what came of the request, as of one of several. For that memory may be wanting.
   abbrev pub TellsReply : Report → Request → Result Receipt Refusal → Ending → Type 0
-  TellsReply (Row n) q reply ending = Prints (report_line n q.id reply) (row_ending reply) before after ending
+  TellsReply (Row n) q reply ending = Prints (report_line n q.id reply) (row_ending n reply) before after ending
   TellsReply Outcome q reply ending =
       PrintsLine writer writer' before after (outcomes_text (q ∷ []) (reply ∷ [])) (replies_ending (reply ∷ [])) ending
 

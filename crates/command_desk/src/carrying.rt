@@ -55,14 +55,16 @@ pub(crate) fn print<W: Write>(writer: &mut W, text: &str, due: Ending) -> Ending
     }
 }
 
-/// How it ends behind a row: an import goes on after a refusal, and stops where memory or a store gave out.
-fn row_ending(reply: &Result<Receipt, Refusal>) -> Ending
-    ensures { result ≡ row_ending reply.now }
+/// How it ends behind the row of this number: an import goes on after a refusal, of which standard error is told, and
+/// stops where memory or a store gave out.
+fn row_ending(n: u64, reply: &Result<Receipt, Refusal>) -> Ending
+    ensures { result ≡ row_ending n reply.now }
 {
     match reply {
+        Ok(_) => DONE,
         Err(Refusal::OutOfMemory) => NO_MEMORY,
         Err(Refusal::StoreFault) => FAILED,
-        _ => DONE,
+        Err(why) => Ending::RecordDeclined(n, *why),
     }
 }
 
@@ -95,7 +97,7 @@ fn carry_row<S: Alter + Drop, H: Shelf<S>, W: Write>(
     };
     let reply = world.apply(alloc, request, shelf);
     put_line(&mut buffer, n, request.id, &reply);
-    print(writer, buffer.as_str(), row_ending(&reply))
+    print(writer, buffer.as_str(), row_ending(n, &reply))
 }
 
 /// Carries a request out, and writes what came of it.

@@ -1,5 +1,5 @@
 -- What standard error is told of a fault or of a refusal, behind the line of its name. Profile.
-use Rattle.std.specs.Prelude.{◌≡◌, ℕ, List, [], ◌∷◌, ◌++◌, codes, decimal, get_or}
+use Rattle.std.specs.Prelude.{ℕ, List, [], ◌∷◌, ◌++◌, codes, decimal}
 use Rattle.sheet_types.specs.Refusals.{refusal_name, refusal_number}
 use Rattle.sheet_types.specs.Texts.{uuid_text}
 use Rattle.sheet_types.specs.declared.refusal.Refusal.{Refusal}
@@ -86,25 +86,9 @@ abbrev pub refusal_text : Refusal → List ℕ
 refusal_text why =
     codes "refusal " ++ (decimal (refusal_number why) ++ (codes " " ++ (refusal_name why ++ carried why)))
 
--- the names of the reasons by their numbers, of which there is none with 0
-abbrev pub reason_names : List (List ℕ)
-reason_names = [] ∷ codes "IdReused" ∷ codes "UnknownPackage" ∷ codes "PackageUsed" ∷ codes "BadText" ∷ codes "TooLarge"
-    ∷ codes "IdentityUsed" ∷ codes "UnknownItem" ∷ codes "WrongKind" ∷ codes "BadPlace" ∷ codes "OutOfFrame"
-    ∷ codes "PlaceTaken" ∷ codes "LinkThere" ∷ codes "UnknownLink" ∷ codes "Linked" ∷ codes "BadRectangle"
-    ∷ codes "TooDeep" ∷ codes "NothingToLend" ∷ codes "CutLink" ∷ codes "Foreign" ∷ codes "Stale"
-    ∷ codes "LoanOpen" ∷ codes "Collides" ∷ codes "TooMany" ∷ codes "OutOfMemory" ∷ codes "StoreFault" ∷ []
-
-abbrev pub reason_name : ℕ → List ℕ
-reason_name number = get_or reason_names number []
-
--- each reason has its name there
-abbrev pub ReasonsAreNamed : Type 0
-ReasonsAreNamed = (why : Refusal) → reason_name (refusal_number why) ≡ refusal_name why
-
--- the refusal of a record of a list, as far as its report tells it
-abbrev pub refused_text : ℕ → ℕ → List ℕ
-refused_text record_number number =
-    codes "record " ++ (decimal record_number ++ (codes ": refusal " ++ (decimal number ++ (codes " " ++ reason_name number))))
+-- the refusal of a record of a list, by the record's number
+abbrev pub record_text : ℕ → Refusal → List ℕ
+record_text number why = codes "record " ++ (decimal number ++ (codes ": " ++ refusal_text why))
 
 -- how many more there are
 abbrev pub more_text : ℕ → List ℕ

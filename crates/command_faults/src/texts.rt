@@ -1,10 +1,10 @@
 //! The texts, each without the end of a line.
 ghost use Rattle.std.specs.Prelude.{◌≡◌, IfOk, string_bytes};
-ghost use Rattle.command_faults.specs.Texts.{ReasonsAreNamed, carried, cause_text, fault_text, list_text, more_text, reason_name, refusal_text, refused_text, want_text};
+ghost use Rattle.command_faults.specs.Texts.{carried, cause_text, fault_text, list_text, more_text, record_text, refusal_text, want_text};
 
 use opening_faults::faults::RecoverFault;
 use request_csv::causes::{ListFault, RecordFault};
-use request_csv::forms::{Want, column_name, name_in};
+use request_csv::forms::{Want, column_name};
 use request_csv::lists::ReadFault;
 use sheet_types::refusal::Refusal;
 use std::alloc::{AllocError, Global};
@@ -160,53 +160,17 @@ pub fn refusal_text(alloc: Global, why: &Refusal) -> Result<String, AllocError>
     format!(in alloc; "refusal {number} {name}{more}")
 }
 
-/// The names of the reasons by their numbers; there is none with 0.
-const REASONS: [&str; 26] = [
-    "",
-    "IdReused",
-    "UnknownPackage",
-    "PackageUsed",
-    "BadText",
-    "TooLarge",
-    "IdentityUsed",
-    "UnknownItem",
-    "WrongKind",
-    "BadPlace",
-    "OutOfFrame",
-    "PlaceTaken",
-    "LinkThere",
-    "UnknownLink",
-    "Linked",
-    "BadRectangle",
-    "TooDeep",
-    "NothingToLend",
-    "CutLink",
-    "Foreign",
-    "Stale",
-    "LoanOpen",
-    "Collides",
-    "TooMany",
-    "OutOfMemory",
-    "StoreFault",
-];
-
-/// The name of the reason of this number; the empty text where there is none.
-fn reason_name(number: u8) -> &'static str
-    ensures { result.now ≡ reason_name number }
-{
-    name_in(&REASONS, number as usize)
-}
-
-/// The refusal of a record of a list, as far as its report tells it: the number of the record, and number and name of the reason.
+/// The refusal of a record of a list: the number of the record, and what a refusal is told by.
 ///
 /// # Errors
 ///
 /// Want of memory.
-pub fn refused_text(alloc: Global, record: u64, number: u8) -> Result<String, AllocError>
-    ensures { IfOk result (λ text. string_bytes text ≡ refused_text «record» number) }
+pub fn record_text(alloc: Global, record: u64, why: &Refusal) -> Result<String, AllocError>
+    ensures { IfOk result (λ text. string_bytes text ≡ record_text «record» why.now) }
 {
-    let name = reason_name(number);
-    format!(in alloc; "record {record}: refusal {number} {name}")
+    let refusal = refusal_text(alloc, why)?;
+    let refusal = refusal.as_str();
+    format!(in alloc; "record {record}: {refusal}")
 }
 
 /// How many more there are of what was told so far.
@@ -219,8 +183,3 @@ pub fn more_text(alloc: Global, count: u64) -> Result<String, AllocError>
 {
     format!(in alloc; "and {count} more")
 }
-
-/// Each reason has its name under its number.
-pub fn reasons_are_named()
-    ensures { ReasonsAreNamed }
-{}

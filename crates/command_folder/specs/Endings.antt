@@ -6,7 +6,7 @@ use Rattle.command_words.specs.declared.statuses.Failure.TheVariants as failure
 use Rattle.command_words.specs.declared.statuses.Outcome.TheVariants.{Done, Stopped}
 use Rattle.manifest_csv.specs.declared.package_manifests.ManifestFault.{ManifestFault}
 use Rattle.manifest_csv.specs.declared.package_manifests.ManifestFault.TheVariants as manifest
-use Rattle.command_faults.specs.Texts.{fault_text, list_text, refusal_text}
+use Rattle.command_faults.specs.Texts.{fault_text, list_text, record_text, refusal_text}
 use Rattle.store_folder.specs.Faults.{cause_text}
 use Rattle.store_folder.specs.declared.fault.FolderFault.{FolderFault}
 use Rattle.store_folder.specs.declared.fault.FolderFault.TheVariants as folder
@@ -15,7 +15,7 @@ use Rattle.opening_faults.specs.declared.faults.RecoverFault.TheVariants.{NoArch
 use Rattle.command_folder.specs.declared.endings.OpenFault.{OpenFault}
 use Rattle.command_folder.specs.declared.endings.OpenFault.TheVariants.{Folder, Fault}
 use Rattle.command_folder.specs.declared.endings.Ending.{Ending}
-use Rattle.command_folder.specs.declared.endings.Ending.TheVariants.{Usual, BadBody, HoldsPackages, NoSuchPackage, Declined, NoRequest, Unlisted, Unopened, Faulted}
+use Rattle.command_folder.specs.declared.endings.Ending.TheVariants.{Usual, BadBody, HoldsPackages, NoSuchPackage, Declined, RecordDeclined, NoRequest, Unlisted, Unopened, Faulted}
 
 -- all was done; a file or a stream gave out; a growth was refused
 abbrev pub done : Ending
@@ -40,6 +40,7 @@ ending_status BadBody = 1
 ending_status HoldsPackages = 1
 ending_status NoSuchPackage = 1
 ending_status (Declined why) = 1
+ending_status (RecordDeclined number why) = 0
 ending_status NoRequest = 1
 ending_status (Unlisted fault) = 1
 ending_status (Unopened fault) = 3
@@ -81,6 +82,7 @@ output_text BadBody = line_of (codes "refused") (codes "body")
 output_text HoldsPackages = line_of (codes "refused") (codes "folder holds packages")
 output_text NoSuchPackage = line_of (codes "refused") (codes "no such package")
 output_text (Declined why) = []
+output_text (RecordDeclined number why) = []
 output_text NoRequest = []
 output_text (Unlisted fault) = line_of (codes "refused") (codes "list")
 output_text (Unopened fault) = []
@@ -93,6 +95,7 @@ error_text BadBody = []
 error_text HoldsPackages = []
 error_text NoSuchPackage = []
 error_text (Declined why) = []
+error_text (RecordDeclined number why) = []
 error_text NoRequest = []
 error_text (Unlisted fault) = []
 error_text (Unopened fault) = store_line (told_as fault)
@@ -110,6 +113,7 @@ note_text BadBody = []
 note_text HoldsPackages = []
 note_text NoSuchPackage = []
 note_text (Declined why) = refusal_text why
+note_text (RecordDeclined number why) = record_text number why
 note_text NoRequest = []
 note_text (Unlisted fault) = list_text fault
 note_text (Unopened fault) = open_note fault

@@ -1,13 +1,14 @@
 -- A folder of packages, opened. Profile.
-use Rattle.std.specs.Prelude.{◌≡◌, ◌⊎◌, ℕ, List, All, length}
-use Rattle.sqlite.specs.Held.{Held, state}
+use Rattle.std.specs.Prelude.{◌≡◌, ◌⊎◌, ◌+◌, ℕ, List, length}
+use Rattle.sqlite.specs.Held.{Held}
 use Rattle.sqlite.specs.Store.{Ghosts}
-use Rattle.store_folder.specs.Opened.{IsJustOpened}
 use Rattle.world.specs.Worlds.{Seen}
 use Rattle.opening_faults.specs.declared.faults.RecoverFault.{RecoverFault}
 use Rattle.opening.specs.Recovered.{IsRecovered, IsUnopened}
 use Rattle.opening.specs.declared.recovering.Recovered.{Recovered}
 use Rattle.opening.specs.declared.recovering.Unopened.{Unopened}
+use Rattle.command_folder.specs.Choosing.{AreJustOpened, IsChosen, IsGlanced}
+use Rattle.command_folder.specs.declared.choosing.Chosen.{Chosen}
 use Rattle.command_folder.specs.declared.endings.Ending.{Ending}
 use Rattle.command_folder.specs.declared.endings.OpenFault.{OpenFault}
 use Rattle.command_folder.specs.declared.endings.OpenFault.TheVariants.{Fault}
@@ -26,13 +27,23 @@ module _ {S : Type 0} (g : Ghosts S) where
     pub is : IsUnopened g stores refused
     pub same : refused.fault ≡ fault
 
-  abbrev pub AreJustOpened : List (Held S) → Type 0
-  AreJustOpened stores = All (λ h. IsJustOpened (state g h)) stores
+  -- the world of some stores that were just opened, one of each of these packages
+  abbrev pub IsWorldAt : List (List ℕ) → ℕ → Seen S → Type 0
+  IsWorldAt packages strays seen =
+      (stores : List (Held S)) × AreJustOpened g stores × (length stores ≡ length packages) × IsWorldOf stores strays seen
 
-  -- the world of some stores that were just opened, and so many of them are not of it
-  abbrev pub IsFolderBeside : ℕ → Seen S → Type 0
-  IsFolderBeside strays seen =
-      (stores : List (Held S)) × AreJustOpened stores × IsWorldOf stores strays seen
+  -- The world of some stores that were just opened, one of each package that was chosen; those of them that are not of
+  -- it and those that were left out are so many.
+  pub record IsFolderBeside (strays : ℕ) (seen : Seen S) : Type 0 where
+    pub packages : List (List ℕ)
+    pub chosen : Chosen
+    pub chosen_is : IsChosen (λ uuid sight. IsGlanced g sight) packages chosen
+    pub stores : List (Held S)
+    pub each : length stores ≡ length chosen.packages.items
+    pub opened : AreJustOpened g stores
+    pub beside : ℕ
+    pub is : IsWorldOf stores beside seen
+    pub all : strays ≡ beside + chosen.left
 
   -- the world of some stores that were just opened
   abbrev pub IsFolderWorld : Seen S → Type 0

@@ -1,3 +1,4 @@
 pub mod Endings
+pub mod Choosing
 pub mod Folders
 pub mod Printing

@@ -2,7 +2,7 @@
 ghost use Rattle.std.specs.Prelude.{◌≡◌, IfOk, string_bytes};
 ghost use Rattle.command_folder.specs.Endings.{ending_status, error_text, fault_line, note_text, open_note, output_text, store_line, told_as, told_folder};
 
-use command_faults::texts::{fault_text, list_text, refusal_text};
+use command_faults::texts::{fault_text, list_text, record_text, refusal_text};
 use command_words::statuses::{
     Failure, Outcome, error_of as outcome_error, output_of as outcome_output,
     status_of as outcome_status,
@@ -45,6 +45,8 @@ pub enum Ending {
     NoSuchPackage,
     /// The request was refused, and the refusal is printed.
     Declined(Refusal),
+    /// The request of this record of a list was refused, and its line is printed. The list goes on.
+    RecordDeclined(u64, Refusal),
     /// The words say no request, and why is printed. Nothing was done.
     NoRequest,
     /// The file is no list. Nothing was done.
@@ -70,6 +72,7 @@ pub fn status_of(ending: Ending) -> u8
 {
     match ending {
         Ending::Usual(outcome) => outcome_status(outcome),
+        Ending::RecordDeclined(_, _) => 0,
         Ending::BadBody
         | Ending::HoldsPackages
         | Ending::NoSuchPackage
@@ -149,7 +152,10 @@ pub fn output_of(ending: Ending) -> &'static str
         Ending::NoSuchPackage => "refused: no such package\n",
         Ending::Unlisted(_) => "refused: list\n",
         Ending::Faulted(fault) => fault_line(told_fault(fault)),
-        Ending::Declined(_) | Ending::NoRequest | Ending::Unopened(_) => "",
+        Ending::Declined(_)
+        | Ending::RecordDeclined(_, _)
+        | Ending::NoRequest
+        | Ending::Unopened(_) => "",
     }
 }
 
@@ -164,6 +170,7 @@ pub fn error_of(ending: Ending) -> &'static str
         | Ending::HoldsPackages
         | Ending::NoSuchPackage
         | Ending::Declined(_)
+        | Ending::RecordDeclined(_, _)
         | Ending::NoRequest
         | Ending::Unlisted(_)
         | Ending::Faulted(_) => "",
@@ -193,6 +200,7 @@ pub fn note_of(alloc: Global, ending: Ending) -> Result<String, AllocError>
         Ending::Unopened(fault) | Ending::Faulted(fault) => open_note(alloc, fault),
         Ending::Unlisted(fault) => list_text(alloc, fault),
         Ending::Declined(why) => refusal_text(alloc, &why),
+        Ending::RecordDeclined(number, why) => record_text(alloc, number, &why),
         Ending::Usual(_)
         | Ending::BadBody
         | Ending::HoldsPackages

@@ -1,7 +1,9 @@
 //! A folder of packages, opened as the world that its stores stand for.
 ghost use Rattle.std.specs.Prelude.{IfOk};
-ghost use Rattle.command_folder.specs.Folders.{AreJustOpened, IsFolderBeside};
+ghost use Rattle.command_folder.specs.Choosing.{AreJustOpened};
+ghost use Rattle.command_folder.specs.Folders.{IsFolderBeside, IsWorldAt, IsWorldOf};
 
+use crate::choosing::{FolderGlances, choose};
 use crate::endings::OpenFault;
 use crate::watching::opening_line;
 use opening::recovering::{Recovered, Unopened, recover};
@@ -9,6 +11,7 @@ use opening_stores::watching::Watcher;
 use sqlite::{Alter, Connection};
 use sqlite_trees::store::Store;
 use std::alloc::Global;
+use store_folder::fault::FolderFault;
 use store_folder::listing::list;
 use store_folder::locking::{FolderLock, lock_folder};
 use store_folder::opening::{close_stores, open_stores};
@@ -24,7 +27,7 @@ fn world_of<S: Alter + Drop, W: Watcher>(
     watcher: &mut W,
 ) -> (Result<(World<S>, usize), OpenFault>, Vec<Connection<S>>)
     requires { AreJustOpened S.Store stores.items }
-    ensures { IfOk result.0 (λ found. IsFolderBeside S.Store found.1 found.0) }
+    ensures { IfOk result.0 (λ found. IsWorldOf S.Store stores.items found.1 found.0) }
 {
     match recover(alloc, stores, watcher) {
         Ok(Recovered { world, strays }) => {
@@ -53,13 +56,30 @@ fn world_at(
     folder: &str,
     packages: &[Uuid],
 ) -> Result<(World<FolderStore>, usize), OpenFault>
-    ensures { IfOk result (λ found. IsFolderBeside ⟦<FolderStore as Store>⟧ found.1 found.0) }
+    ensures { IfOk result (λ found. IsWorldAt ⟦<FolderStore as Store>⟧ packages.now found.1 found.0) }
 {
     let stores = open_stores(rt, folder, packages)?;
     let mut line = opening_line(rt);
     let (found, rest) = world_of(rt.alloc(), stores, &mut line);
     close_stores(rest);
     found
+}
+
+/// The world of all files of a folder whose name is that of a package's file. Of many only those are held open that
+/// live, and the others are glanced at, one after the other.
+fn world_in(
+    rt: &HostRuntime,
+    folder: &str,
+    packages: Vec<Uuid>,
+) -> Result<(World<FolderStore>, usize), OpenFault>
+    ensures { IfOk result (λ found. IsFolderBeside ⟦<FolderStore as Store>⟧ found.1 found.0) }
+{
+    let chosen = choose(rt.alloc(), &FolderGlances { rt, folder }, packages)?;
+    let (world, beside) = world_at(rt, folder, &chosen.packages)?;
+    match beside.checked_add(chosen.left) {
+        Some(strays) => Ok((world, strays)),
+        None => Err(OpenFault::Folder(FolderFault::OutOfMemory)),
+    }
 }
 
 /// The world that the packages of a folder stand for: of all files whose name is that of a package's
@@ -76,7 +96,7 @@ pub fn open_folder(rt: &HostRuntime, folder: &str) -> Result<OpenFolder, OpenFau
 {
     let lock = lock_folder(rt, folder)?;
     let listing = list(rt, folder)?;
-    let (world, strays) = world_at(rt, folder, &listing.packages)?;
+    let (world, strays) = world_in(rt, folder, listing.packages)?;
     Ok(OpenFolder {
         world,
         strays,

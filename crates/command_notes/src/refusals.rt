@@ -1,110 +1,71 @@
-//! Which records of a list were refused, as the lines of its report go by.
-use command_faults::texts::{more_text, refused_text};
-use std::alloc::Global;
-use std::io::{Result, Write};
-use std::str::from_utf8;
+//! Which records of a list were refused, and why.
+use command_faults::texts::{more_text, record_text};
+use sheet_types::receipt::Receipt;
+use sheet_types::refusal::Refusal;
+use std::alloc::{AllocError, Global};
+use std::io::{Result as IoResult, Write};
 
 /// How many refusals are told one by one.
 const MOST: usize = 20;
 
-/// The record and the reason of a line of a report, where it is one of a refusal.
-fn refused(line: &str) -> Option<(u64, u8)> {
-    let mut fields = line.split(',');
-    let record = fields.next()?.parse::<u64>().ok()?;
-    let reason = fields.nth(2)?.parse::<u8>().ok()?;
-    if reason == 0 {
-        return None;
-    }
-    Some((record, reason))
-}
-
-/// The refusals of a report: the first of them, and how many there are.
+/// The refusals of a list: the lines of the first of them, and how many there are.
 #[derive(Drop)]
 pub struct Tally {
-    line: Vec<u8>,
-    first: Vec<(u64, u8)>,
+    lines: Vec<String>,
     count: u64,
 }
 
 impl Tally {
-    /// Of no line.
+    /// Of no refusal.
     pub fn new(alloc: Global) -> Tally {
         Tally {
-            line: Vec::new(alloc),
-            first: Vec::new(alloc),
+            lines: Vec::new(alloc),
             count: 0,
         }
     }
 
-    /// Notes a line that is whole.
-    fn note_line(&mut self) {
-        let Ok(line) = from_utf8(self.line.as_slice()) else {
-            return;
-        };
-        let Some(found) = refused(line) else {
-            return;
-        };
+    /// Notes one more, and keeps its line where it is of the first.
+    fn note_line(&mut self, line: Result<String, AllocError>) {
         self.count = self.count.saturating_add(1);
-        if self.first.len() < MOST {
+        if self.lines.len() >= MOST {
+            return;
+        }
+        if let Ok(line) = line {
             // Without memory it is counted alone.
-            let _noted = self.first.push(found);
+            let _noted = self.lines.push(line);
         }
     }
 
-    /// Notes what was written.
-    pub fn note(&mut self, bytes: &[u8]) {
-        for byte in bytes {
-            if *byte == b'\n' {
-                self.note_line();
-                self.line.clear();
-            } else {
-                let _kept = self.line.push(*byte);
-            }
+    /// Notes what came of the request of this number. Want of memory and a fault of a store end a list, and are told at
+    /// its end.
+    pub fn note(&mut self, alloc: Global, number: u64, reply: &Result<Receipt, Refusal>) {
+        match reply {
+            Ok(_) | Err(Refusal::OutOfMemory) | Err(Refusal::StoreFault) => {}
+            Err(why) => self.note_line(record_text(alloc, number, why)),
         }
     }
 
-    /// Writes a line for each of the first, and how many more there are.
+    /// Notes a refusal whose line a desk told.
+    pub fn note_told(&mut self, alloc: Global, line: &str) {
+        self.note_line(String::from_str(alloc, line));
+    }
+
+    /// Writes the lines of the first, and how many more there are.
     ///
     /// # Errors
     ///
     /// Want of memory, or a writer that fails.
-    pub fn write<W: Write>(&self, alloc: Global, writer: &mut W) -> Result<()> {
-        for (record, reason) in self.first.iter() {
-            let text = refused_text(alloc, *record, *reason)?;
-            writer.write_all(text.as_bytes())?;
+    pub fn write<W: Write>(&self, alloc: Global, writer: &mut W) -> IoResult<()> {
+        for line in self.lines.iter() {
+            writer.write_all(line.as_bytes())?;
             writer.write_all(b"\n")?;
         }
-        let more = self.count.saturating_sub(self.first.len() as u64);
+        let more = self.count.saturating_sub(self.lines.len() as u64);
         if more > 0 {
             let text = more_text(alloc, more)?;
             writer.write_all(text.as_bytes())?;
             writer.write_all(b"\n")?;
         }
         Ok(())
-    }
-}
-
-/// A writer, and the refusals of the report that it is given. What goes out is what it is given.
-#[derive(Drop)]
-pub struct Noted<W> {
-    /// Where the report goes.
-    pub writer: W,
-    /// What is noted; nothing where what is written is no report.
-    pub tally: Option<Tally>,
-}
-
-impl<W: Write> Write for Noted<W> {
-    ghost contents = { λ noted. W.contents noted.writer };
-
-    fn write(&mut self, buf: &[u8]) -> Result<usize> {
-        let count = self.writer.write(buf)?;
-        if let Some(tally) = &mut self.tally {
-            tally.note(buf.get(..count).unwrap_or(b""));
-        }
-        Ok(count)
-    }
-
-    fn flush(&mut self) -> Result<()> {
-        self.writer.flush()
     }
 }

@@ -6,6 +6,8 @@ ghost use Rattle.command_words.specs.Progress.{IsDue, are_read, counted_text, op
 use itoa::Buffer;
 pub use manifest_csv::progress::{Silent, Teller};
 use manifest_csv::sending::{WriteFault, send};
+use sheet_types::receipt::Receipt;
+use sheet_types::refusal::Refusal;
 use std::io::Write;
 
 /// Whether a count is told: of each thousandth request.
@@ -71,13 +73,20 @@ pub struct Progress<W: Write + Drop> {
     pub writer: W,
 }
 
-impl<W: Write + Drop> Teller for Progress<W> {
-    ghost told = { λ _. None };
-
-    fn tell(&mut self, done: u64, all: u64) {
+impl<W: Write + Drop> Progress<W> {
+    /// Of `all` requests so many are done.
+    pub fn tell_count(&mut self, done: u64, all: u64) {
         if is_due(done) {
             // An import goes on where nobody can be told how far it is.
             let _untold = write_progress(&mut self.writer, done, all);
         }
+    }
+}
+
+impl<W: Write + Drop> Teller for Progress<W> {
+    ghost told = { λ _. None };
+
+    fn tell(&mut self, done: u64, all: u64, _reply: &Result<Receipt, Refusal>) {
+        self.tell_count(done, all);
     }
 }

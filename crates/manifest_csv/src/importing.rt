@@ -53,7 +53,7 @@ impl From<WriteFault> for ImportFault {
 }
 
 /// The fault that a reply ends an import with, if it does.
-fn end_of(reply: &Result<Receipt, Refusal>) -> Option<Fault>
+pub fn end_of(reply: &Result<Receipt, Refusal>) -> Option<Fault>
     ensures { IsEndOf reply.now result }
 {
     match reply {
@@ -85,7 +85,7 @@ fn report_each<S: Alter + Drop, H: Shelf<S>, W: Write, T: Teller>(
         let reply = world.apply(alloc, request, shelf);
         put_line(buffer, at as u64 + 1, request.id, &reply);
         send(writer, buffer.as_bytes())?;
-        teller.tell(at as u64 + 1, requests.len() as u64);
+        teller.tell(at as u64 + 1, requests.len() as u64, &reply);
         if let Some(fault) = end_of(&reply) {
             return Err(ImportFault::Stopped(at as u64 + 1, fault));
         }

@@ -4,8 +4,9 @@ mod ContentFacts
 mod FormFacts
 mod ListFacts
 mod NoneFacts
-mod OneReading
+pub mod OneReading
 mod OneRequest
 mod OneWord
+pub mod ReaderFacts
 mod RecordFacts
 mod WordFacts

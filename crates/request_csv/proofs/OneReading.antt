@@ -14,7 +14,7 @@ use Rattle.csv.specs.declared.parser.State.{State}
 use Rattle.sheet_types.specs.declared.command.Request.{Request}
 use Rattle.request_csv.specs.Requests.{header}
 use Rattle.request_csv.specs.RequestLists.{AreList, Asks, IsFaultFrom, IsFaultOf}
-use Rattle.request_csv.specs.ListLaws.{HasOneList, ListHasNoFault, OneIsFirst}
+use Rattle.request_csv.specs.ListLaws.{HasOneList, ListGoesOn, ListHasNoFault, OneIsFirst}
 use Rattle.request_csv.specs.declared.lists.ReadFault.{ReadFault}
 use Rattle.request_csv.proofs.OneRequest.{same_request}
 
@@ -176,3 +176,22 @@ one_is_first text one other (inr (rows, front, met)) (inr (lines, start, seen)) 
     go : ((more : List (List (List ℕ))) × (lines ≡ rows ++ more)) ⊎ ((more : List (List (List ℕ))) × (rows ≡ lines ++ more)) → one ≡ other
     go (inl longer) = same_fault lines one other (rw longer.1 (fault_grows rows longer.0 one met)) seen
     go (inr longer) = same_fault rows one other met (rw longer.1 (fault_grows lines longer.0 other seen))
+
+-- the requests of the first records are the first of the requests
+first_requests : (front more : List (List (List ℕ))) (all some : List Request) → AllZip Asks (front ++ more) all → AllZip Asks front some → (rest : List Request) × (all ≡ some ++ rest)
+first_requests [] more all [] one other = (all, refl)
+first_requests [] more all (q ∷ qs) one other = absurd other
+first_requests (r ∷ rs) more [] some one other = absurd one
+first_requests (r ∷ rs) more (p ∷ ps) [] one other = absurd other
+first_requests (r ∷ rs) more (p ∷ ps) (q ∷ qs) one other =
+    let tail = first_requests rs more ps qs one.1 other.1 in
+    (tail.0, heads p q _ _ (same_request r p q one.0 other.0) tail.1)
+
+first_of_list : (front more : List (List (List ℕ))) (all some : List Request) → AreList (front ++ more) all → AreList front some → (rest : List Request) × (all ≡ some ++ rest)
+first_of_list [] more all some one other = absurd other
+first_of_list (r ∷ rs) more all some one other = first_requests rs more all some one.1 other.1
+
+pub list_goes_on : ListGoesOn
+list_goes_on text all some (rows, whole, are) (front, first, begun) =
+    let grown = front_of_all _ _ _ rows front _ _ whole first.2 in
+    first_of_list front grown.0 all some (rw grown.1 at are) begun

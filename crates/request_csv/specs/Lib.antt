@@ -1,5 +1,6 @@
 pub mod Causes
 pub mod Forms
 pub mod ListLaws
+pub mod ListReading
 pub mod RequestLists
 pub mod Requests

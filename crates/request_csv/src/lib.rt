@@ -9,6 +9,7 @@ pub mod forms;
 pub mod list_laws;
 pub mod lists;
 mod loans;
+pub mod readers;
 mod records;
 mod requests;
 pub mod sources;

@@ -86,7 +86,7 @@ fn is_header(row: &StringRecord) -> bool
 }
 
 /// The request that a record after the header is; `number` is its place, counted from 1.
-fn request_in(alloc: Global, number: u64, row: ByteRecord) -> Result<Request, ReadFault>
+pub(crate) fn request_in(alloc: Global, number: u64, row: ByteRecord) -> Result<Request, ReadFault>
     ensures asks { IfOk result (λ request. Asks (fields_of row) request) }
     ensures fault { IfErr result (λ met. (met ≡ fault.Memory) ⊎ IsFaultFrom number (fields_of row ∷ []) met) }
 {
@@ -104,7 +104,7 @@ fn request_in(alloc: Global, number: u64, row: ByteRecord) -> Result<Request, Re
 }
 
 /// Refuses a first record that is not the names of the columns.
-fn check_header(row: ByteRecord) -> Result<(), ReadFault>
+pub(crate) fn check_header(row: ByteRecord) -> Result<(), ReadFault>
     ensures ok { IfOk result (λ _. fields_of row ≡ header) }
     ensures fault { IfErr result (λ met. IsFaultOf (fields_of row ∷ []) met) }
 {

@@ -6,17 +6,77 @@ use crate::running::{ended, ended_with, out_of_memory, output_failed, text_of};
 use crate::streams::Onlooker;
 use clap::ArgMatches;
 use command_folder::endings::{Ending, NO_MEMORY};
-use command_notes::refusals::Noted;
-use command_words::progress::Teller;
+use command_notes::refusals::Tally;
 use desk_asking::answers::AnswerFault;
 use desk_asking::desks::DeskAt;
 use manifest_csv::reports::header_line;
 use request_csv::lists::{ReadFault, read_requests};
+use request_csv::readers::{ListReader, judge_requests};
 use request_csv::sources::Stream;
 use sheet_types::command::Request;
-use std::alloc::AllocError;
-use std::fs::File;
+use std::alloc::{AllocError, Global};
+use std::fs::{self, File};
 use std::io::{self, ErrorKind, Write};
+use std::str::from_utf8;
+use std::vec::IntoIter;
+
+/// The requests of a list, of which one after the other is carried out.
+#[derive(Drop)]
+enum Rows {
+    /// They are held.
+    Held(IntoIter<Request>),
+    /// They are read from a file, which was read before.
+    Read(ListReader<Stream<File>>),
+}
+
+impl Rows {
+    /// The next one, if there is one.
+    fn next_row(&mut self, alloc: Global) -> Result<Option<Request>, ReadFault> {
+        match self {
+            Rows::Held(requests) => Ok(requests.next()),
+            Rows::Read(list) => list.next_request(alloc),
+        }
+    }
+}
+
+/// What a desk told standard error of a list.
+#[derive(Drop)]
+struct Said {
+    /// Of the records that were refused, where that is to be told.
+    tally: Option<Tally>,
+    /// Of what ended the list.
+    last: Vec<u8>,
+}
+
+impl Said {
+    /// Nothing so far.
+    fn new(rt: &HostRuntime, tally: Option<Tally>) -> Said {
+        Said {
+            tally,
+            last: Vec::new(rt.alloc()),
+        }
+    }
+
+    /// Notes what was told of a record, by the status that was answered. Of one that was refused it is a line.
+    fn note(&mut self, rt: &HostRuntime, status: u8, told: Vec<u8>) {
+        if status != 0 {
+            self.last = told;
+            return;
+        }
+        let Some(tally) = &mut self.tally else {
+            return;
+        };
+        for line in from_utf8(told.as_slice()).unwrap_or("").lines() {
+            tally.note_told(rt.alloc(), line);
+        }
+    }
+
+    /// Tells it.
+    fn print(&self, rt: &HostRuntime) {
+        print_refusals(rt, &self.tally);
+        let _told = rt.stderr().write_all(self.last.as_slice());
+    }
+}
 
 /// How far a list came.
 #[derive(Clone, Copy)]
@@ -26,7 +86,9 @@ enum ListEnd {
     /// The report could not be written.
     Unwritten,
     /// So many requests were answered, and the next one was not.
-    Broken(usize, Silence),
+    Broken(u64, Silence),
+    /// So many requests were answered. The file had another list at its second reading.
+    Changed(u64),
 }
 
 /// What is said of a list that broke off, where its requests have UUIDs of their own.
@@ -38,19 +100,19 @@ const BRING_AGAIN: &str =
     "what they changed stays: export the package again, and compare, before the file is brought again";
 
 /// The words by which the line of a report is asked for.
-fn row_words(rt: &HostRuntime, number: usize) -> Result<Vec<String>, AllocError> {
+fn row_words(rt: &HostRuntime, number: u64) -> Result<Vec<String>, AllocError> {
     let number = format!(in rt.alloc(); "{number}")?;
     words_of(rt, ["row", number.as_str()].as_slice())
 }
 
 /// Has a desk carry out the request of a list that has this number, and copies the line of its report.
-fn ask_row<W: Write, E: Write>(
+fn ask_row<W: Write>(
     rt: &HostRuntime,
     desk: &DeskAt<'_>,
-    number: usize,
+    number: u64,
     request: &Request,
     output: &mut W,
-    errors: &mut E,
+    said: &mut Said,
 ) -> Result<u8, Silence> {
     let Ok(words) = row_words(rt, number) else {
         return Err(WANT);
@@ -58,22 +120,40 @@ fn ask_row<W: Write, E: Write>(
     let Ok(text) = row_text(rt.alloc(), request) else {
         return Err(WANT);
     };
-    ask(rt, desk, words.as_slice(), text.as_bytes(), output, errors)
+    let mut told = Vec::new(rt.alloc());
+    let input = text.as_bytes();
+    let status = ask(rt, desk, words.as_slice(), input, output, &mut told)?;
+    said.note(rt, status, told);
+    Ok(status)
 }
 
-/// Has a desk carry out requests in turn, and copies the line of each.
-fn ask_rows<W: Write, E: Write>(
+/// How a list ends whose file has no more requests at its second reading, or a fault, after so many.
+fn end_of_rows(done: u64, all: u64, last: Result<Option<Request>, ReadFault>) -> ListEnd {
+    match last {
+        Ok(None) if done == all => ListEnd::Ended(0),
+        Err(ReadFault::Memory) => ListEnd::Broken(done, WANT),
+        _ => ListEnd::Changed(done),
+    }
+}
+
+/// Has a desk carry out so many requests in turn, and copies the line of each.
+fn ask_rows<W: Write>(
     rt: &HostRuntime,
     desk: &DeskAt<'_>,
-    requests: &[Request],
+    mut rows: Rows,
+    all: u64,
     output: &mut W,
-    errors: &mut E,
+    said: &mut Said,
 ) -> ListEnd {
     let mut teller = Onlooker::new(rt, false);
-    for at in 0..requests.len() {
-        match ask_row(rt, desk, at + 1, &requests[at], &mut *output, &mut *errors) {
+    for at in 0..all {
+        let request = match rows.next_row(rt.alloc()) {
+            Ok(Some(request)) => request,
+            last => return end_of_rows(at, all, last),
+        };
+        match ask_row(rt, desk, at + 1, &request, &mut *output, &mut *said) {
             Ok(status) => {
-                teller.tell(at as u64 + 1, requests.len() as u64);
+                teller.tell_count(at + 1, all);
                 if status != 0 {
                     return ListEnd::Ended(status);
                 }
@@ -81,19 +161,20 @@ fn ask_rows<W: Write, E: Write>(
             Err(why) => return ListEnd::Broken(at, why),
         }
     }
-    ListEnd::Ended(0)
+    end_of_rows(all, all, rows.next_row(rt.alloc()))
 }
 
 /// The same, with the names of the columns before the lines.
-fn report<W: Write, E: Write>(
+fn report<W: Write>(
     rt: &HostRuntime,
     desk: &DeskAt<'_>,
-    requests: &[Request],
+    rows: Rows,
+    all: u64,
     output: &mut W,
-    errors: &mut E,
+    said: &mut Said,
 ) -> ListEnd {
     match output.write_all(header_line().as_bytes()) {
-        Ok(()) => ask_rows(rt, desk, requests, output, errors),
+        Ok(()) => ask_rows(rt, desk, rows, all, output, said),
         Err(_) => ListEnd::Unwritten,
     }
 }
@@ -102,8 +183,8 @@ fn report<W: Write, E: Write>(
 fn tell_broken(
     rt: &HostRuntime,
     desk: &DeskAt<'_>,
-    answered: usize,
-    all: usize,
+    answered: u64,
+    all: u64,
     why: Silence,
     again: &str,
 ) -> u8 {
@@ -112,26 +193,68 @@ fn tell_broken(
     status
 }
 
+/// Says how far a list came whose file was another one at its second reading, and answers the exit status.
+fn tell_changed(rt: &HostRuntime, answered: u64) -> u8 {
+    let status = output_failed(rt);
+    let _printed = eprintln!(rt;
+        "list: the second reading had another list than the first: {answered} requests were carried out"
+    );
+    status
+}
+
 /// Tells how a list ended, and answers the exit status.
-fn tell_end(rt: &HostRuntime, desk: &DeskAt<'_>, end: ListEnd, all: usize, again: &str) -> u8 {
+fn tell_end(rt: &HostRuntime, desk: &DeskAt<'_>, end: ListEnd, all: u64, again: &str) -> u8 {
     match end {
         ListEnd::Ended(status) => status,
         ListEnd::Unwritten => output_failed(rt),
         ListEnd::Broken(answered, why) => tell_broken(rt, desk, answered, all, why, again),
+        ListEnd::Changed(answered) => tell_changed(rt, answered),
     }
 }
 
-/// The requests of the list in a file. One that cannot be opened is no list.
-fn read_list(rt: &HostRuntime, file: &str) -> Result<Vec<Request>, Ending> {
-    let reader = match File::open(rt, file) {
-        Ok(reader) => reader,
-        Err(error) if error.kind() == ErrorKind::OutOfMemory => return Err(NO_MEMORY),
-        Err(_) => return Err(Ending::Unlisted(ReadFault::Read)),
-    };
-    match read_requests(rt.alloc(), Stream(reader)) {
-        Ok(requests) => Ok(requests),
-        Err(ReadFault::Memory) => Err(NO_MEMORY),
-        Err(fault) => Err(Ending::Unlisted(fault)),
+/// A file, opened. One that cannot be is no list.
+fn open_list(rt: &HostRuntime, file: &str) -> Result<Stream<File>, Ending> {
+    match File::open(rt, file) {
+        Ok(reader) => Ok(Stream(reader)),
+        Err(error) if error.kind() == ErrorKind::OutOfMemory => Err(NO_MEMORY),
+        Err(_) => Err(Ending::Unlisted(ReadFault::Read)),
+    }
+}
+
+/// How a list ends that is none.
+fn unlisted(fault: ReadFault) -> Ending {
+    match fault {
+        ReadFault::Memory => NO_MEMORY,
+        fault => Ending::Unlisted(fault),
+    }
+}
+
+/// Whether a file can be read twice: of a pipe no byte comes again.
+fn is_read_twice(rt: &HostRuntime, file: &str) -> bool {
+    match fs::metadata(rt, file) {
+        Ok(found) => found.is_file(),
+        Err(_) => false,
+    }
+}
+
+/// The requests of the list of a reader, held, and how many there are.
+fn held_rows(rt: &HostRuntime, reader: Stream<File>) -> Result<(Rows, u64), ReadFault> {
+    let requests = read_requests(rt.alloc(), reader)?;
+    let all = requests.len() as u64;
+    Ok((Rows::Held(requests.into_iter()), all))
+}
+
+/// The requests of the list in a file, and how many there are. They are read twice where that can be, and else held.
+fn read_list(rt: &HostRuntime, file: &str) -> Result<(Rows, u64), Ending> {
+    let first = open_list(rt, file)?;
+    if !is_read_twice(rt, file) {
+        return held_rows(rt, first).map_err(unlisted);
+    }
+    let all = judge_requests(rt.alloc(), first).map_err(unlisted)?;
+    let second = open_list(rt, file)?;
+    match ListReader::open(rt.alloc(), second) {
+        Ok(list) => Ok((Rows::Read(list), all)),
+        Err(fault) => Err(unlisted(fault)),
     }
 }
 
@@ -143,25 +266,20 @@ fn tell_unlisted(rt: &HostRuntime, given: &ArgMatches<'_>, ending: &Ending) -> u
     }
 }
 
-/// Carries out the requests of a list by a desk, and tells which of them were refused. What the desk tells standard
-/// error stands behind that.
-fn import_requests(rt: &HostRuntime, desk: &DeskAt<'_>, requests: &[Request]) -> u8 {
-    let mut writer = Noted {
-        writer: io::writer(rt),
-        tally: tally_for(rt, "import"),
-    };
-    let mut errors = Vec::new(rt.alloc());
-    let end = report(rt, desk, requests, &mut writer, &mut errors);
-    print_refusals(rt, &writer.tally);
-    let _told = rt.stderr().write_all(errors.as_slice());
-    tell_end(rt, desk, end, requests.len(), IMPORT_AGAIN)
+/// Carries out the requests of a list by a desk, and tells which of them were refused. What the desk tells of the last
+/// one stands behind that.
+fn import_rows(rt: &HostRuntime, desk: &DeskAt<'_>, rows: Rows, all: u64) -> u8 {
+    let mut said = Said::new(rt, tally_for(rt, "import"));
+    let end = report(rt, desk, rows, all, &mut io::writer(rt), &mut said);
+    said.print(rt);
+    tell_end(rt, desk, end, all, IMPORT_AGAIN)
 }
 
 /// Carries out the list of a file by a desk, and answers the exit status. The whole list is read before the desk is
-/// asked.
+/// asked; a file is then read again, request by request.
 pub(crate) fn import_by(rt: &HostRuntime, desk: &DeskAt<'_>, given: &ArgMatches<'_>) -> u8 {
     match read_list(rt, text_of(given, "file")) {
-        Ok(requests) => import_requests(rt, desk, requests.as_slice()),
+        Ok((rows, all)) => import_rows(rt, desk, rows, all),
         Err(ending) => tell_unlisted(rt, given, &ending),
     }
 }
@@ -170,9 +288,12 @@ pub(crate) fn import_by(rt: &HostRuntime, desk: &DeskAt<'_>, given: &ArgMatches<
 pub(crate) fn bring_list_by(rt: &HostRuntime, desk: &DeskAt<'_>, list: &[u8]) -> u8 {
     match read_requests(rt.alloc(), list) {
         Ok(requests) => {
-            let requests = requests.as_slice();
-            let end = report(rt, desk, requests, &mut io::writer(rt), &mut rt.stderr());
-            tell_end(rt, desk, end, requests.len(), BRING_AGAIN)
+            let all = requests.len() as u64;
+            let rows = Rows::Held(requests.into_iter());
+            let mut said = Said::new(rt, None);
+            let end = report(rt, desk, rows, all, &mut io::writer(rt), &mut said);
+            said.print(rt);
+            tell_end(rt, desk, end, all, BRING_AGAIN)
         }
         Err(ReadFault::Memory) => out_of_memory(rt),
         Err(_) => tell_silence(rt, desk, Silence::Faulty(AnswerFault::Cut)),

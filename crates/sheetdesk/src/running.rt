@@ -24,7 +24,6 @@ use cli::serving::rehearse_and_serve;
 use command_folder::endings::{Ending, FAILED, NO_MEMORY, error_of, note_of, output_of, status_of};
 use command_help::completions::BASH;
 use command_help::words::sheetdesk;
-use command_notes::refusals::Noted;
 use command_words::arguments::{DeskWords, Words};
 use command_words::statuses::Outcome;
 use commands::tidying::tidy;
@@ -246,10 +245,8 @@ fn changed(rt: &HostRuntime, name: &str, given: &ArgMatches<'_>, reader: &mut In
     let Some(asked) = asked_work(name, given) else {
         return Ending::Usual(rehearsed(rt, given, reader, &mut teller));
     };
-    let mut writer = Noted {
-        writer: io::writer(rt),
-        tally: tally_for(rt, name),
-    };
+    teller.tally = tally_for(rt, name);
+    let mut writer = io::writer(rt);
     let mut clerk = FolderClerk::new(rt, folder, key.as_str());
     let ending = work_for(
         rt,
@@ -264,7 +261,7 @@ fn changed(rt: &HostRuntime, name: &str, given: &ArgMatches<'_>, reader: &mut In
         // Where nobody else has the folder by now, the file of the desk goes.
         let _held = is_held(rt, folder);
     }
-    print_refusals(rt, &writer.tally);
+    print_refusals(rt, &teller.tally);
     ending
 }
 

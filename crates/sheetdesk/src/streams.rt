@@ -5,10 +5,13 @@ use crate::clock::moment_now;
 use crate::desk_files::{DeskPlace, keep_desk};
 use crate::outputs::Headed;
 use crate::settling::settle_heap;
+use command_notes::refusals::Tally;
 use command_words::desk_lines::{exchange_line, listening_line};
 use command_words::progress::{Progress, Teller};
 use desk_http::telling::DeskTeller;
-use std::io::{IsTerminal, Printer, Read, Result, Stderr, StdinLock, Write};
+use sheet_types::receipt::Receipt;
+use sheet_types::refusal::Refusal;
+use std::io::{IsTerminal, Printer, Read, Result as IoResult, Stderr, StdinLock, Write};
 
 /// What a command reads.
 #[derive(Drop)]
@@ -30,7 +33,7 @@ impl<'a> Input<'a> {
 }
 
 impl<'a> Read for Input<'a> {
-    fn read(&mut self, buf: &mut [u8]) -> Result<usize> {
+    fn read(&mut self, buf: &mut [u8]) -> IoResult<usize> {
         match self {
             Input::Standard(reader) => reader.read(buf),
             Input::File(bytes) => bytes.read(buf),
@@ -50,7 +53,7 @@ pub(crate) enum Output<'a> {
 }
 
 impl<'a> Write for Output<'a> {
-    fn write(&mut self, buf: &[u8]) -> Result<usize> {
+    fn write(&mut self, buf: &[u8]) -> IoResult<usize> {
         match self {
             Output::Standard(writer) => writer.write(buf),
             Output::Headed(writer) => writer.write(buf),
@@ -58,7 +61,7 @@ impl<'a> Write for Output<'a> {
         }
     }
 
-    fn flush(&mut self) -> Result<()> {
+    fn flush(&mut self) -> IoResult<()> {
         match self {
             Output::Standard(writer) => writer.flush(),
             Output::Headed(writer) => writer.flush(),
@@ -67,14 +70,16 @@ impl<'a> Write for Output<'a> {
     }
 }
 
-/// Who is told how far a list is, and of a desk: standard error. Of a list it is told only where it is a terminal, and of each
-/// connection only where that was asked for.
+/// Who is told how far a list is, and of a desk: standard error. How far it is told only where it is a terminal, and of
+/// each connection only where that was asked for. The refusals of a list are noted, to be told at its end.
 #[derive(Drop)]
 pub(crate) struct Onlooker<'r> {
     rt: &'r HostRuntime,
     terminal: Option<Progress<Stderr>>,
     logs: bool,
     place: Option<DeskPlace<'r>>,
+    /// What notes refusals; nothing where they are not to be told.
+    pub(crate) tally: Option<Tally>,
 }
 
 impl<'r> Onlooker<'r> {
@@ -90,6 +95,14 @@ impl<'r> Onlooker<'r> {
             terminal,
             logs,
             place: None,
+            tally: None,
+        }
+    }
+
+    /// Of `all` requests so many are done.
+    pub(crate) fn tell_count(&mut self, done: u64, all: u64) {
+        if let Some(terminal) = &mut self.terminal {
+            terminal.tell_count(done, all);
         }
     }
 
@@ -103,13 +116,13 @@ impl<'r> Onlooker<'r> {
     }
 
     /// Writes the line of a port.
-    fn write_port(&self, port: u16) -> Result<()> {
+    fn write_port(&self, port: u16) -> IoResult<()> {
         let line = listening_line(self.rt.alloc(), port)?;
         self.rt.stderr().write_all(line.as_bytes())
     }
 
     /// Writes the line of a connection.
-    fn write_exchange(&self, request: &[u8], status: &[u8]) -> Result<()> {
+    fn write_exchange(&self, request: &[u8], status: &[u8]) -> IoResult<()> {
         let moment = moment_now(self.rt)?;
         let line = exchange_line(self.rt.alloc(), moment.as_str(), request, status)?;
         self.rt.stderr().write_all(line.as_slice())
@@ -119,9 +132,10 @@ impl<'r> Onlooker<'r> {
 impl<'r> Teller for Onlooker<'r> {
     ghost told = { λ _. None };
 
-    fn tell(&mut self, done: u64, all: u64) {
-        if let Some(terminal) = &mut self.terminal {
-            terminal.tell(done, all);
+    fn tell(&mut self, done: u64, all: u64, reply: &Result<Receipt, Refusal>) {
+        self.tell_count(done, all);
+        if let Some(tally) = &mut self.tally {
+            tally.note(self.rt.alloc(), done, reply);
         }
     }
 }

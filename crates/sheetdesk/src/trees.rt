@@ -40,7 +40,7 @@ impl<'r, 't> Tree<'r, 't> {
 
     /// Tells how far it is.
     fn tell(&mut self) {
-        self.teller.tell(self.done, self.all);
+        self.teller.tell_count(self.done, self.all);
         self.done = self.done.saturating_add(1);
     }
 

@@ -87,6 +87,10 @@ fn each_ending_has_its_status_and_its_lines(rt: HostRuntime) {
             "1 ||refusal 22 Collides: the place of tile 00000000-0000-0000-0000-000000000007 is taken",
         ),
         (
+            End::Command(Ending::RecordDeclined(17, Refusal::LoanOpen(Uuid::from_u128(7)))),
+            "0 ||record 17: refusal 21 LoanOpen: loan 00000000-0000-0000-0000-000000000007 is not home",
+        ),
+        (
             End::Command(Ending::Unlisted(ReadFault::Record(17))),
             "1 refused: list\n||list: record 17 is no request",
         ),

@@ -23,7 +23,7 @@ fn written(alloc: Global, done: Done, room: usize, wrote: Wrote) -> Result<Strin
     let went = match done {
         Done::Told(done) => {
             let mut progress = Progress { writer: out };
-            progress.tell(done, 2500);
+            progress.tell_count(done, 2500);
             out = progress.writer;
             Ok(())
         }

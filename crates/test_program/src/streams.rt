@@ -6,6 +6,8 @@ use desk_http::telling::DeskTeller;
 use manifest_csv::progress::Teller;
 use package_tables::fault::Fault;
 use sha2::{Digest, Sha256};
+use sheet_types::receipt::Receipt;
+use sheet_types::refusal::Refusal;
 use std::alloc::{AllocError, Global};
 use std::io::{Error, ErrorKind, Read, Result as IoResult};
 use std::str::from_utf8;
@@ -141,7 +143,7 @@ pub(crate) struct Noted {
 impl Teller for Noted {
     ghost told = { λ _. None };
 
-    fn tell(&mut self, done: u64, all: u64) {
+    fn tell(&mut self, done: u64, all: u64, _reply: &Result<Receipt, Refusal>) {
         // Where there is no memory, the test finds less than it wants.
         let _noted = self.told.push((done, all));
     }
@@ -173,7 +175,7 @@ impl DeskNotes {
 impl Teller for DeskNotes {
     ghost told = { λ _. None };
 
-    fn tell(&mut self, _done: u64, _all: u64) {}
+    fn tell(&mut self, _done: u64, _all: u64, _reply: &Result<Receipt, Refusal>) {}
 }
 
 impl DeskTeller for DeskNotes {

@@ -1,0 +1,17 @@
+use Rattle.std.proofs.Common.{◌∙◌, ap, sym, subst}
+use Rattle.sqlite_trees.proofs.ListLemmas.{map-map}
+use Rattle.opening_faults.specs.Sights as opening
+use Rattle.std.specs.Prelude.{map, option_map}
+use Rattle.store_sql.specs.Writing.{AreKeyed}
+use Rattle.package_tables.specs.Damaged.{ReadsClaims}
+use Rattle.package_schema.specs.Heads.{head_said, claim_said}
+use Rattle.package_schema.proofs.Seeing.{seen, seen_then, sees}
+use Rattle.opening_survey.specs.Surveying.{claim_told}
+use Rattle.opening_glances.specs.Glances.{IsGlanceOf, ReadsEitherHead}
+use Rattle.opening_glances.proofs.glance.glance.Goals as goal
+
+pub returns : goal.returns
+returns g c =
+    sees (λ db s. AreKeyed db → IsGlanceOf db s)
+    (seen_then (λ db found. AreKeyed db → ReadsClaims db (map claim_said found.items)) (seen (λ db found. AreKeyed db → ReadsEitherHead db (option_map head_said found)) c.in_ok-found.was c.either_head.ensures) c.in_ok-read.was c.claims.ensures)
+    (λ db told keyed. record { head = subst (ReadsEitherHead db) (sym c.head_told.ensures) (told.0 keyed); claims = subst (ReadsClaims db) (sym (ap (map opening.claim_said) c.in_ok-told.ensures ∙ map-map opening.claim_said claim_told c.in_ok-read.read.items)) (told.1 keyed) })

@@ -1,0 +1,6 @@
+pub mod Taken
+pub mod Alone
+pub mod Seen
+pub mod Flags
+pub mod Named
+pub mod Faults
