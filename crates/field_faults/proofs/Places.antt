@@ -28,6 +28,10 @@ use Rattle.std.specs.Prelude.{
   false,
   ◌&&◌,
   ◌||◌,
+  cond,
+  not,
+  Option,
+  Some,
   [],
   is_none,
   int_le,
@@ -37,6 +41,7 @@ use Rattle.std.specs.Prelude.{
 use Rattle.std.specs.List.{list_any}
 use Rattle.std.specs.Ordering.{nat_cmp}
 use Rattle.std.specs.Cmp.Lexicographic.{slice_cmp}
+use Rattle.std.specs.BTreeMap.{BTreeMap, get}
 use Rattle.std.specs.BTreeSet.{BTreeSet, contains}
 use Rattle.std.proofs.lemmas.Bool.{false≢true, and_parts, and_from}
 use Rattle.std.proofs.lemmas.Int.{ints}
@@ -53,7 +58,10 @@ use Rattle.field_changes.specs.declared.held.HeldItem.{HeldItem}
 use Rattle.field_changes.proofs.Sets.{any_snoc, one_more}
 use Rattle.field_faults.specs.Heads.{is_same}
 use Rattle.field_faults.specs.Lines.{
+  bytes_of,
+  has_other,
   HasPlaces,
+  HasTiles,
   is_at,
   is_good_at,
   is_other_at,
@@ -65,6 +73,7 @@ use Rattle.field_faults.specs.Lines.{
   reason_in,
 }
 use Rattle.field_faults.specs.Reasons.{reason_of}
+use Rattle.field_faults.specs.declared.lines.Lying.{Lying}
 use Rattle.field_faults.specs.declared.reasons.Reason.TheVariants.{Renumbered, Taken, Twice}
 
 both_ways : (a b : Bool) → (a ≡ true → b ≡ true) → (b ≡ true → a ≡ true) → a ≡ b
@@ -182,3 +191,75 @@ module _ (f : Frame) (items : List HeldItem) (i : ℕ) (h : HeldItem) (within : 
       (sym (one_more items i h within is))
       ∙ sym (append_assoc text line (item_lines f held more exported (take (i + 1) items) (drop (i + 1) items)))
       ∙ ap (λ l. l ++ item_lines f held more exported (take (i + 1) items) (drop (i + 1) items)) (sym sent)
+
+-- ---- tiles of a package by their places
+
+-- one more is known at a place
+pub known_more : (d : Bool) (one two mine : List ℕ) → ((d || not (bytes_eq one two)) || not (bytes_eq one mine))
+    ≡ ((d || not (bytes_eq one mine)) || not (bytes_eq two mine))
+known_more true one two mine = refl
+known_more false one two mine = elim (bytes_eq one two) as (λ b. bytes_eq one two ≡ b
+    → (not b || not (bytes_eq one mine)) ≡ (not (bytes_eq one mine) || not (bytes_eq two mine))) [
+      | true ↦ λ e.
+          let same : one ≡ two = (bytes_eq-Decides one two).0 e in
+          twice (bytes_eq one mine) ∙ ap (λ l. not (bytes_eq one mine) || not (bytes_eq l mine)) same
+      | false ↦ λ e. elim (bytes_eq one mine) as (λ b. bytes_eq one mine ≡ b
+          → true ≡ (not b || not (bytes_eq two mine))) [
+            | true ↦ λ f.
+                let same : one ≡ mine = (bytes_eq-Decides one mine).0 f in
+                let other : bytes_eq two mine ≡ false = not_same two mine (λ g. false≢true (sym e ∙ (bytes_eq-Decides one two).1 (same ∙ sym g))) in
+                sym (ap not other)
+            | false ↦ λ f. refl
+          ] refl
+    ] refl
+  where
+    twice : (b : Bool) → not b ≡ (not b || not b)
+    twice true = refl
+    twice false = refl
+
+    not_same : (xs ys : List ℕ) → (xs ≡ ys → ⊥) → bytes_eq xs ys ≡ false
+    not_same xs ys differ = elim (bytes_eq xs ys) as (λ b. bytes_eq xs ys ≡ b → b ≡ false) [
+      | true ↦ λ e. absurd (differ ((bytes_eq-Decides xs ys).0 e))
+      | false ↦ λ e. refl
+    ] refl
+
+-- a tile more is put in
+pub tile_noted : (z c r : ℤ) (bytes : List ℕ) (i : Item) → i.content ≡ Tile z c r bytes
+    → (s t : BTreeMap (List ℕ) Lying) (k : List ℕ) (lying : Lying) → k ≡ place_key z c r
+    → ((mine : List ℕ) → has_other (Some lying) mine ≡ (has_other (get (slice_cmp nat_cmp) s k) mine || not (bytes_eq bytes mine)))
+    → ((q : List ℕ) → get (slice_cmp nat_cmp) t q ≡ cond (bytes_eq k q) (Some lying) (get (slice_cmp nat_cmp) s q))
+    → (zoom column row : ℤ) (mine : List ℕ)
+    → has_other (get (slice_cmp nat_cmp) t (place_key zoom column row)) mine
+    ≡ (has_other (get (slice_cmp nat_cmp) s (place_key zoom column row)) mine || is_other_at zoom column row mine i)
+tile_noted z c r bytes i is s t k lying key with step zoom column row mine =
+    let q = place_key zoom column row in
+    let at : bytes_eq k q ≡ is_at zoom column row (Tile z c r bytes) = ap (λ l. bytes_eq l q) key ∙ same_place z c r zoom column row in
+    ap (λ o. has_other o mine) (step q)
+    ∙ elim (bytes_eq k q) as (λ b. bytes_eq k q ≡ b → has_other (cond b (Some lying) (get (slice_cmp nat_cmp) s q)) mine
+    ≡ (has_other (get (slice_cmp nat_cmp) s q) mine || (is_at zoom column row (Tile z c r bytes) && not (bytes_eq bytes mine)))) [
+      | true ↦ λ e.
+          let same : k ≡ q = (bytes_eq-Decides k q).0 e in
+          with mine ∙ ap (λ l. has_other (get (slice_cmp nat_cmp) s l) mine || not (bytes_eq bytes mine)) same
+          ∙ ap (λ b. has_other (get (slice_cmp nat_cmp) s q) mine || (b && not (bytes_eq bytes mine))) (sym e ∙ at)
+      | false ↦ λ e.
+          sym (or-false (has_other (get (slice_cmp nat_cmp) s q) mine))
+          ∙ ap (λ b. has_other (get (slice_cmp nat_cmp) s q) mine || (b && not (bytes_eq bytes mine))) (sym e ∙ at)
+    ] refl
+    ∙ ap (λ x. has_other (get (slice_cmp nat_cmp) s q) mine || (is_at zoom column row x && not (bytes_eq (bytes_of x) mine))) (sym is)
+
+-- any other is not
+pub no_tile_noted : (i : Item) (x : Content) → i.content ≡ x → ((zoom column row : ℤ) → is_at zoom column row x ≡ false)
+    → (b : Bool) (zoom column row : ℤ) (mine : List ℕ) → b ≡ (b || is_other_at zoom column row mine i)
+no_tile_noted i x is other b zoom column row mine = sym (or-false b)
+    ∙ ap (λ v. b || (v && not (bytes_eq (bytes_of i.content) mine))) (sym (ap (is_at zoom column row) is ∙ other zoom column row))
+
+-- the tiles so far, and one more
+pub tiles_more : (items : List Item) (n : ℕ) (i : Item) → n < length items → i ≡ get_or items n i
+    → (s t : BTreeMap (List ℕ) Lying) → HasTiles (take n items) s
+    → ((zoom column row : ℤ) (mine : List ℕ) → has_other (get (slice_cmp nat_cmp) t (place_key zoom column row)) mine
+    ≡ (has_other (get (slice_cmp nat_cmp) s (place_key zoom column row)) mine || is_other_at zoom column row mine i))
+    → HasTiles (take (n + 1) items) t
+tiles_more items n i within is s t was step zoom column row mine =
+    step zoom column row mine ∙ ap (λ b. b || is_other_at zoom column row mine i) (was zoom column row mine)
+    ∙ sym (any_snoc (is_other_at zoom column row mine) (take n items) i)
+    ∙ ap (list_any (is_other_at zoom column row mine)) (sym (one_more items n i within is))

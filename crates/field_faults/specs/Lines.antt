@@ -1,10 +1,11 @@
 -- The records of a file that a package cannot hold, a line each. Profile.
-use Rattle.std.specs.Prelude.{◌≡◌, ℕ, ◌-◌, ◌==◌, Bool, true, false, not, ◌&&◌, List, [], ◌∷◌, ◌++◌, filter, flat_map, Option, Some, None, ℤ, pos, int_lt, unsigned_abs, unwrap_or, is_none, if◌then◌else◌, bytes_eq, codes, slice_get}
+use Rattle.std.specs.Prelude.{◌≡◌, ℕ, ◌-◌, ◌==◌, Bool, true, false, not, ◌&&◌, ◌||◌, List, [], ◌∷◌, ◌++◌, filter, flat_map, Option, Some, None, ℤ, pos, int_lt, unsigned_abs, unwrap_or, is_none, if◌then◌else◌, bytes_eq, codes, slice_get}
 use Rattle.std.specs.List.{list_any, before_first, after_first}
 use Rattle.std.specs.Option.{option_map_or}
 use Rattle.std.specs.Fmt.{signed_decimal}
 use Rattle.std.specs.Ordering.{nat_cmp}
 use Rattle.std.specs.Cmp.Lexicographic.{slice_cmp}
+use Rattle.std.specs.BTreeMap.{BTreeMap, get}
 use Rattle.std.specs.BTreeSet.{BTreeSet, contains}
 use Rattle.sheet_types.specs.Cut.{identities}
 use Rattle.sheet_types.specs.Matrix.{first_row}
@@ -24,6 +25,7 @@ use Rattle.field_changes.specs.declared.held.Held.{Held}
 use Rattle.field_changes.specs.declared.held.HeldItem.{HeldItem}
 use Rattle.field_faults.specs.Heads.{is_same}
 use Rattle.field_faults.specs.Reasons.{reason_of}
+use Rattle.field_faults.specs.declared.lines.Lying.{Lying}
 use Rattle.field_faults.specs.declared.lines.Numbered.{Numbered}
 use Rattle.field_faults.specs.declared.reasons.Reason.{Reason}
 use Rattle.field_faults.specs.declared.reasons.Reason.TheVariants.{BadData, BadPlace, BadText, BadCode, BadPoint, Renumbered, Twice, Taken}
@@ -59,6 +61,17 @@ bytes_of (Row x y code label) = []
 abbrev pub is_other_at : ℤ → ℤ → ℤ → List ℕ → Item → Bool
 is_other_at zoom column row bytes i = is_at zoom column row i.content && not (bytes_eq (bytes_of i.content) bytes)
 
+-- another tile lies at a place, of what a map has there
+abbrev pub has_other : Option Lying → List ℕ → Bool
+has_other None bytes = false
+has_other (Some lying) bytes = lying.differ || not (bytes_eq lying.bytes.now bytes)
+
+-- a map tells so of each place, of the tiles among these
+abbrev pub HasTiles : List Item → BTreeMap (List ℕ) Lying → Type 0
+HasTiles items tiles = (zoom column row : ℤ) (bytes : List ℕ)
+    → has_other (get (slice_cmp nat_cmp) tiles (place_key zoom column row)) bytes
+    ≡ list_any (is_other_at zoom column row bytes) items
+
 -- ---- a medium or a row
 
 -- the identities of the items of a kind, in the order in which an export numbers them from 1
@@ -79,11 +92,12 @@ is_renumbered items h = option_map_or (λ id. option_map_or (λ other. not (byte
 abbrev pub IsKnownIn : List Item → BTreeSet (List ℕ) → Type 0
 IsKnownIn items known = (id : List ℕ) → contains (slice_cmp nat_cmp) known id ≡ has (λ i. i.identity) id items
 
--- those of media and rows, and all identities
-pub record AreNumbered (items : List Item) (n : Numbered) : Type 0 where
+-- those of media and rows, all identities, and tiles by their places where nothing is to be taken away
+pub record AreNumbered (items : List Item) (more : Bool) (n : Numbered) : Type 0 where
   pub media : n.media.items ≡ ids_of MediaItem items
   pub rows : n.rows.items ≡ ids_of RowItem items
   pub known : IsKnownIn items n.known
+  pub tiles : more ≡ true → HasTiles items n.tiles
 
 -- ---- any item
 

@@ -13,11 +13,15 @@ ghost use Rattle.std.specs.Prelude.{
   flat_map,
   IfOk,
   IsTrue,
+  not,
   string_bytes,
+  true,
+  Some,
 };
 ghost use Rattle.std.specs.List.{list_any};
 ghost use Rattle.std.specs.Ordering.{nat_cmp};
 ghost use Rattle.std.specs.Cmp.Lexicographic.{slice_cmp};
+ghost use Rattle.std.specs.BTreeMap.{get};
 ghost use Rattle.std.specs.BTreeSet.{contains};
 ghost use Rattle.sheet_types.specs.Matrix.{first_row, is_good_frame};
 ghost use Rattle.field_changes.specs.Keys.{sign};
@@ -29,7 +33,7 @@ ghost use Rattle.field_faults.specs.Lines.{
   bad_line,
   fault_lines,
   ids_of,
-  is_at,
+  has_other,
   is_good_at,
   is_other_at,
   is_renumbered,
@@ -43,6 +47,7 @@ ghost use Rattle.field_faults.specs.Lines.{
   at_number,
   AreNumbered,
   HasPlaces,
+  HasTiles,
   IsKnownIn,
 };
 
@@ -53,7 +58,7 @@ use sheet_types::error::OutOfMemory;
 use sheet_types::frame::Frame;
 use sheet_types::receipt::MovedKind;
 use std::alloc::Global;
-use std::collections::BTreeSet;
+use std::collections::{BTreeMap, BTreeSet};
 use uuid::Uuid;
 
 /// A package, as a file is judged by it.
@@ -67,22 +72,7 @@ pub struct Judge<'a> {
     pub more: bool,
 }
 
-/// Whether a content is a tile of this place.
-fn is_at(place: (i64, i64, i64), content: &Content) -> bool
-    ensures { result ≡ is_at place.0 place.1 place.2 content.now }
-{
-    match content {
-        Content::Tile {
-            zoom,
-            column,
-            row,
-            ..
-        } => (*zoom == place.0) & (*column == place.1) & (*row == place.2),
-        _ => false,
-    }
-}
-
-/// A place as a key of a set.
+/// A place as a key.
 fn place_key(zoom: i64, column: i64, row: i64) -> [u64; 6]
     ensures { result ≡ place_key zoom column row }
 {
@@ -143,31 +133,111 @@ fn note_place(
     }
 }
 
-/// Whether an item is another tile at this place.
-fn is_other_at(place: (i64, i64, i64), bytes: &[u8], item: &Item) -> bool
-    ensures { result ≡ is_other_at place.0 place.1 place.2 bytes.now item.now }
+/// What is known of the tiles at a place: the bytes of one, and whether another has others.
+#[derive(Clone, Copy)]
+pub(crate) struct Lying<'a> {
+    pub(crate) bytes: &'a [u8],
+    pub(crate) differ: bool,
+}
+
+/// The same with one tile more.
+#[tactic(auto, using(crate::proofs::Places::known_more))]
+fn lying_with<'a>(known: Option<Lying<'a>>, bytes: &'a [u8]) -> Lying<'a>
+    ensures { (mine : List ℕ) → has_other (Some result) mine
+        ≡ (has_other known.entry mine || not (bytes_eq bytes.now mine)) }
 {
-    match &item.content {
-        Content::Tile { bytes: theirs, .. } => {
-            is_at(place, &item.content) & (theirs.as_slice() != bytes)
-        }
-        _ => false,
+    match known {
+        Some(lying) => Lying {
+            bytes: lying.bytes,
+            differ: lying.differ | (lying.bytes != bytes),
+        },
+        None => Lying {
+            bytes,
+            differ: false,
+        },
     }
 }
 
-/// Whether one of these is such an item.
-fn is_taken(place: (i64, i64, i64), bytes: &[u8], items: &[Item]) -> bool
-    ensures { result ≡ list_any (is_other_at place.0 place.1 place.2 bytes.now) items.now }
+/// Notes an item of the package at its place, where it is a tile.
+fn note_tile<'a>(
+    tiles: &mut BTreeMap<[u64; 6], Lying<'a>>,
+    item: &'a Item,
+) -> Result<(), OutOfMemory>
+    ensures { IfOk result (λ _. (zoom column row : ℤ) (mine : List ℕ)
+        → has_other (get (slice_cmp nat_cmp) tiles.new (place_key zoom column row)) mine
+        ≡ (has_other (get (slice_cmp nat_cmp) tiles.old (place_key zoom column row)) mine
+        || is_other_at zoom column row mine item.now)) }
 {
-    items.iter().any(|item| is_other_at(place, bytes, item))
+    match &item.content {
+        Content::Tile {
+            zoom,
+            column,
+            row,
+            bytes,
+        } => {
+            let key = place_key(*zoom, *column, *row);
+            let lying = lying_with(tiles.get(&key).copied(), bytes.as_slice());
+            tiles.insert(key, lying)?;
+            Ok(())
+        }
+        Content::Media { .. } => Ok(()),
+        Content::Row { .. } => Ok(()),
+    }
 }
 
-/// The same, where nothing is to be taken away.
-fn is_taken_with(judge: &Judge<'_>, place: (i64, i64, i64), bytes: &[u8]) -> bool
-    ensures { result ≡ (judge.now.more
-        && list_any (is_other_at place.0 place.1 place.2 bytes.now) judge.now.items.now) }
+/// The tiles of a package by their places.
+fn tiles_in<'a>(
+    alloc: Global,
+    items: &'a [Item],
+) -> Result<BTreeMap<[u64; 6], Lying<'a>>, OutOfMemory>
+    ensures { IfOk result (HasTiles items.now) }
 {
-    judge.more && is_taken(place, bytes, judge.items)
+    let mut tiles = BTreeMap::new(alloc);
+    for item in items {
+        note_tile(&mut tiles, item)?;
+    }
+    Ok(tiles)
+}
+
+/// The same, where nothing is to be taken away; else none are asked for.
+fn tiles_for<'a>(
+    alloc: Global,
+    judge: &Judge<'a>,
+) -> Result<BTreeMap<[u64; 6], Lying<'a>>, OutOfMemory>
+    ensures { IfOk result (λ tiles. judge.now.more ≡ true → HasTiles judge.now.items.now tiles) }
+{
+    if judge.more {
+        tiles_in(alloc, judge.items)
+    } else {
+        Ok(BTreeMap::new(alloc))
+    }
+}
+
+/// Whether another tile lies at a place, of what is known there.
+fn has_other(known: &Option<Lying<'_>>, bytes: &[u8]) -> bool
+    ensures { result ≡ has_other known.now bytes.now }
+{
+    match known {
+        Some(lying) => lying.differ | (lying.bytes != bytes),
+        None => false,
+    }
+}
+
+/// Whether another tile of the package lies at a place, where nothing is to be taken away.
+fn is_taken_with(
+    more: bool,
+    tiles: &BTreeMap<[u64; 6], Lying<'_>>,
+    place: (i64, i64, i64),
+    bytes: &[u8],
+) -> bool
+    ensures { (items : List ModelItem) → (more ≡ true → HasTiles items tiles.now)
+        → result ≡ (more && list_any (is_other_at place.0 place.1 place.2 bytes.now) items) }
+{
+    if !more {
+        return false;
+    }
+    let known = tiles.get(&place_key(place.0, place.1, place.2)).copied();
+    has_other(&known, bytes)
 }
 
 /// The first reason of a tile.
@@ -218,22 +288,29 @@ fn known_of(alloc: Global, items: &[Item]) -> Result<BTreeSet<Uuid>, OutOfMemory
     Ok(known)
 }
 
-/// The identities of media and rows, in the order in which an export numbers them, and all that are known.
+/// The identities of media and rows, in the order in which an export numbers them, all that are known, and tiles by their places.
 #[derive(Drop)]
-struct Numbered {
+struct Numbered<'a> {
     media: Vec<Uuid>,
     rows: Vec<Uuid>,
     known: BTreeSet<Uuid>,
+    tiles: BTreeMap<[u64; 6], Lying<'a>>,
 }
 
 /// The same of what a package holds.
-fn numbers_of(alloc: Global, items: &[Item]) -> Result<Numbered, OutOfMemory>
-    ensures { IfOk result (AreNumbered items.now) }
+fn numbers_of<'a>(alloc: Global, judge: &Judge<'a>) -> Result<Numbered<'a>, OutOfMemory>
+    ensures { IfOk result (AreNumbered judge.now.items.now judge.now.more) }
 {
-    let media = ids_of(alloc, MovedKind::MediaItem, items)?;
-    let rows = ids_of(alloc, MovedKind::RowItem, items)?;
-    let known = known_of(alloc, items)?;
-    Ok(Numbered { media, rows, known })
+    let media = ids_of(alloc, MovedKind::MediaItem, judge.items)?;
+    let rows = ids_of(alloc, MovedKind::RowItem, judge.items)?;
+    let known = known_of(alloc, judge.items)?;
+    let tiles = tiles_for(alloc, judge)?;
+    Ok(Numbered {
+        media,
+        rows,
+        known,
+        tiles,
+    })
 }
 
 /// The identity at a number, counted from 1.
@@ -274,12 +351,12 @@ fn is_renumbered_in(exported: bool, ids: &[Uuid], known: &BTreeSet<Uuid>, item: 
 /// The first reason beside those that lie in the item alone.
 fn reason_among(
     judge: &Judge<'_>,
-    numbered: &Numbered,
+    numbered: &Numbered<'_>,
     exported: bool,
     places: &BTreeSet<[u64; 6]>,
     item: &HeldItem,
 ) -> Option<Reason>
-    requires { AreNumbered judge.now.items.now numbered.now }
+    requires { AreNumbered judge.now.items.now judge.now.more numbered.now }
     ensures { (before : List ModelHeld) → HasPlaces judge.now.frame.now before places.now
         → result ≡ reason_among judge.now.frame.now judge.now.items.now judge.now.more exported
         before item.now item.now.content }
@@ -292,7 +369,8 @@ fn reason_among(
             bytes,
         } => {
             let twice = places.contains(&place_key(*zoom, *column, *row));
-            let taken = is_taken_with(judge, (*zoom, *column, *row), bytes.as_slice());
+            let place = (*zoom, *column, *row);
+            let taken = is_taken_with(judge.more, &numbered.tiles, place, bytes.as_slice());
             tile_reason(twice, taken)
         }
         Content::Media { .. } => {
@@ -309,13 +387,13 @@ fn reason_among(
 /// The first reason for which a package cannot hold an item, if there is one.
 fn reason_in(
     judge: &Judge<'_>,
-    numbered: &Numbered,
+    numbered: &Numbered<'_>,
     exported: bool,
     places: &BTreeSet<[u64; 6]>,
     item: &HeldItem,
 ) -> Option<Reason>
     requires good { IsTrue (is_good_frame judge.now.frame.now) }
-    requires numbers { AreNumbered judge.now.items.now numbered.now }
+    requires numbers { AreNumbered judge.now.items.now judge.now.more numbered.now }
     ensures { (before : List ModelHeld) → HasPlaces judge.now.frame.now before places.now
         → result ≡ reason_in judge.now.frame.now judge.now.items.now judge.now.more exported before item.now }
 {
@@ -370,13 +448,13 @@ fn bad_lines(alloc: Global, bad: &[BadRecord]) -> Result<String, OutOfMemory>
 fn add_item_lines(
     alloc: Global,
     judge: &Judge<'_>,
-    numbered: &Numbered,
+    numbered: &Numbered<'_>,
     exported: bool,
     items: &[HeldItem],
     text: &mut String,
 ) -> Result<(), OutOfMemory>
     requires good { IsTrue (is_good_frame judge.now.frame.now) }
-    requires numbers { AreNumbered judge.now.items.now numbered.now }
+    requires numbers { AreNumbered judge.now.items.now judge.now.more numbered.now }
     ensures { IfOk result (λ _. string_bytes text.new ≡ string_bytes text.old ++ item_lines judge.now.frame.now judge.now.items.now judge.now.more exported [] items.now) }
 {
     let mut places = BTreeSet::new(alloc);
@@ -407,7 +485,7 @@ pub fn fault_lines(alloc: Global, judge: &Judge<'_>, held: &Held) -> Result<Stri
     ensures { IfOk result (λ text. string_bytes text ≡ fault_lines judge.now.frame.now judge.now.items.now judge.now.more held.now) }
 {
     let mut text = bad_lines(alloc, held.bad.as_slice())?;
-    let numbered = numbers_of(alloc, judge.items)?;
+    let numbered = numbers_of(alloc, judge)?;
     let exported = was_exported(&held.export);
     add_item_lines(
         alloc,
