@@ -7,6 +7,9 @@ use Rattle.sheet_types.specs.declared.refusal.Refusal.{Refusal}
 use Rattle.request_json.specs.Requests.{IsRequestText}
 use Rattle.world.specs.Worlds.{IsStep, LeavesNoTrace, Seen, StandsStill}
 use Rattle.manifest_csv.specs.Imports.{Imports}
+use Rattle.request_imports.specs.Twice.{ImportsTwice}
+use Rattle.request_imports.specs.declared.twice.TwiceFault.{TwiceFault}
+use Rattle.request_imports.specs.declared.twice.TwiceFault.TheVariants as twice
 use Rattle.manifest_csv.specs.declared.importing.ImportFault.{ImportFault}
 use Rattle.manifest_csv.specs.declared.importing.ImportFault.TheVariants as import
 use Rattle.request_csv.specs.declared.lists.ReadFault.TheVariants.{Header, Record, Read, Memory}
@@ -57,6 +60,16 @@ import_ending (Err (import.Unread Read)) = Unlisted Read
 import_ending (Err (import.Stopped n fault)) = Usual (Stopped (of_fault fault))
 import_ending (Err import.Unwritten) = failed
 
+-- the same of a list that is read twice; one that was another at the second reading is a file that gave out
+abbrev pub twice_ending : Result (Unit {0}) TwiceFault → Ending
+twice_ending (Ok x) = done
+twice_ending (Err (twice.Import fault)) = import_ending (Err fault)
+twice_ending (Err (twice.Changed n)) = failed
+twice_ending (Err (twice.Broken n Memory)) = no_memory
+twice_ending (Err (twice.Broken n Header)) = failed
+twice_ending (Err (twice.Broken n (Record k))) = failed
+twice_ending (Err (twice.Broken n Read)) = failed
+
 -- why there is no list
 abbrev pub IsUnlisted : Ending → Type 0
 IsUnlisted ending = (ending ≡ no_memory) ⊎ (ending ≡ Unlisted Read)
@@ -87,11 +100,17 @@ module _ {S : Type 0} (g : Ghosts S) where
   EndsImport text old new faults more writer writer' before after ending =
       (r : Result (Unit {0}) ImportFault) × (ending ≡ import_ending r) × Imports g text old new faults more writer writer' before after r
 
-  -- The same of a file, of some text; or the file could not be opened, and nothing was done or written.
+  -- the same of a list that is read twice, of some text at either reading
+  abbrev pub EndsTwice : {W : Type 0} → Option (List ℕ) → Option (List ℕ) → Seen S → Seen S → ℕ → ℕ → W → W → Option (List ℕ) → Option (List ℕ) → Ending → Type 0
+  EndsTwice text again old new faults more writer writer' before after ending =
+      (r : Result (Unit {0}) TwiceFault) × (ending ≡ twice_ending r) × ImportsTwice g text again old new faults more writer writer' before after r
+
+  -- The same of a file, of some text, or of two where it is read twice; or the file could not be opened, and nothing was done or written.
   abbrev pub ImportsFile : {W : Type 0} → Seen S → Seen S → W → W → Option (List ℕ) → Option (List ℕ) → Ending → Type 0
   ImportsFile old new writer writer' before after ending =
       (IsUnlisted ending × (new ≡ old) × (writer' ≡ writer))
       ⊎ ((text : Option (List ℕ)) × (faults more : ℕ) × EndsImport text old new faults more writer writer' before after ending)
+      ⊎ ((text again : Option (List ℕ)) × (faults more : ℕ) × EndsTwice text again old new faults more writer writer' before after ending)
 
   -- A desk over so many connections ended so; or the port could not be had, and nothing was done.
   abbrev pub ServesOn : ℕ → Seen S → Seen S → Ending → Type 0

@@ -113,3 +113,51 @@ fn wrong_of_manifests(alloc: Global) -> Result<String, Fault> {
 fn a_manifest_and_writers_that_fail(rt: HostRuntime) {
     passes(&rt, wrong_of_manifests(rt.alloc()));
 }
+
+// The same as of a list that is read once.
+#[test]
+fn a_list_that_is_read_twice(rt: HostRuntime) {
+    let twice = What::ImportsTwice(List::Two, List::Two);
+    let steps = [
+        Step::Writes(twice, WHOLE, "done 1/2 2/2", Wrote::All(REPORT_OF_TWO)),
+        Step::Holds("2 0 0 0 2"),
+    ];
+    passes(&rt, wrong(rt.alloc(), steps.as_slice()));
+}
+
+// A list that is shorter at the second reading, and one that is longer: what both have was carried out.
+#[test]
+fn a_list_that_changes_between_two_readings(rt: HostRuntime) {
+    let report = Wrote::All(REPORT_OF_ONE);
+    let shorter = What::ImportsTwice(List::Two, List::One);
+    let longer = What::ImportsTwice(List::One, List::Two);
+    let steps = [
+        Step::Writes(shorter, WHOLE, "changed after 1 1/2", report),
+        Step::Holds("1 0 0 0 1"),
+        Step::Anew,
+        Step::Writes(longer, WHOLE, "changed after 1 1/1", report),
+        Step::Holds("1 0 0 0 1"),
+    ];
+    passes(&rt, wrong(rt.alloc(), steps.as_slice()));
+}
+
+// No list at the first reading, or at the second: nothing was carried out.
+#[test]
+fn a_list_that_is_none_at_a_reading(rt: HostRuntime) {
+    let steps = [
+        Step::Writes(
+            What::ImportsTwice(List::Headless, List::One),
+            WHOLE,
+            "unread",
+            NOTHING,
+        ),
+        Step::Writes(
+            What::ImportsTwice(List::One, List::Headless),
+            WHOLE,
+            "unread",
+            NOTHING,
+        ),
+        Step::Holds("0 0 0 0 0"),
+    ];
+    passes(&rt, wrong(rt.alloc(), steps.as_slice()));
+}

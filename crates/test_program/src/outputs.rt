@@ -9,6 +9,8 @@ use desk_http::serving::{ServeFault, Served, serve_one};
 use manifest_csv::importing::{ImportFault, import};
 use manifest_csv::package_manifests::{ManifestFault, write_manifest};
 use package_tables::fault::Fault;
+use request_csv::sources::Stream;
+use request_imports::twice::{TwiceFault, import_twice};
 use sqlite::Alter;
 use std::alloc::{AllocError, Global};
 use store_shelf::shelf::Shelf;
@@ -24,6 +26,8 @@ use world::world::World;
 pub(crate) enum What {
     // The report of a list.
     Imports(List, Reads),
+    // The report of a list that is read twice: what the first reading has, and what the second.
+    ImportsTwice(List, List),
     // Of the archive; the map at the default zoom.
     Manifest,
     Export,
@@ -63,11 +67,50 @@ fn imported<S: Alter + Drop, H: Shelf<S>>(
         told: Vec::new(alloc),
     };
     let ended = import(alloc, world, shelf, giving, out, &mut noted);
-    let mut text = import_end(alloc, ended)?;
+    let text = import_end(alloc, ended)?;
+    with_told(alloc, text, &noted)
+}
+
+// The same with what was told behind it.
+fn with_told(alloc: Global, mut text: String, noted: &Noted) -> Result<String, AllocError> {
     for told in &noted.told {
         text.push_str(format!(in alloc; " {}/{}", told.0, told.1)?.as_str())?;
     }
     Ok(text)
+}
+
+fn twice_end(alloc: Global, ended: Result<(), TwiceFault>) -> Result<String, AllocError> {
+    match ended {
+        Ok(()) => import_end(alloc, Ok(())),
+        Err(TwiceFault::Import(fault)) => import_end(alloc, Err(fault)),
+        Err(TwiceFault::Changed(done)) => format!(in alloc; "changed after {done}"),
+        Err(TwiceFault::Broken(done, _)) => format!(in alloc; "broken after {done}"),
+    }
+}
+
+// The same of a list that is read twice.
+fn imported_twice<S: Alter + Drop, H: Shelf<S>>(
+    alloc: Global,
+    world: &mut World<S>,
+    shelf: &mut H,
+    first: Giving<'_>,
+    second: Giving<'_>,
+    out: &mut Narrow,
+) -> Result<String, AllocError> {
+    let mut noted = Noted {
+        told: Vec::new(alloc),
+    };
+    let ended = import_twice(
+        alloc,
+        world,
+        shelf,
+        Stream(first),
+        Stream(second),
+        out,
+        &mut noted,
+    );
+    let text = twice_end(alloc, ended)?;
+    with_told(alloc, text, &noted)
 }
 
 fn manifest_end(ended: Result<(), ManifestFault>) -> &'static str {
@@ -100,6 +143,13 @@ fn ended<S: Alter + Drop, H: Shelf<S>>(
         What::Imports(which, reads) => {
             let text = list_text(alloc, which)?;
             imported(alloc, world, shelf, Giving::new(text.as_str(), reads), out)
+        }
+        What::ImportsTwice(first, second) => {
+            let first = list_text(alloc, first)?;
+            let second = list_text(alloc, second)?;
+            let first = Giving::new(first.as_str(), Reads::Whole);
+            let second = Giving::new(second.as_str(), Reads::Whole);
+            imported_twice(alloc, world, shelf, first, second, out)
         }
         What::Manifest => {
             let ended = write_manifest(alloc, world, archive(), out);

@@ -1,0 +1,2 @@
+mod OnceFacts
+mod TwiceFacts

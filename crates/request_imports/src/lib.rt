@@ -1,0 +1,4 @@
+//! Imports of lists that are read twice in place of being held.
+#![tactic(auto)]
+
+pub mod twice;
