@@ -108,9 +108,9 @@ module _ {S : Type 0} (g : Ghosts S) where
         → OfEachSeen g f known old count (λ w. IsNoPackage (outcome w q).1 uuid))) gone before after
 
     module _ (Fails : H → ℕ) where
-      -- It had no store for this package, which was counted. Or it was given back the one that it gave, as that
-      -- package's, and whatever a crash leaves of it is blank or beside. Or it was given back none, and this holds:
-      -- then the store is the only stray.
+      -- It had no store for this package, which was counted. Or a store was given back to it as that package's, and
+      -- whatever a crash leaves of that is blank or beside. Or it was given back none, and this holds: then the store
+      -- is the only stray.
       abbrev pub HasBack : List ℕ → (Trees → Type 0) → Type 0 → List (Held S) → H → H → H → Type 0
       HasBack child Beside Failed strays before mid after =
           ((after ≡ mid) × MoreFaults (Fails before) (Fails mid))
@@ -138,9 +138,9 @@ module _ {S : Type 0} (g : Ghosts S) where
       ServesChild (Some child) Beside strays (Err why) before after =
           GivesBack child (Beside child) (IsLastingFault why) strays before after
 
-      -- Where a split asks for a child, this became of the store that the shelf gave for it: after a receipt it is that
-      -- of a member; else the shelf has it again, and a crash leaves nothing in it or what is beside the world; or it is
-      -- the stray of a world that has failed.
+      -- Where a split asks for a child, this became of the store for it: after a receipt it is that of a member; else the
+      -- shelf was given a store as that of the child, and a crash leaves nothing in that or what is beside the world; or
+      -- a store is the stray of a world that has failed.
       abbrev pub SettlesChild : Option (List ℕ) → Seen S → Result Receipt Refusal → Seen S → H → H → Type 0
       SettlesChild None old reply new before after = ⊤
       SettlesChild (Some child) old (Ok receipt) new before after = (after ≡ before) ⊎ Asks child before after

@@ -50,7 +50,7 @@ fn make_room<S: Alter + Drop>(
     Ok(())
 }
 
-/// Carries out a split that is due, with the room for the child made before anything is written. The count of receipts goes on by the one that is entered. Where it fails the shelf gets back the store that it gave, unless that is kept among the strays.
+/// Carries out a split that is due, with the room for the child made before anything is written. The count of receipts goes on by the one that is entered. Where it fails, a store is given back to the shelf as that of the child, or is kept among the strays.
 fn carry_out_split<S: Alter + Drop, H: Shelf<S>>(
     members: &mut Vec<Member<S>>,
     strays: &mut Vec<Connection<S>>,

@@ -140,7 +140,7 @@ impl<S: Alter + Drop> World<S> {
 
     /// Carries one request out, or tells why not. A request that comes again, with its line, gets the receipt that it got, and nothing is changed.
     ///
-    /// The shelf gives the store of the package that a split makes. It is asked for no other, once at most, and for none that a package of the world has. After the commit of a merge it is given back the store of the child, and no other. Where a split fails it gets back the store that it gave, unless the world has failed: then that is among the strays.
+    /// The shelf gives the store of the package that a split makes. It is asked for no other, once at most, and for none that a package of the world has. After the commit of a merge it is given back the store of the child, and no other. Where a split fails, a store is given back to it as that of the child, unless the world has failed: then a store is among the strays.
     ///
     /// # Errors
     ///

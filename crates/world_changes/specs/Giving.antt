@@ -61,7 +61,7 @@ module _ {S : Type 0} (g : Ghosts S) where
 
     module _ (Asks : List ℕ → H → H → Type 0) where
       -- It was asked for the store of the child, and nothing else. Where it gave one and the child did not come to be
-      -- filled, it was given that one back.
+      -- filled, a store was given back to it as that of the child.
       abbrev pub AsksChild : Frame → Lending → List (Member S) → List (Member S) → Result (Held S) ServeFault → H → H
           → Type 0
       AsksChild f due old new (Ok child) before after = Asks due.child before after

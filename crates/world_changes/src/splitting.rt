@@ -93,7 +93,7 @@ fn blank_store<S: Alter + Drop, H: Shelf<S>>(
     Ok(blank)
 }
 
-/// The store of the child of a split that is due: made, filled and committed. The members are only read. Where it fails the shelf gets back what it gave.
+/// The store of the child of a split that is due: made, filled and committed. The members are only read. Where it fails, a store is given back to the shelf as that of the child.
 pub fn child_store<S: Alter + Drop, H: Shelf<S>>(
     members: &mut Vec<Member<S>>,
     shelf: &mut H,
