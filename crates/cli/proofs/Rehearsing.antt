@@ -1,5 +1,6 @@
 -- A rehearsal, by what its import and its packages come to.
-use Rattle.std.proofs.Common.{◌≡◌, ◌≢◌, ◌∙◌, refl, sym, subst, ℕ, List, Option, IfSome, Result, Ok, Err, MatchResult, inl, inr, take, length, slice_index_or}
+use Rattle.std.proofs.Common.{◌≡◌, ◌≢◌, ◌∙◌, refl, sym, subst, ℕ, List, Option, IfSome, Result, Ok, Err, MatchResult}
+use Rattle.std.proofs.Common.{inl, inr, take, length, slice_index_or}
 use Rattle.std.specs.Io.KnownBytes.{Appends}
 use Rattle.std.proofs.KnownBytes.{Appends-trans}
 use Rattle.sqlite.specs.Held.{Held}
@@ -46,13 +47,16 @@ never_done (Interrupted n fault) = λ h. let e = h in cc
 never_done Unwritten = λ h. let e = h in cc
 
 -- a list that was not read: nothing is carried out and nothing is written
-pub unread : {W : Type 0} (w : World) (text : Option (List ℕ)) (writer : W) (held : Option (List ℕ)) (fault : ReadFault) → IsWhyUnread text fault → Rehearses w text writer writer held held (import_outcome (Unread fault))
+pub unread : {W : Type 0} (w : World) (text : Option (List ℕ)) (writer : W) (held : Option (List ℕ))
+    (fault : ReadFault) → IsWhyUnread text fault → Rehearses w text writer writer held held
+    (import_outcome (Unread fault))
 unread w text writer held Memory why = inl refl
 unread w text writer held Header why = (refl, refl, (Header, (λ h. let e = h in cc), why))
 unread w text writer held (Record n) why = (refl, refl, (Record n, (λ h. let e = h in cc), why))
 unread w text writer held Read why = (refl, refl, (Read, (λ h. let e = h in cc), why))
 
-module _ {S W : Type 0} (g : Ghosts S) (clean : IsInMemory g) (contents : W → Option (List ℕ)) (w : World) (text : Option (List ℕ)) (old new : Seen S) (stands : StandsFor g old w) where
+module _ {S W : Type 0} (g : Ghosts S) (clean : IsInMemory g) (contents : W → Option (List ℕ)) (w : World)
+    (text : Option (List ℕ)) (old new : Seen S) (stands : StandsFor g old w) where
   all_clean : (seen : Seen S) → AllClean g seen.members
   all_clean seen = λ k d within. clean (slice_index_or seen.members k d).conn
 
@@ -60,24 +64,50 @@ module _ {S W : Type 0} (g : Ghosts S) (clean : IsInMemory g) (contents : W → 
   are_clean stores = λ k d within. clean (slice_index_or stores k d)
 
   -- what an import carried out, of the world that it began with
-  module _ (failed fails : ℕ) (before after : Option (List ℕ)) (r : Result (Unit {0}) ImportFault) (requests : List Request) (list : IfSome text (λ t. IsList t requests)) (it : IsImported g requests old new failed fails before after r) where
+  module _ (failed fails : ℕ) (before after : Option (List ℕ)) (r : Result (Unit {0}) ImportFault)
+      (requests : List Request) (list : IfSome text (λ t. IsList t requests))
+      (it : IsImported g requests old new failed fails before after r) where
     abbrev ran_next : (next : World) × Run w (take (length it.replies) requests) it.replies next × StandsFor g new next
     ran_next = it.ran.run (all_clean new) (are_clean it.ran.gone) w stands
 
     abbrev ran : Ran w text
-    ran = record { requests = requests; list = list; replies = it.replies; next = ran_next.0; some = it.some; run = ran_next.1 }
+    ran = record {
+      requests = requests;
+      list = list;
+      replies = it.replies;
+      next = ran_next.0;
+      some = it.some;
+      run =
+          ran_next.1;
+    }
 
   -- an import that did not go through
-  pub import_ended : (failed fails : ℕ) (writer writer' : W) (fault : ImportFault) → Imports g text old new failed fails writer writer' (contents writer) (contents writer') (Err fault) → Rehearses w text writer writer' (contents writer) (contents writer') (import_outcome fault)
+  pub import_ended : (failed fails : ℕ) (writer writer' : W) (fault : ImportFault)
+      → Imports g text old new failed fails writer writer' (contents writer) (contents writer') (Err fault)
+      → Rehearses w text writer writer' (contents writer) (contents writer') (import_outcome fault)
   import_ended failed fails writer writer' (Unread Memory) it = inl it.3
   import_ended failed fails writer writer' (Unread Header) it = (refl, it.3, (Header, (λ h. let e = h in cc), it.0))
-  import_ended failed fails writer writer' (Unread (Record n)) it = (refl, it.3, (Record n, (λ h. let e = h in cc), it.0))
+  import_ended failed fails writer writer' (Unread (Record n)) it =
+      (refl, it.3, (Record n, (λ h. let e = h in cc), it.0))
   import_ended failed fails writer writer' (Unread Read) it = (refl, it.3, (Read, (λ h. let e = h in cc), it.0))
-  import_ended failed fails writer writer' (Interrupted n fault) it = inr (inl (ran failed fails (contents writer) (contents writer') (Err (Interrupted n fault)) it.0 it.1 it.2, fault, it.2.written.1, refl, it.2.written.2))
-  import_ended failed fails writer writer' Unwritten it = inr (inr (inl (ran failed fails (contents writer) (contents writer') (Err Unwritten) it.0 it.1 it.2, refl, it.2.written)))
+  import_ended failed fails writer writer' (Interrupted n fault) it =
+      inr (inl (
+        ran failed fails (contents writer) (contents writer') (Err (Interrupted n fault)) it.0 it.1 it.2,
+        fault,
+        it.2.written.1,
+        refl,
+        it.2.written.2,
+      ))
+  import_ended failed fails writer writer' Unwritten it = inr
+      (inr (inl (
+        ran failed fails (contents writer) (contents writer') (Err Unwritten) it.0 it.1 it.2,
+        refl,
+        it.2.written,
+      )))
 
   -- an import that went through, and the packages after it
-  module _ {V : Type 0} (first end : V) (failed fails : ℕ) (before mid after : Option (List ℕ)) (writer writer' : W) (x : Unit {0}) (it : Imports g text old new failed fails writer writer' before mid (Ok x)) (last : Seen S) where
+  module _ {V : Type 0} (first end : V) (failed fails : ℕ) (before mid after : Option (List ℕ)) (writer writer' : W)
+      (x : Unit {0}) (it : Imports g text old new failed fails writer writer' before mid (Ok x)) (last : Seen S) where
     abbrev carried : Ran w text
     carried = ran failed fails before mid (Ok x) it.0 it.1 it.2
 
@@ -85,20 +115,38 @@ module _ {S W : Type 0} (g : Ghosts S) (clean : IsInMemory g) (contents : W → 
     left = (ran_next failed fails before mid (Ok x) it.0 it.1 it.2).2
 
     -- it is done, and the value stands for the world that the list led to
-    pub all_handed : (y : Unit {0}) → StandsOn g new last → Writes g live_text new last mid after (Ok y) → HandsOn g w text first end before after (Ok last)
+    pub all_handed : (y : Unit {0}) → StandsOn g new last → Writes g live_text new last mid after (Ok y)
+        → HandsOn g w text first end before after (Ok last)
     all_handed y on packages = (
-      (carried, (it.2.written.0, it.2.written.1), left.members.register.arranged, Appends-trans before mid after (report carried) (live_text carried.next) it.2.written.2 (packages (all_clean last) carried.next left)),
+      (
+        carried,
+        (it.2.written.0, it.2.written.1),
+        left.members.register.arranged,
+        Appends-trans before mid after
+            (report carried) (live_text carried.next) it.2.written.2 (packages (all_clean last) carried.next left),
+      ),
       on.1 carried.next left,
     )
 
-    pub packages_failed : (failure : Failure) → Writes g live_text new last mid after (Err failure) → Rehearses w text first end before after (Stopped failure)
+    pub packages_failed : (failure : Failure) → Writes g live_text new last mid after (Err failure)
+        → Rehearses w text first end before after (Stopped failure)
     packages_failed failure packages =
-        inr (inr (inr (carried, (it.2.written.0, it.2.written.1), went_out_past before mid after (report carried) (live_text carried.next) it.2.written.2 (packages (all_clean last) carried.next left))))
+        inr (inr (inr (
+          carried,
+          (it.2.written.0, it.2.written.1),
+          went_out_past before mid after (report carried)
+              (live_text carried.next) it.2.written.2 (packages (all_clean last) carried.next left),
+        )))
 
 -- ---- what is due, in other words
 
-pub due_same : {S : Type 0} (g : Ghosts S) (due other : World → List ℕ) (old new : Seen S) (before after : Option (List ℕ)) (r : Result (Unit {0}) Failure) → ((w : World) → StandsFor g old w → due w ≡ other w) → Writes g due old new before after r → Writes g other old new before after r
-due_same g due other old new before after r same it = λ clean w stands. subst (λ t. MatchResult r (λ _. Appends before after t) (λ _. WentOut before after t)) (same w stands) (it clean w stands)
+pub due_same : {S : Type 0} (g : Ghosts S) (due other : World → List ℕ) (old new : Seen S)
+    (before after : Option (List ℕ)) (r : Result (Unit {0}) Failure)
+    → ((w : World) → StandsFor g old w → due w ≡ other w) → Writes g due old new before after r
+    → Writes g other old new before after r
+due_same g due other old new before after r same it = λ clean w stands. subst
+    (λ t. MatchResult r (λ _. Appends before after t) (λ _. WentOut before after t)) (same w stands)
+    (it clean w stands)
 
 -- ---- the words
 
@@ -112,8 +160,12 @@ module _ (archive at frame uuid moment : List ℕ) (asked : Frame) (asks : Asks 
   asks_read BadList unread = absurd unread
 
   -- and words ask for one archive
-  pub one_asked : (uuid' moment' : List ℕ) (asked' : Frame) → Asks archive at frame uuid' moment' asked' → (uuid ≡ uuid') × (asked ≡ asked')
+  pub one_asked : (uuid' moment' : List ℕ) (asked' : Frame) → Asks archive at frame uuid' moment' asked'
+      → (uuid ≡ uuid') × (asked ≡ asked')
   one_asked uuid' moment' asked' other =
       let named = asks.named in
-      let named' = other.named in
-      (cc, frame_once asked asked' (in_range asked asks.framed.good) (in_range asked' other.framed.good) (sym asks.framed.written ∙ other.framed.written))
+      let named' = other.named in (
+        cc,
+        frame_once asked asked' (in_range asked asks.framed.good) (in_range asked' other.framed.good)
+            (sym asks.framed.written ∙ other.framed.written),
+      )

@@ -1,5 +1,6 @@
 -- What a rehearsal comes to, and what it prints. Profile.
-use Rattle.std.specs.Prelude.{◌≡◌, ◌≢◌, ◌⊎◌, ◌≤◌, ℕ, List, ◌++◌, codes, flat_map, length, map, take, Option, Result, IfSome, MatchResult}
+use Rattle.std.specs.Prelude.{◌≡◌, ◌≢◌, ◌⊎◌, ◌≤◌, ℕ, List, ◌++◌, codes, flat_map, length, map, take, Option, Result}
+use Rattle.std.specs.Prelude.{IfSome, MatchResult}
 use Rattle.std.specs.List.{AllByRecursion}
 use Rattle.std.specs.Io.KnownBytes.{Appends}
 use Rattle.sqlite.specs.Held.{Held, state}
@@ -56,13 +57,18 @@ module _ {S : Type 0} (g : Ghosts S) where
 
   -- A value stands for each world that another stood for, and no disk of that had lied that does not now.
   abbrev pub StandsOn : Seen S → Seen S → Type 0
-  StandsOn old new = (AllClean g new.members → AllClean g old.members) × ((w : World) → StandsFor g old w → StandsFor g new w)
+  StandsOn old new = (AllClean g new.members → AllClean g old.members)
+      × ((w : World) → StandsFor g old w → StandsFor g new w)
 
-  -- What is due is written whole, or a beginning of it and not all after a failure: due of each world that a value stood for, where each disk has given back what was written.
-  abbrev pub Writes : (World → List ℕ) → Seen S → Seen S → Option (List ℕ) → Option (List ℕ) → Result (Unit {0}) Failure → Type 0
-  Writes due old new before after r = AllClean g new.members → (w : World) → StandsFor g old w → MatchResult r (λ _. Appends before after (due w)) (λ _. WentOut before after (due w))
+  -- What is due is written whole, or a beginning of it and not all after a failure: due of each world that a value
+  -- stood for, where each disk has given back what was written.
+  abbrev pub Writes : (World → List ℕ) → Seen S → Seen S → Option (List ℕ) → Option (List ℕ)
+      → Result (Unit {0}) Failure → Type 0
+  Writes due old new before after r = AllClean g new.members → (w : World) → StandsFor g old w
+      → MatchResult r (λ _. Appends before after (due w)) (λ _. WentOut before after (due w))
 
--- The requests of a list, of which a world carried out as many as there are replies, in their order; the replies, and the world afterwards.
+-- The requests of a list, of which a world carried out as many as there are replies, in their order; the replies, and
+-- the world afterwards.
 pub record Ran (w : World) (text : Option (List ℕ)) : Type 0 where
   pub requests : List Request
   pub list : IfSome text (λ t. IsList t requests)
@@ -82,16 +88,24 @@ report ran = report_of ran.requests ran.replies
 abbrev pub printed : {w : World} {text : Option (List ℕ)} → Ran w text → List ℕ
 printed ran = report ran ++ live_text ran.next
 
--- A rehearsal that stopped: before it wrote anything; at a request, whose line is then the last; in the report, which the writer did not take; or among the packages, after the whole report.
+-- A rehearsal that stopped: before it wrote anything; at a request, whose line is then the last; in the report, which
+-- the writer did not take; or among the packages, after the whole report.
 abbrev pub Stops : {W : Type 0} → World → Option (List ℕ) → W → W → Option (List ℕ) → Option (List ℕ) → Failure → Type 0
 Stops w text writer writer' before after failure =
     (writer' ≡ writer)
-    ⊎ ((ran : Ran w text) × (fault : Fault) × AreStopped ran.replies fault × (failure ≡ of_fault fault) × Appends before after (report ran))
-    ⊎ ((ran : Ran w text) × (failure ≡ StoreFault) × WentOutPast (report_before ran.requests ran.replies) before after (report ran))
+    ⊎ ((ran : Ran w text) × (fault : Fault) × AreStopped ran.replies fault × (failure ≡ of_fault fault)
+    × Appends before after (report ran))
+    ⊎ ((ran : Ran w text) × (failure ≡ StoreFault) × WentOutPast (report_before ran.requests ran.replies) before after
+    (report ran))
     ⊎ ((ran : Ran w text) × IsComplete ran × WentOutPast (report ran) before after (printed ran))
 
--- A rehearsal over a new world w, of the text that a reader tells, with what a writer held before and holds after. Where it is done, the list was carried out whole, and the report and all live packages, in the order of their UUIDs, were written. Where the list is refused, nothing is written, and it is told why it was not read.
-abbrev pub Rehearses : {W : Type 0} → World → Option (List ℕ) → W → W → Option (List ℕ) → Option (List ℕ) → Outcome → Type 0
-Rehearses w text writer writer' before after Done = (ran : Ran w text) × IsComplete ran × AreInOrder ran.next × Appends before after (printed ran)
-Rehearses w text writer writer' before after (Refused what) = (what ≡ BadList) × (writer' ≡ writer) × ((fault : ReadFault) × (fault ≢ Memory) × IsWhyUnread text fault)
+-- A rehearsal over a new world w, of the text that a reader tells, with what a writer held before and holds after.
+-- Where it is done, the list was carried out whole, and the report and all live packages, in the order of their
+-- UUIDs, were written. Where the list is refused, nothing is written, and it is told why it was not read.
+abbrev pub Rehearses : {W : Type 0} → World → Option (List ℕ) → W → W → Option (List ℕ) → Option (List ℕ) → Outcome
+    → Type 0
+Rehearses w text writer writer' before after Done = (ran : Ran w text) × IsComplete ran × AreInOrder ran.next
+    × Appends before after (printed ran)
+Rehearses w text writer writer' before after (Refused what) = (what ≡ BadList) × (writer' ≡ writer)
+    × ((fault : ReadFault) × (fault ≢ Memory) × IsWhyUnread text fault)
 Rehearses w text writer writer' before after (Stopped failure) = Stops w text writer writer' before after failure

@@ -1,4 +1,5 @@
-//! What the program `sheetdesk` does with the words of its command line: it reads them, carries out what they ask for over a reader and a writer, and ends with a status and a line.
+//! What the program `sheetdesk` does with the words of its command line: it reads them, carries out
+//! what they ask for over a reader and a writer, and ends with a status and a line.
 #![tactic(auto)]
 
 pub mod rehearse;

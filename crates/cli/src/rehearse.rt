@@ -6,7 +6,8 @@ ghost use Rattle.world_members.specs.Members.{AllClean};
 ghost use Rattle.world.specs.Worlds.{StandsFor};
 ghost use Rattle.command_words.specs.Arguments.{Asks, IsFirstUnread};
 ghost use Rattle.manifest_csv.specs.Imports.{IsListOf};
-ghost use Rattle.cli.specs.Rehearsals.{package_line, package_text, packages_text, live_text, StandsOn, Writes, Rehearses, IsInMemory};
+ghost use Rattle.cli.specs.Rehearsals.{package_line, package_text, packages_text, live_text, StandsOn, Writes};
+ghost use Rattle.cli.specs.Rehearsals.{Rehearses, IsInMemory};
 ghost use Rattle.cli.specs.Servings.{HandsOn};
 ghost use Rattle.command_words.specs.declared.statuses.What.{What};
 ghost use Rattle.command_words.specs.declared.statuses.Outcome.TheVariants.{Refused};
@@ -31,8 +32,12 @@ use uuid::Uuid;
 use world::reading::PackageSight;
 use world::world::World;
 
-/// Makes the archive that the words ask for in memory, imports the request list of the reader into it, and writes the report of the import and then, for each live package by its UUID, a line that names it and its manifest.
-/// The words are read first: where one of them cannot be, nothing is read and nothing is written. The teller is told how many of how many requests are done; what is written does not depend on it.
+/// Makes the archive that the words ask for in memory, imports the request list of the reader into
+/// it, and writes the report of the import and then, for each live package by its UUID, a line that
+/// names it and its manifest.
+/// The words are read first: where one of them cannot be, nothing is read and nothing is written.
+/// The teller is told how many of how many requests are done; what is written does not depend on
+/// it.
 pub fn rehearse<R: Read + Drop, W: Write, T: Teller>(
     alloc: Global,
     words: &Words<'_>,
@@ -40,9 +45,14 @@ pub fn rehearse<R: Read + Drop, W: Write, T: Teller>(
     writer: &mut W,
     teller: &mut T,
 ) -> Outcome
-    ensures refused { (what : What) → IsFirstUnread words.now.archive.now words.now.at.now words.now.frame.now what → result ≡ Refused what }
-    ensures unwritten { (what : What) → IsFirstUnread words.now.archive.now words.now.at.now words.now.frame.now what → writer.new ≡ writer.old }
-    ensures carried { (uuid moment : List ℕ) (frame : Frame) → Asks words.now.archive.now words.now.at.now words.now.frame.now uuid moment frame → Rehearses (new_world uuid frame) (R.remaining reader) writer.old writer.new (W.contents writer.old) (W.contents writer.new) result }
+    ensures refused { (what : What) → IsFirstUnread words.now.archive.now words.now.at.now words.now.frame.now what
+        → result ≡ Refused what }
+    ensures unwritten { (what : What) → IsFirstUnread words.now.archive.now words.now.at.now words.now.frame.now what
+        → writer.new ≡ writer.old }
+    ensures carried { (uuid moment : List ℕ) (frame : Frame)
+        → Asks words.now.archive.now words.now.at.now words.now.frame.now uuid moment frame
+        → Rehearses (new_world uuid frame) (R.remaining reader) writer.old writer.new (W.contents writer.old)
+        (W.contents writer.new) result }
 {
     match read_rehearsal(words) {
         Ok(rehearsal) => carried_out(alloc, &rehearsal, reader, writer, teller),
@@ -56,7 +66,8 @@ fn new_world<S: Alter + Drop, H: Shelf<S>>(
     rehearsal: &Rehearsal<'_>,
     shelf: &mut H,
 ) -> Result<World<S>, Failure>
-    ensures { IfOk result (λ world. AllClean S.Store world.members → StandsFor S.Store world (new_world rehearsal.now.archive rehearsal.now.frame)) }
+    ensures { IfOk result (λ world. AllClean S.Store world.members
+        → StandsFor S.Store world (new_world rehearsal.now.archive rehearsal.now.frame)) }
 {
     let conn = shelf.blank(rehearsal.archive)?;
     Ok(World::create(
@@ -83,7 +94,8 @@ fn write_package<S: Alter + Drop, W: Write>(
     writer: &mut W,
 ) -> Result<(), Failure>
     ensures stands { StandsOn S.Store world.old world.new }
-    ensures written { Writes S.Store (λ w. package_text w «package») world.old world.new (W.contents writer.old) (W.contents writer.new) result }
+    ensures written { Writes S.Store (λ w. package_text w «package») world.old world.new (W.contents writer.old)
+        (W.contents writer.new) result }
 {
     let line = package_line(alloc, package)?;
     send(writer, line.as_bytes())?;
@@ -99,7 +111,8 @@ fn write_each<S: Alter + Drop, W: Write>(
     writer: &mut W,
 ) -> Result<(), Failure>
     ensures stands { StandsOn S.Store world.old world.new }
-    ensures written { Writes S.Store (λ w. packages_text w (map (λ s. s.uuid) sights.now)) world.old world.new (W.contents writer.old) (W.contents writer.new) result }
+    ensures written { Writes S.Store (λ w. packages_text w (map (λ s. s.uuid) sights.now)) world.old world.new
+        (W.contents writer.old) (W.contents writer.new) result }
 {
     for sight in sights {
         write_package(alloc, world, sight.uuid, writer)?;
@@ -114,17 +127,20 @@ fn write_packages<S: Alter + Drop, W: Write>(
     writer: &mut W,
 ) -> Result<(), Failure>
     ensures stands { StandsOn S.Store world.old world.new }
-    ensures written { Writes S.Store live_text world.old world.new (W.contents writer.old) (W.contents writer.new) result }
+    ensures written { Writes S.Store live_text world.old world.new (W.contents writer.old) (W.contents writer.new)
+        result }
 {
     let sights = world.packages(alloc)?;
     write_each(alloc, world, sights.as_slice(), writer)
 }
 
-// How many requests a world in the engine's arrays is asked for at most. A request costs less there than in files up to some ten thousand
+// How many requests a world in the engine's arrays is asked for at most. A request costs less there
+// than in files up to some ten thousand
 // items, and more beyond: what comes into the middle of an index moves all behind it.
 const FEW: u64 = 4096;
 
-// How many where some of them take something out: for each thing that goes an array goes through all that its table holds.
+// How many where some of them take something out: for each thing that goes an array goes through
+// all that its table holds.
 const FEW_THAT_TAKE: u64 = 1024;
 
 /// Whether a command takes things out of a package.
@@ -150,7 +166,8 @@ fn carried_out<R: Read + Drop, W: Write, T: Teller>(
     writer: &mut W,
     teller: &mut T,
 ) -> Outcome
-    ensures { Rehearses (new_world rehearsal.now.archive rehearsal.now.frame) (R.remaining reader) writer.old writer.new (W.contents writer.old) (W.contents writer.new) result }
+    ensures { Rehearses (new_world rehearsal.now.archive rehearsal.now.frame) (R.remaining reader) writer.old
+        writer.new (W.contents writer.old) (W.contents writer.new) result }
 {
     match read_requests(alloc, Stream(reader)) {
         Ok(requests) => over_either(alloc, rehearsal, requests.as_slice(), writer, teller),
@@ -166,7 +183,8 @@ fn over_either<W: Write, T: Teller>(
     writer: &mut W,
     teller: &mut T,
 ) -> Outcome
-    ensures { IsListOf requests.now (λ text. Rehearses (new_world rehearsal.now.archive rehearsal.now.frame) text writer.old writer.new (W.contents writer.old) (W.contents writer.new) result) }
+    ensures { IsListOf requests.now (λ text. Rehearses (new_world rehearsal.now.archive rehearsal.now.frame) text
+        writer.old writer.new (W.contents writer.old) (W.contents writer.new) result) }
 {
     if are_few(requests, 0) {
         let mut shelf = MemoryShelf::new(alloc);
@@ -188,7 +206,9 @@ fn over<S: Alter + Drop, H: Shelf<S>, W: Write, T: Teller>(
     writer: &mut W,
     teller: &mut T,
 ) -> Outcome
-    ensures { IsInMemory S.Store → IsListOf requests.now (λ text. Rehearses (new_world rehearsal.now.archive rehearsal.now.frame) text writer.old writer.new (W.contents writer.old) (W.contents writer.new) result) }
+    ensures { IsInMemory S.Store → IsListOf requests.now (λ text. Rehearses
+        (new_world rehearsal.now.archive rehearsal.now.frame) text writer.old writer.new (W.contents writer.old)
+        (W.contents writer.new) result) }
 {
     match handed_on::<S, H, W, T>(alloc, rehearsal, shelf, requests, writer, teller) {
         Ok(_) => Outcome::Done,
@@ -205,7 +225,9 @@ pub(crate) fn handed_on<S: Alter + Drop, H: Shelf<S>, W: Write, T: Teller>(
     writer: &mut W,
     teller: &mut T,
 ) -> Result<World<S>, Outcome>
-    ensures { IsInMemory S.Store → IsListOf requests.now (λ text. HandsOn S.Store (new_world rehearsal.now.archive rehearsal.now.frame) text writer.old writer.new (W.contents writer.old) (W.contents writer.new) result) }
+    ensures { IsInMemory S.Store → IsListOf requests.now (λ text. HandsOn S.Store
+        (new_world rehearsal.now.archive rehearsal.now.frame) text writer.old writer.new (W.contents writer.old)
+        (W.contents writer.new) result) }
 {
     let mut world = match new_world::<S, H>(alloc, rehearsal, shelf) {
         Ok(world) => world,

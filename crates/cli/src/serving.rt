@@ -40,8 +40,12 @@ pub enum LeftWorld {
     Files(World<FileStore<MemoryFile>>),
 }
 
-/// Does what `rehearse` does with the first words, and then serves the world that the list led to: so many connections of 127.0.0.1 at the port, one after the other. The world as they left it comes back. The teller is told of the port and of each connection.
-/// The words are read first, and then the port is taken, so that a client may connect while the list is carried out. Where a word cannot be read or the port cannot be had, nothing is read and nothing is written.
+/// Does what `rehearse` does with the first words, and then serves the world that the list led to:
+/// so many connections of 127.0.0.1 at the port, one after the other. The world as they left it
+/// comes back. The teller is told of the port and of each connection.
+/// The words are read first, and then the port is taken, so that a client may connect while the
+/// list is carried out. Where a word cannot be read or the port cannot be had, nothing is read and
+/// nothing is written.
 ///
 /// # Errors
 ///
@@ -60,9 +64,15 @@ pub fn rehearse_and_serve<
     writer: &mut W,
     teller: &mut T,
 ) -> Result<LeftWorld, Outcome>
-    ensures refused { (what : What) → IsFirstUnserved words.now.archive.now words.now.at.now words.now.frame.now desk.now.port.now desk.now.count.now what → result ≡ Err (Refused what) }
-    ensures unwritten { (what : What) → IsFirstUnserved words.now.archive.now words.now.at.now words.now.frame.now desk.now.port.now desk.now.count.now what → writer.new ≡ writer.old }
-    ensures served { (uuid moment : List ℕ) (frame : Frame) (port count : ℕ) → Asks words.now.archive.now words.now.at.now words.now.frame.now uuid moment frame → AsksDesk desk.now.port.now desk.now.count.now port count → Leaves (new_world uuid frame) count (R.remaining reader) writer.old writer.new (W.contents writer.old) (W.contents writer.new) result }
+    ensures refused { (what : What) → IsFirstUnserved words.now.archive.now words.now.at.now words.now.frame.now
+        desk.now.port.now desk.now.count.now what → result ≡ Err (Refused what) }
+    ensures unwritten { (what : What) → IsFirstUnserved words.now.archive.now words.now.at.now words.now.frame.now
+        desk.now.port.now desk.now.count.now what → writer.new ≡ writer.old }
+    ensures served { (uuid moment : List ℕ) (frame : Frame) (port count : ℕ)
+        → Asks words.now.archive.now words.now.at.now words.now.frame.now uuid moment frame
+        → AsksDesk desk.now.port.now desk.now.count.now port count
+        → Leaves (new_world uuid frame) count (R.remaining reader) writer.old writer.new (W.contents writer.old)
+        (W.contents writer.new) result }
 {
     let (rehearsal, desk) = match read_serving(words, desk) {
         Ok(asked) => asked,
@@ -78,8 +88,11 @@ pub fn rehearse_and_serve<
     )
 }
 
-/// Carries a list out in the world of a new archive, writes its report and its packages, and then serves so many connections of the listener over that world. The world as they left it comes back.
-/// It is in the engine's arrays where the requests and the connections are few, and in files in memory where they are many.
+/// Carries a list out in the world of a new archive, writes its report and its packages, and then
+/// serves so many connections of the listener over that world. The world as they left it comes
+/// back.
+/// It is in the engine's arrays where the requests and the connections are few, and in files in
+/// memory where they are many.
 ///
 /// # Errors
 ///
@@ -94,7 +107,8 @@ pub fn served<C: Clock, R: Read + Drop, W: Write, T: Teller + DeskTeller>(
     writer: &mut W,
     teller: &mut T,
 ) -> Result<LeftWorld, Outcome>
-    ensures { Leaves (new_world rehearsal.now.archive rehearsal.now.frame) count (R.remaining reader) writer.old writer.new (W.contents writer.old) (W.contents writer.new) result }
+    ensures { Leaves (new_world rehearsal.now.archive rehearsal.now.frame) count (R.remaining reader) writer.old
+        writer.new (W.contents writer.old) (W.contents writer.new) result }
 {
     match read_requests(alloc, Stream(reader)) {
         Ok(requests) => served_by_either(
@@ -122,7 +136,8 @@ fn served_by_either<C: Clock, W: Write, T: Teller + DeskTeller>(
     writer: &mut W,
     teller: &mut T,
 ) -> Result<LeftWorld, Outcome>
-    ensures { IsListOf requests.now (λ text. Leaves (new_world rehearsal.now.archive rehearsal.now.frame) count text writer.old writer.new (W.contents writer.old) (W.contents writer.new) result) }
+    ensures { IsListOf requests.now (λ text. Leaves (new_world rehearsal.now.archive rehearsal.now.frame) count text
+        writer.old writer.new (W.contents writer.old) (W.contents writer.new) result) }
 {
     if are_few(requests, u64::from(count)) {
         let mut shelf = MemoryShelf::new(alloc);
@@ -155,7 +170,9 @@ fn served_over<S: Alter + Drop, H: Shelf<S>, C: Clock, W: Write, T: Teller + Des
     writer: &mut W,
     teller: &mut T,
 ) -> Result<World<S>, Outcome>
-    ensures { IsInMemory S.Store → IsListOf requests.now (λ text. RehearsesAndServes S.Store (new_world rehearsal.now.archive rehearsal.now.frame) count text writer.old writer.new (W.contents writer.old) (W.contents writer.new) result) }
+    ensures { IsInMemory S.Store → IsListOf requests.now (λ text. RehearsesAndServes S.Store
+        (new_world rehearsal.now.archive rehearsal.now.frame) count text writer.old writer.new (W.contents writer.old)
+        (W.contents writer.new) result) }
 {
     let mut world = handed_on::<S, H, W, T>(alloc, rehearsal, shelf, requests, writer, teller)?;
     // The world is handed back whichever way its desk ended.

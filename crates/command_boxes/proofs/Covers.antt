@@ -6,7 +6,8 @@ use Rattle.std.proofs.lemmas.Int.{ints}
 use Rattle.sheet_types.specs.declared.frame.Frame.{Frame}
 use Rattle.sheet_types.specs.declared.frame.Ground.{Ground}
 use Rattle.sheet_types.specs.declared.frame.Rect.{Rect}
-use Rattle.sheet_types.specs.Matrix.{block_ground, has_level, has_place, height_at, is_good_rect, level_of, lies_within, tile_span_x, tile_span_y, width_at}
+use Rattle.sheet_types.specs.Matrix.{block_ground, has_level, has_place, height_at, is_good_rect, level_of}
+use Rattle.sheet_types.specs.Matrix.{lies_within, tile_span_x, tile_span_y, width_at}
 use Rattle.matrix_rules.proofs.Frames.{GoodFrame, three}
 use Rattle.matrix_rules.proofs.Grids.{Grid, grid_x, grid_y}
 use Rattle.command_boxes.specs.Covering.{Covers, IsInside, IsLeastCover, IsStretch, frame_ground, has_box}
@@ -30,8 +31,10 @@ pub record LiesWithin (outer inner : Ground) : Type 0 where
 
 pub lies : (outer inner : Ground) → lies_within outer inner ≡ true → LiesWithin outer inner
 lies outer inner h =
-    let last = and_parts (int_le outer.west inner.west && int_le inner.east outer.east && int_le outer.south inner.south) (int_le inner.north outer.north) h in
-    let first = three (int_le outer.west inner.west) (int_le inner.east outer.east) (int_le outer.south inner.south) last.0 in
+    let last = and_parts (int_le outer.west inner.west && int_le inner.east outer.east && int_le outer.south
+    inner.south) (int_le inner.north outer.north) h in
+    let first = three (int_le outer.west inner.west) (int_le inner.east outer.east) (int_le outer.south inner.south)
+    last.0 in
     record {
       west = omega (arith, ints, first.0);
       east = omega (arith, ints, first.1);
@@ -63,13 +66,16 @@ box_of f g h =
 -- ---- the first place of a zoom
 
 some_tiles : (low high tiles tile span : ℤ) → Grid low high tiles tile span → int_lt (pos 0) tiles ≡ true
-some_tiles low high tiles tile span grid = let some : true ≡ int_lt (pos 0) tiles = rw grid.tiles_is (omega (arith, ints, grid.one)) in sym some
+some_tiles low high tiles tile span grid = let some : true ≡ int_lt (pos 0) tiles =
+    rw grid.tiles_is (omega (arith, ints, grid.one)) in sym some
 
-pub first_place : (f : Frame) (zoom : ℤ) → GoodFrame f → has_level f zoom ≡ true → has_place f zoom (pos 0) (pos 0) ≡ true
+pub first_place : (f : Frame) (zoom : ℤ) → GoodFrame f → has_level f zoom ≡ true
+    → has_place f zoom (pos 0) (pos 0) ≡ true
 first_place f zoom good level =
     rw (level, some_tiles _ _ _ _ _ (grid_x f zoom good level), some_tiles _ _ _ _ _ (grid_y f zoom good level)) refl
 
-zoom_by : (f : Frame) (zoom : ℤ) (v : Bool) → GoodFrame f → has_level f zoom ≡ v → has_place f zoom (pos 0) (pos 0) ≡ has_level f zoom
+zoom_by : (f : Frame) (zoom : ℤ) (v : Bool) → GoodFrame f → has_level f zoom ≡ v
+    → has_place f zoom (pos 0) (pos 0) ≡ has_level f zoom
 zoom_by f zoom true good is = first_place f zoom good is ∙ sym is
 zoom_by f zoom false good is = rw is refl
 
@@ -80,7 +86,8 @@ zoom_is f zoom good = zoom_by f zoom (has_level f zoom) good refl
 -- ---- the stretches of a box
 
 -- what ends on the extent ends on the tiles
-stretch_ends : (low high tiles tile span to : ℤ) → Grid low high tiles tile span → to ≤ℤ (high -ℤ low) → to ≤ℤ (tiles *ℤ span)
+stretch_ends : (low high tiles tile span to : ℤ) → Grid low high tiles tile span → to ≤ℤ (high -ℤ low)
+    → to ≤ℤ (tiles *ℤ span)
 stretch_ends low high tiles tile span to grid most =
     rw (grid.tiles_is, grid.span_is) (omega (arith, ints, grid.whole, most))
 
@@ -89,7 +96,8 @@ one_span low high tiles tile span grid = rw grid.span_is (omega (arith, ints, gr
 
 -- ---- a rectangle of such ends is good, and has the box on its ground
 
-is_place : (f : Frame) (zoom column row : ℤ) → has_level f zoom ≡ true → pos 0 ≤ℤ column → column <ℤ width_at f (level_of f zoom)
+is_place : (f : Frame) (zoom column row : ℤ) → has_level f zoom ≡ true → pos 0 ≤ℤ column
+    → column <ℤ width_at f (level_of f zoom)
     → pos 0 ≤ℤ row → row <ℤ height_at f (level_of f zoom) → has_place f zoom column row ≡ true
 is_place f zoom column row level west east north south =
     let a : true ≡ int_le (pos 0) column = omega (arith, ints, west) in
@@ -100,14 +108,17 @@ is_place f zoom column row level west east north south =
 
 placed : (f : Frame) (zoom column row : ℤ) → has_place f zoom column row ≡ true → (pos 0 ≤ℤ column) × (pos 0 ≤ℤ row)
 placed f zoom column row h =
-    let last = three (has_level f zoom && int_le (pos 0) column && int_lt column (width_at f (level_of f zoom))) (int_le (pos 0) row) (int_lt row (height_at f (level_of f zoom))) h in
-    let first = three (has_level f zoom) (int_le (pos 0) column) (int_lt column (width_at f (level_of f zoom))) last.0 in
+    let last = three (has_level f zoom && int_le (pos 0) column && int_lt column (width_at f (level_of f zoom)))
+    (int_le (pos 0) row) (int_lt row (height_at f (level_of f zoom))) h in
+    let first = three (has_level f zoom) (int_le (pos 0) column) (int_lt column (width_at f (level_of f zoom)))
+    last.0 in
     (omega (arith, ints, first.1), omega (arith, ints, last.1))
 
 -- the last column and the last row of a good rectangle
 last_placed : (f : Frame) (r : Rect) → is_good_rect f r ≡ true → (pos 0 ≤ℤ r.last_column) × (pos 0 ≤ℤ r.last_row)
 last_placed f r h =
-    let parts = three (has_place f r.zoom r.column r.row && has_place f r.zoom r.last_column r.last_row) (int_le r.column r.last_column) (int_le r.row r.last_row) h in
+    let parts = three (has_place f r.zoom r.column r.row && has_place f r.zoom r.last_column r.last_row)
+    (int_le r.column r.last_column) (int_le r.row r.last_row) h in
     let places = and_parts (has_place f r.zoom r.column r.row) (has_place f r.zoom r.last_column r.last_row) parts.0 in
     placed f r.zoom r.last_column r.last_row places.1
 
@@ -125,20 +136,25 @@ down_to edge to at h = omega (arith, ints, h)
 
 -- both stretches of a box at a zoom
 pub record Stretches (f : Frame) (zoom : ℤ) (g : Ground) (r : Rect) : Type 0 where
-  pub across : IsStretch (width_at f (level_of f zoom)) (tile_span_x f zoom) (g.west -ℤ f.min_x) (g.east -ℤ f.min_x) r.column r.last_column
-  pub down : IsStretch (height_at f (level_of f zoom)) (tile_span_y f zoom) (f.max_y -ℤ g.north) (f.max_y -ℤ g.south) r.row r.last_row
+  pub across : IsStretch (width_at f (level_of f zoom)) (tile_span_x f zoom) (g.west -ℤ f.min_x) (g.east -ℤ f.min_x)
+      r.column r.last_column
+  pub down : IsStretch (height_at f (level_of f zoom)) (tile_span_y f zoom) (f.max_y -ℤ g.north) (f.max_y -ℤ g.south)
+      r.row r.last_row
 
 no_more : (a b c : ℤ) → a ≤ℤ b → b <ℤ c → a <ℤ c
 no_more a b c h k = omega (arith, ints, h, k)
 
-covers_box : (f : Frame) (g : Ground) (r : Rect) → has_level f r.zoom ≡ true → Stretches f r.zoom g r → Covers f r.zoom g r
+covers_box : (f : Frame) (g : Ground) (r : Rect) → has_level f r.zoom ≡ true → Stretches f r.zoom g r
+    → Covers f r.zoom g r
 covers_box f g r level it =
     let x = it.across in
     let y = it.down in
     let columns : true ≡ int_le r.column r.last_column = omega (arith, ints, x.within.1) in
     let rows : true ≡ int_le r.row r.last_row = omega (arith, ints, y.within.1) in
-    let first = is_place f r.zoom r.column r.row level x.within.0 (no_more _ _ _ x.within.1 x.within.2) y.within.0 (no_more _ _ _ y.within.1 y.within.2) in
-    let last = is_place f r.zoom r.last_column r.last_row level (omega (arith, ints, x.within.0, x.within.1)) x.within.2 (omega (arith, ints, y.within.0, y.within.1)) y.within.2 in
+    let first = is_place f r.zoom r.column r.row level x.within.0 (no_more _ _ _ x.within.1 x.within.2) y.within.0
+    (no_more _ _ _ y.within.1 y.within.2) in
+    let last = is_place f r.zoom r.last_column r.last_row level (omega (arith, ints, x.within.0, x.within.1))
+    x.within.2 (omega (arith, ints, y.within.0, y.within.1)) y.within.2 in
     record {
       level = refl;
       good = and_from _ _ (and_from _ _ (and_from _ _ first last) (sym columns)) (sym rows);
@@ -168,12 +184,27 @@ same : (a : ℤ) → a ≤ℤ a
 same a = omega (arith, ints)
 
 lies_at : (f : Frame) (zoom : ℤ) (g : Ground) (other : Rect) → Covers f zoom g other
-    → LiesWithin (block_ground f (record { zoom = zoom; column = other.column; last_column = other.last_column; row = other.row; last_row = other.last_row })) g
+    → LiesWithin (block_ground f (record {
+      zoom = zoom;
+      column = other.column;
+      last_column = other.last_column;
+      row =
+          other.row;
+      last_row = other.last_row;
+    })) g
 lies_at f zoom g other it =
-    subst (λ z. LiesWithin (block_ground f (record { zoom = z; column = other.column; last_column = other.last_column; row = other.row; last_row = other.last_row })) g)
+    subst (λ z. LiesWithin (block_ground f (record {
+      zoom = z;
+      column = other.column;
+      last_column =
+          other.last_column;
+      row = other.row;
+      last_row = other.last_row;
+    })) g)
     it.level (lies (block_ground f other) g it.box)
 
-is_inside : (f : Frame) (zoom : ℤ) (g : Ground) (r other : Rect) → GoodFrame f → has_level f zoom ≡ true → Stretches f zoom g r → Covers f zoom g other
+is_inside : (f : Frame) (zoom : ℤ) (g : Ground) (r other : Rect) → GoodFrame f → has_level f zoom ≡ true
+    → Stretches f zoom g r → Covers f zoom g other
     → IsInside r other
 is_inside f zoom g r other good level it covers =
     let ground = lies_at f zoom g other covers in
@@ -184,16 +215,21 @@ is_inside f zoom g r other good level it covers =
     let y = it.down in
     record {
       columns = (
-        is_no_later other.column r.column (tile_span_x f zoom) _ wide x.within.0 (from_edge f.min_x g.west _ ground.west) x.begins.1,
-        is_no_later r.last_column other.last_column (tile_span_x f zoom) _ wide last.0 (same _) (ends_behind f.min_x g.east _ _ x.ends.0 ground.east),
+        is_no_later other.column r.column (tile_span_x f zoom) _ wide x.within.0
+            (from_edge f.min_x g.west _ ground.west) x.begins.1,
+        is_no_later r.last_column other.last_column (tile_span_x f zoom) _ wide last.0 (same _)
+            (ends_behind f.min_x g.east _ _ x.ends.0 ground.east),
       );
       rows = (
-        is_no_later other.row r.row (tile_span_y f zoom) _ high y.within.0 (under_edge f.max_y g.north _ ground.north) y.begins.1,
-        is_no_later r.last_row other.last_row (tile_span_y f zoom) _ high last.1 (same _) (ends_below f.max_y g.south _ _ y.ends.0 ground.south),
+        is_no_later other.row r.row (tile_span_y f zoom) _ high y.within.0 (under_edge f.max_y g.north _ ground.north)
+            y.begins.1,
+        is_no_later r.last_row other.last_row (tile_span_y f zoom) _ high last.1 (same _)
+            (ends_below f.max_y g.south _ _ y.ends.0 ground.south),
       );
     }
 
-pub least_of : (f : Frame) (g : Ground) (r : Rect) → GoodFrame f → has_level f r.zoom ≡ true → Stretches f r.zoom g r → IsLeastCover f r.zoom g r
+pub least_of : (f : Frame) (g : Ground) (r : Rect) → GoodFrame f → has_level f r.zoom ≡ true → Stretches f r.zoom g r
+    → IsLeastCover f r.zoom g r
 least_of f g r good level it = record {
   covers = covers_box f g r level it;
   least = λ other covers. is_inside f r.zoom g r other good level it covers;
@@ -232,11 +268,19 @@ box_fits f g good box = record {
 pub stretch_across : (f : Frame) (zoom : ℤ) (g : Ground) → GoodFrame f → has_level f zoom ≡ true → HasBox f g
     → (pos 0 ≤ℤ (g.west -ℤ f.min_x)) × ((g.west -ℤ f.min_x) <ℤ (g.east -ℤ f.min_x))
     × ((g.east -ℤ f.min_x) ≤ℤ (width_at f (level_of f zoom) *ℤ tile_span_x f zoom))
-stretch_across f zoom g good level box =
-    (omega (arith, ints), omega (arith, ints), stretch_ends _ _ _ _ _ (g.east -ℤ f.min_x) (grid_x f zoom good level) (omega (arith, ints)))
+stretch_across f zoom g good level box = (
+  omega (arith, ints),
+  omega (arith, ints),
+  stretch_ends _ _ _ _ _ (g.east -ℤ f.min_x) (grid_x f zoom good level)
+      (omega (arith, ints)),
+)
 
 pub stretch_down : (f : Frame) (zoom : ℤ) (g : Ground) → GoodFrame f → has_level f zoom ≡ true → HasBox f g
     → (pos 0 ≤ℤ (f.max_y -ℤ g.north)) × ((f.max_y -ℤ g.north) <ℤ (f.max_y -ℤ g.south))
     × ((f.max_y -ℤ g.south) ≤ℤ (height_at f (level_of f zoom) *ℤ tile_span_y f zoom))
-stretch_down f zoom g good level box =
-    (omega (arith, ints), omega (arith, ints), stretch_ends _ _ _ _ _ (f.max_y -ℤ g.south) (grid_y f zoom good level) (omega (arith, ints)))
+stretch_down f zoom g good level box = (
+  omega (arith, ints),
+  omega (arith, ints),
+  stretch_ends _ _ _ _ _ (f.max_y -ℤ g.south) (grid_y f zoom good level)
+      (omega (arith, ints)),
+)

@@ -59,7 +59,8 @@ fn least_cover(frame: &Frame, zoom: i64, ground: &Ground) -> Rect
     }
 }
 
-/// The least rectangle of sheets of a zoom that covers a box; `None` where the frame has no such zoom, or does not have all of the box, or there
+/// The least rectangle of sheets of a zoom that covers a box; `None` where the frame has no such
+/// zoom, or does not have all of the box, or there
 /// is nothing of it.
 pub fn covering(frame: &Frame, zoom: i64, ground: &Ground) -> Option<Rect>
     requires { IsTrue (is_good_frame frame.now) }

@@ -33,7 +33,8 @@ use Rattle.command_words.specs.declared.statuses.Outcome.TheVariants.{Done, Refu
 use Rattle.command_folder.specs.Endings.{done, failed, no_memory}
 use Rattle.command_folder.specs.declared.endings.Ending.{Ending}
 use Rattle.command_folder.specs.declared.endings.Ending.TheVariants.{NoRequest, Usual}
-use Rattle.command_field.specs.Answers.{AnswersFile, AnswersGiven, AnswersLive, AnswersText, AreHeldIn, AsksNoMerge, StaysFree, head_answer}
+use Rattle.command_field.specs.Answers.{AnswersFile, AnswersGiven, AnswersLive, AnswersText, AreHeldIn, AsksNoMerge}
+use Rattle.command_field.specs.Answers.{StaysFree, head_answer}
 use Rattle.command_field.specs.declared.asking.Answer.{Answer}
 use Rattle.command_field.specs.declared.asking.Answer.TheVariants.{
   Asked,
@@ -141,7 +142,8 @@ module _ {S : Type 0} (g : Ghosts S) (a : Ask) (text : Option (List ℕ)) (timed
   module _ (old read new : Seen S) (failed fails : ℕ) (before after : Option (List ℕ))
       (untouched : IsUntouched g old read)
       (told : AllClean g read.members → (w : World) → StandsFor g old w → AnswersText w a text (Asked requests))
-      (none : AsksNoMerge (Asked requests)) (x : Unit {0}) (it : IsImported g requests.items read new failed fails before after (Ok x)) where
+      (none : AsksNoMerge (Asked requests)) (x : Unit {0}) (it :
+      IsImported g requests.items read new failed fails before after (Ok x)) where
     ran_whole : IsRun g requests.items read it.replies new failed fails
     ran_whole = subst (λ qs. IsRun g qs read it.replies new failed fails)
         (ap (λ n. take n requests.items) it.written.0 ∙ take_all (length requests.items) requests.items (omega arith))
@@ -155,7 +157,8 @@ module _ {S : Type 0} (g : Ghosts S) (a : Ask) (text : Option (List ℕ)) (timed
 
     -- no connection left the world, since no request is a merge
     none_gone : AreClean g ran_whole.gone
-    none_gone = subst (AreClean g) (sym (ran_whole.kept none)) (All-from_recursion (λ h. HasCleanDisk (state g h)) [] tt)
+    none_gone = subst (AreClean g) (sym (ran_whole.kept none))
+        (All-from_recursion (λ h. HasCleanDisk (state g h)) [] tt)
 
     came_home : AllClean g new.members → (w : World) → StandsFor g old w
         → (next : World) × StandsFor g new next × IsHome a text w next
@@ -187,14 +190,16 @@ module _ {S : Type 0} (g : Ghosts S) {W : Type 0} (writer writer' : W) (before a
 
   carried_home : (requests : Vec Request Global) (r : Result (Unit {0}) ImportFault)
       → (AllClean g read.members → (w : World) → StandsFor g old w → AnswersText w a text (Asked requests))
-      → AsksNoMerge (Asked requests) → ending ≡ import_ending r → IsCarried g requests.items read new failed fails before after r → Home
+      → AsksNoMerge (Asked requests) → ending ≡ import_ending r
+      → IsCarried g requests.items read new failed fails before after r → Home
   carried_home requests (Ok x) told none end it =
       came_home g a text timed requests old read new failed fails before after untouched told none x it
   carried_home requests (Err fault) told none end it = absurd (no_import fault (sym end ∙ is_done))
 
   answered_home : (answer : Answer)
       → (AllClean g read.members → (w : World) → StandsFor g old w → AnswersText w a text answer)
-      → AsksNoMerge answer → EndsAnswer g writer writer' before after CarryOut answer read new failed fails ending → Home
+      → AsksNoMerge answer → EndsAnswer g writer writer' before after CarryOut answer read new failed fails ending
+      → Home
   answered_home (Asked requests) told none ends = carried_home requests ends.0 told none ends.1 ends.2
   answered_home NoSuchPackage told none ends =
       absurd (not_printed writer writer' before after (refusal_text NoSuchPackage) ending ends.1 is_done)

@@ -46,16 +46,21 @@ module _ {S : Type 0} (g : Ghosts S) where
 
     -- They are shown as a list or in short, and the world stays; or they are carried out.
     abbrev pub Serves : Purpose → List Request → Seen S → Seen S → ℕ → ℕ → Ending → Type 0
-    Serves ShowList requests old new failed fails ending = (new ≡ old) × PrintsText writer writer' before after (list_text requests) done ending
-    Serves ShowSummary requests old new failed fails ending = (new ≡ old) × PrintsText writer writer' before after (summary_text requests) done ending
+    Serves ShowList requests old new failed fails ending = (new ≡ old)
+        × PrintsText writer writer' before after (list_text requests) done ending
+    Serves ShowSummary requests old new failed fails ending = (new ≡ old)
+        × PrintsText writer writer' before after (summary_text requests) done ending
     Serves CarryOut requests old new failed fails ending = IsBroughtHome requests old new failed fails ending
 
     -- the requests are served; or there are none, that is printed, and the world stays
     abbrev pub EndsAnswer : Purpose → Answer → Seen S → Seen S → ℕ → ℕ → Ending → Type 0
-    EndsAnswer purpose (Asked requests) old new failed fails ending = Serves purpose requests.items old new failed fails ending
-    EndsAnswer purpose answer old new failed fails ending = (new ≡ old) × PrintsText writer writer' before after (refusal_text answer) NoRequest ending
+    EndsAnswer purpose (Asked requests) old new failed fails ending =
+        Serves purpose requests.items old new failed fails ending
+    EndsAnswer purpose answer old new failed fails ending = (new ≡ old)
+        × PrintsText writer writer' before after (refusal_text answer) NoRequest ending
 
-    -- The text of a list was answered, of each world that the value stands for, and what came of that; or memory or a store gave out.
+    -- The text of a list was answered, of each world that the value stands for, and what came of that; or memory or a
+    -- store gave out.
     abbrev pub Brings : Ask → Option (List ℕ) → Purpose → Seen S → Seen S → ℕ → ℕ → Ending → Type 0
     Brings a text purpose old new failed fails ending =
         ((fault : Fault) × IsUntouched g old new × (ending ≡ Usual (Stopped (of_fault fault))) × (writer' ≡ writer))

@@ -6,7 +6,8 @@ use Rattle.sheet_types.specs.declared.command.Command.TheVariants.{Add, Delete, 
 use Rattle.sheet_types.specs.declared.command.Request.{Request}
 use Rattle.command_words.specs.Endings.{line_of}
 use Rattle.command_field.specs.declared.asking.Answer.{Answer}
-use Rattle.command_field.specs.declared.asking.Answer.TheVariants.{Asked, NoSuchPackage, NoList, OtherPackage, Stale, OtherSystem, OtherFrame, Items, TwoAlike, NotFree}
+use Rattle.command_field.specs.declared.asking.Answer.TheVariants.{Asked, NoSuchPackage, NoList, OtherPackage, Stale}
+use Rattle.command_field.specs.declared.asking.Answer.TheVariants.{OtherSystem, OtherFrame, Items, TwoAlike, NotFree}
 use Rattle.command_field.specs.declared.freedom.Taken.{Taken}
 use Rattle.command_field.specs.declared.freedom.Taken.TheVariants.{Identity, Request as SameRequest, TooMany}
 
@@ -63,5 +64,6 @@ is_link r = links r.command
 
 -- how many of each part there are
 abbrev pub summary_text : List Request → List ℕ
-summary_text requests = decimal (count_by is_unlink requests) ++ codes " unlinks, " ++ decimal (count_by is_delete requests) ++ codes " deletes, "
+summary_text requests = decimal (count_by is_unlink requests) ++ codes " unlinks, "
+    ++ decimal (count_by is_delete requests) ++ codes " deletes, "
     ++ decimal (count_by is_add requests) ++ codes " adds, " ++ decimal (count_by is_link requests) ++ codes " links\n"

@@ -46,7 +46,8 @@ fn print<W: Write>(writer: &mut W, text: &[u8], due: Ending) -> Ending
 
 /// Writes the text of a list.
 fn show_list<W: Write>(alloc: Global, requests: &[Request], writer: &mut W) -> Ending
-    ensures { PrintsText writer.old writer.new (W.contents writer.old) (W.contents writer.new) (list_text requests.now) done result }
+    ensures { PrintsText writer.old writer.new (W.contents writer.old) (W.contents writer.new)
+        (list_text requests.now) done result }
 {
     match list_text(alloc, requests) {
         Ok(text) => print(writer, text.as_slice(), DONE),
@@ -56,7 +57,8 @@ fn show_list<W: Write>(alloc: Global, requests: &[Request], writer: &mut W) -> E
 
 /// Writes how many requests there are.
 fn show_summary<W: Write>(alloc: Global, requests: &[Request], writer: &mut W) -> Ending
-    ensures { PrintsText writer.old writer.new (W.contents writer.old) (W.contents writer.new) (summary_text requests.now) done result }
+    ensures { PrintsText writer.old writer.new (W.contents writer.old) (W.contents writer.new)
+        (summary_text requests.now) done result }
 {
     match summary_text(alloc, requests) {
         Ok(text) => print(writer, text.as_bytes(), DONE),
@@ -104,7 +106,8 @@ fn serve<S: Alter + Drop, H: Shelf<S>, W: Write, T: Teller>(
 
 /// Writes why there are no requests.
 fn refuse<W: Write>(alloc: Global, answer: &Answer, writer: &mut W) -> Ending
-    ensures { PrintsText writer.old writer.new (W.contents writer.old) (W.contents writer.new) (refusal_text answer.now) NoRequest result }
+    ensures { PrintsText writer.old writer.new (W.contents writer.old) (W.contents writer.new)
+        (refusal_text answer.now) NoRequest result }
 {
     match refusal_text(alloc, answer) {
         Ok(text) => print(writer, text.as_bytes(), Ending::NoRequest),
@@ -147,7 +150,8 @@ fn end_answer<S: Alter + Drop, H: Shelf<S>, W: Write, T: Teller>(
     }
 }
 
-/// Reads a list of what a file holds, and shows or carries out the requests that make a package of a world hold that. Answers besides what is said of
+/// Reads a list of what a file holds, and shows or carries out the requests that make a package of
+/// a world hold that. Answers besides what is said of
 /// a refusal in plain words.
 pub fn bring_in<S: Alter + Drop, H: Shelf<S>, R: Read + Drop, W: Write, T: Teller>(
     alloc: Global,

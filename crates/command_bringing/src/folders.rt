@@ -108,7 +108,8 @@ fn bring_at<R: Read + Drop, W: Write, T: Teller>(
     }
 }
 
-/// Reads a list of what a file holds, and shows or carries out the requests that make a package of a folder hold that. The words are read first; then the folder is opened, and
+/// Reads a list of what a file holds, and shows or carries out the requests that make a package of
+/// a folder hold that. The words are read first; then the folder is opened, and
 /// then the list is read. Answers besides what is said of a refusal in plain words.
 pub fn bring_for<R: Read + Drop, W: Write, T: Teller>(
     rt: &HostRuntime,

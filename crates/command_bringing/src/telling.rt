@@ -1,6 +1,7 @@
 //! What is printed of a file that is refused, and of a list in short.
 ghost use Rattle.std.specs.Prelude.{◌≡◌, ◌++◌, IfOk, codes, count_by, decimal, string_bytes};
-ghost use Rattle.command_bringing.specs.Telling.{is_add, is_delete, is_link, is_unlink, refusal_text, refused, summary_text, taken_words};
+ghost use Rattle.command_bringing.specs.Telling.{is_add, is_delete, is_link, is_unlink, refusal_text, refused};
+ghost use Rattle.command_bringing.specs.Telling.{summary_text, taken_words};
 
 use command_field::asking::Answer;
 use command_field::freedom::Taken;
@@ -90,7 +91,8 @@ fn parts_text(
     adds: usize,
     links: usize,
 ) -> Result<String, AllocError>
-    ensures { IfOk result (λ text. string_bytes text ≡ decimal unlinks ++ (codes " unlinks, " ++ (decimal deletes ++ (codes " deletes, "
+    ensures { IfOk result (λ text. string_bytes text ≡ decimal unlinks
+        ++ (codes " unlinks, " ++ (decimal deletes ++ (codes " deletes, "
         ++ (decimal adds ++ (codes " adds, " ++ (decimal links ++ codes " links\n"))))))) }
 {
     format!(in alloc; "{unlinks} unlinks, {deletes} deletes, {adds} adds, {links} links\n")

@@ -21,7 +21,8 @@ use Rattle.command_ordering.specs.Telling.{replies_ending, stopped}
 use Rattle.command_desk.specs.declared.carrying.Report.{Report}
 use Rattle.command_desk.specs.declared.carrying.Report.TheVariants.{Row, Outcome}
 
--- After the row of this number an import goes on, and standard error is told of a refusal; or it stops by what gave out.
+-- After the row of this number an import goes on, and standard error is told of a refusal; or it stops by what gave
+-- out.
 abbrev pub row_ending : ℕ → Result Receipt Refusal → Ending
 row_ending n (Ok receipt) = done
 row_ending n (Err refusal.OutOfMemory) = stopped OutOfMemory

@@ -8,8 +8,10 @@ use Rattle.command_drops.specs.declared.dropping.Dropped.{Dropped}
 use Rattle.command_drops.specs.declared.holding.Holding.{Holding}
 
 module _ {S : Type 0} (g : Ghosts S) where
-  -- At this moment each of its links was asked to end, and then the item to be deleted, and these requests were carried out
+  -- At this moment each of its links was asked to end, and then the item to be deleted, and these requests were
+  -- carried out
   -- one after the other. The shelf had failed so often before and after.
-  pub record IsDropped (at id : List ℕ) (h : Holding) (old new : Seen S) (dropped : Dropped) (before after : ℕ) : Type 0 where
+  pub record IsDropped (at id : List ℕ) (h : Holding) (old new : Seen S) (dropped : Dropped) (before after : ℕ) :
+      Type 0 where
     pub asked : AreRequestsFor at (drop_commands h.holder id h.links.items) dropped.requests.items
     pub ran : IsRun g dropped.requests.items old dropped.replies.items new before after

@@ -32,7 +32,8 @@ fn requests_for<N: Identities>(
     holding: &Holding,
     identities: &mut N,
 ) -> Result<Vec<Request>, Fault>
-    ensures { IfOk result (λ requests. AreRequestsFor at.now (drop_commands holding.now.holder id holding.now.links.items) requests.items) }
+    ensures { IfOk result (λ requests. AreRequestsFor at.now
+        (drop_commands holding.now.holder id holding.now.links.items) requests.items) }
 {
     let links = holding.links.as_slice();
     match drop_requests(alloc, at, holding.holder, id, links, identities) {
@@ -42,7 +43,8 @@ fn requests_for<N: Identities>(
     }
 }
 
-/// Drops an item which is held so, at this moment: its links are ended, and then it is deleted, each by a request of its own.
+/// Drops an item which is held so, at this moment: its links are ended, and then it is deleted,
+/// each by a request of its own.
 ///
 /// # Errors
 ///

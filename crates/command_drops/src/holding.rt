@@ -53,7 +53,8 @@ fn links_in<S: Alter + Drop>(
     holder: Uuid,
     id: Uuid,
 ) -> Result<Option<Vec<Relation>>, Fault>
-    ensures told { TellsOf S.Store (λ w found. AreLinksIn w holder id (option_map (λ v. v.items) found)) world.old world.new result }
+    ensures told { TellsOf S.Store (λ w found. AreLinksIn w holder id (option_map (λ v. v.items) found)) world.old
+        world.new result }
     ensures read { IsRead S.Store world.old world.new }
 {
     let Some((items, links)) = world.holdings(alloc, holder)? else {

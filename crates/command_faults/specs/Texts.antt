@@ -5,13 +5,17 @@ use Rattle.sheet_types.specs.Texts.{uuid_text}
 use Rattle.sheet_types.specs.declared.refusal.Refusal.{Refusal}
 use Rattle.sheet_types.specs.declared.refusal.Refusal.TheVariants as refusal
 use Rattle.opening_faults.specs.declared.faults.RecoverFault.{RecoverFault}
-use Rattle.opening_faults.specs.declared.faults.RecoverFault.TheVariants.{NoArchive, TwoArchives, NotAPackage, TwoCopies, MissingPackage, ForeignFrame, Dangling, OutOfAccount, Altered, OutOfMemory, StoreFault}
+use Rattle.opening_faults.specs.declared.faults.RecoverFault.TheVariants.{NoArchive, TwoArchives, NotAPackage}
+use Rattle.opening_faults.specs.declared.faults.RecoverFault.TheVariants.{TwoCopies, MissingPackage, ForeignFrame}
+use Rattle.opening_faults.specs.declared.faults.RecoverFault.TheVariants.{Dangling, OutOfAccount, Altered}
+use Rattle.opening_faults.specs.declared.faults.RecoverFault.TheVariants.{OutOfMemory, StoreFault}
 use Rattle.request_csv.specs.Forms.{column_name}
 use Rattle.request_csv.specs.declared.causes.ListFault.{ListFault}
 use Rattle.request_csv.specs.declared.causes.ListFault.TheVariants as cause
 use Rattle.request_csv.specs.declared.causes.RecordFault.TheVariants.{NoText, FieldCount, Column}
 use Rattle.request_csv.specs.declared.forms.Want.{Want}
-use Rattle.request_csv.specs.declared.forms.Want.TheVariants.{ItsName, Anything, Identity, Number, Hexadecimal, Nothing, CommandWord, KindWord, MappingWord, ModeWord}
+use Rattle.request_csv.specs.declared.forms.Want.TheVariants.{ItsName, Anything, Identity, Number, Hexadecimal}
+use Rattle.request_csv.specs.declared.forms.Want.TheVariants.{Nothing, CommandWord, KindWord, MappingWord, ModeWord}
 use Rattle.request_csv.specs.declared.lists.ReadFault.{ReadFault}
 use Rattle.request_csv.specs.declared.lists.ReadFault.TheVariants.{Header, Record, Read, Memory}
 
@@ -63,14 +67,16 @@ want_text ModeWord = codes " is none of strict, follow"
 abbrev pub cause_text : ListFault → List ℕ
 cause_text cause.NoRecord = codes "list: it has no record"
 cause_text (cause.Header NoText) = codes "list: the header is no UTF-8"
-cause_text (cause.Header (FieldCount count)) = codes "list: the header has " ++ (decimal count ++ codes " fields, not 18")
+cause_text (cause.Header (FieldCount count)) = codes "list: the header has "
+    ++ (decimal count ++ codes " fields, not 18")
 cause_text (cause.Header (Column fault)) =
     codes "list: the header has another name in place of '" ++ (column_name fault.column ++ codes "'")
 cause_text (cause.Record n NoText) = codes "list: record " ++ (decimal n ++ codes " is no UTF-8")
 cause_text (cause.Record n (FieldCount count)) =
     codes "list: record " ++ (decimal n ++ (codes " has " ++ (decimal count ++ codes " fields, not 18")))
 cause_text (cause.Record n (Column fault)) =
-    codes "list: record " ++ (decimal n ++ (codes ": column '" ++ (column_name fault.column ++ (codes "'" ++ want_text fault.want))))
+    codes "list: record " ++ (decimal n ++ (codes ": column '"
+    ++ (column_name fault.column ++ (codes "'" ++ want_text fault.want))))
 
 -- ---- refusals
 

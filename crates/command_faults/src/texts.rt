@@ -1,6 +1,7 @@
 //! The texts, each without the end of a line.
 ghost use Rattle.std.specs.Prelude.{◌≡◌, IfOk, string_bytes};
-ghost use Rattle.command_faults.specs.Texts.{carried, cause_text, fault_text, list_text, more_text, record_text, refusal_text, want_text};
+ghost use Rattle.command_faults.specs.Texts.{carried, cause_text, fault_text, list_text, more_text, record_text};
+ghost use Rattle.command_faults.specs.Texts.{refusal_text, want_text};
 
 use opening_faults::faults::RecoverFault;
 use request_csv::causes::{ListFault, RecordFault};
@@ -9,7 +10,8 @@ use request_csv::lists::ReadFault;
 use sheet_types::refusal::Refusal;
 use std::alloc::{AllocError, Global};
 
-/// What is known of a fault by which stores stand for no world: of which package or item it is. It is empty where no more is known than its name.
+/// What is known of a fault by which stores stand for no world: of which package or item it is. It
+/// is empty where no more is known than its name.
 ///
 /// # Errors
 ///

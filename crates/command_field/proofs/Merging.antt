@@ -33,7 +33,8 @@ use Rattle.command_field.specs.declared.asking.Ask.{Ask}
 abbrev Stays : Command → Type 0
 Stays c = child_returned c ≡ None
 
-each_made : {X : Type 0} (make : X → Command) → ((x : X) → Stays (make x)) → (xs : List X) → AllByRecursion Stays (map make xs)
+each_made : {X : Type 0} (make : X → Command) → ((x : X) → Stays (make x)) → (xs : List X)
+    → AllByRecursion Stays (map make xs)
 each_made make so [] = tt
 each_made make so (x ∷ xs) = (so x, each_made make so xs)
 

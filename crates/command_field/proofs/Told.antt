@@ -1,5 +1,6 @@
 -- What was answered of what was read is so of each world that it was read of.
-use Rattle.std.proofs.Common.{◌≡◌, ◌∙◌, ◌==◌, ℕ, List, ◌∷◌, length, true, false, Some, None, Result, Ok, Err, IfOk, unwrap_or, ap, sym, subst, inl, inr, arith}
+use Rattle.std.proofs.Common.{◌≡◌, ◌∙◌, ◌==◌, ℕ, List, ◌∷◌, length, true, false, Some, None, Result, Ok, Err, IfOk}
+use Rattle.std.proofs.Common.{unwrap_or, ap, sym, subst, inl, inr, arith}
 use Rattle.std.specs.Prelude.{Bool, Option, [], refl}
 use Rattle.std.proofs.lemmas.Bool.Decides.{nat_tests}
 use Rattle.std.specs.Bool.{then_some}
@@ -13,9 +14,11 @@ use Rattle.sheet_types.specs.declared.frame.Frame.{Frame}
 use Rattle.field_changes.specs.declared.held.Held.{Held}
 use Rattle.field_faults.specs.Heads.{head_fault}
 use Rattle.field_faults.specs.Lines.{fault_lines}
-use Rattle.command_field.specs.Answers.{AnswersBy, AnswersFile, AnswersGiven, AnswersLines, AnswersText, AreHeldIn, IsTakenOf, StaysFree}
+use Rattle.command_field.specs.Answers.{AnswersBy, AnswersFile, AnswersGiven, AnswersLines, AnswersText, AreHeldIn}
+use Rattle.command_field.specs.Answers.{IsTakenOf, StaysFree}
 use Rattle.command_field.specs.declared.asking.Answer.{Answer}
-use Rattle.command_field.specs.declared.asking.Answer.TheVariants.{Asked, NoSuchPackage, NoList, OtherPackage, Stale, OtherSystem, OtherFrame, Items, TwoAlike, NotFree}
+use Rattle.command_field.specs.declared.asking.Answer.TheVariants.{Asked, NoSuchPackage, NoList, OtherPackage, Stale}
+use Rattle.command_field.specs.declared.asking.Answer.TheVariants.{OtherSystem, OtherFrame, Items, TwoAlike, NotFree}
 use Rattle.command_field.specs.declared.asking.Ask.{Ask}
 use Rattle.command_field.specs.declared.freedom.Taken.{Taken}
 
@@ -27,16 +30,21 @@ given_of : (w : World) (a : Ask) (n : ℕ) (f : Frame) (found : List Item × Lis
     → f ≡ w.frame → Some found ≡ holdings_answer w a.«package» → n ≡ ticket w a.«package»
     → AnswersGiven f a n found.0 found.1 h first → StaysFree w found.0 found.1 first x → AnswersFile w a h x
 given_of w a n f found h first x frame is number it stays =
-    let held : found ≡ ((holdings w a.«package»).items, (holdings w a.«package»).links) = pair_held (is_live w a.«package») ((holdings w a.«package»).items, (holdings w a.«package»).links) found is in (
+    let held : found ≡ ((holdings w a.«package»).items, (holdings w a.«package»).links) =
+    pair_held (is_live w a.«package») ((holdings w a.«package»).items, (holdings w a.«package»).links) found
+    is in (
       first,
       subst (λ (l : List Item × List Relation). AnswersGiven w.frame a (ticket w a.«package») l.0 l.1 h first) held
-          (subst (λ k. AnswersGiven w.frame a k found.0 found.1 h first) number (subst (λ (g : Frame). AnswersGiven g a n found.0 found.1 h first) frame it)),
+          (subst (λ k. AnswersGiven w.frame a k found.0 found.1 h first) number
+          (subst (λ (g : Frame). AnswersGiven g a n found.0 found.1 h first) frame it)),
       subst (λ (l : List Item × List Relation). StaysFree w l.0 l.1 first x) held stays,
     )
 
 -- of the worlds before the holdings were read, and after
-pub told_given : {E : Type 0} (P R : World → Type 0) (a : Ask) (n : ℕ) (f : Frame) (items : List Item) (links : List Relation) (h : Held) (first : Answer) (r : Result Answer E)
-    → ((w : World) → P w → f ≡ w.frame) → ((w : World) → P w → Some (items, links) ≡ holdings_answer w a.«package») → ((w : World) → P w → R w)
+pub told_given : {E : Type 0} (P R : World → Type 0) (a : Ask) (n : ℕ) (f : Frame) (items : List Item)
+    (links : List Relation) (h : Held) (first : Answer) (r : Result Answer E)
+    → ((w : World) → P w → f ≡ w.frame) → ((w : World) → P w → Some (items, links) ≡ holdings_answer w a.«package»)
+    → ((w : World) → P w → R w)
     → AnswersGiven f a n items links h first → IfOk r (λ x. (w : World) → R w → StaysFree w items links first x)
     → IfOk r (λ x. (w : World) → P w → is_live w a.«package» ≡ true → n ≡ ticket w a.«package» → AnswersFile w a h x)
 told_given P R a n f items links h first (Ok x) frame found so given it = λ w stands live number.
@@ -44,16 +52,20 @@ told_given P R a n f items links h first (Ok x) frame found so given it = λ w s
 told_given P R a n f items links h first (Err e) frame found so given it = tt
 
 -- the same of the text that lists the file
-pub told_text : {E : Type 0} (P : World → Type 0) (a : Ask) (n : ℕ) (text : Option (List ℕ)) (h : Held) (r : Result Answer E)
+pub told_text : {E : Type 0} (P : World → Type 0) (a : Ask) (n : ℕ) (text : Option (List ℕ)) (h : Held)
+    (r : Result Answer E)
     → ((w : World) → P w → (is_live w a.«package» ≡ true) × (n ≡ ticket w a.«package»)) → AreHeldIn text (Some h)
     → IfOk r (λ x. (w : World) → P w → is_live w a.«package» ≡ true → n ≡ ticket w a.«package» → AnswersFile w a h x)
     → IfOk r (λ x. (w : World) → P w → AnswersText w a text x)
-told_text P a n text h (Ok x) some listed it = λ w stands. let seen = some w stands in inr (seen.0, inr (h, listed, it w stands seen.0 seen.1))
+told_text P a n text h (Ok x) some listed it = λ w stands. let seen =
+    some w stands in inr (seen.0, inr (h, listed, it w stands seen.0 seen.1))
 told_text P a n text h (Err e) some listed it = tt
 
 -- where no line is due, what was answered is of the requests
-module _ (lines p : List ℕ) (number : ℕ) (moment : List ℕ) (items : List Item) (linked : List Relation) (more : Bool) (h : Held) (none : lines ≡ []) where
-  by_none : (x : Answer) → AnswersBy p number moment items linked more h x → AnswersLines lines p number moment items linked more h x
+module _ (lines p : List ℕ) (number : ℕ) (moment : List ℕ) (items : List Item) (linked : List Relation) (more : Bool)
+    (h : Held) (none : lines ≡ []) where
+  by_none : (x : Answer) → AnswersBy p number moment items linked more h x
+      → AnswersLines lines p number moment items linked more h x
   by_none (Asked requests) it = (none, it)
   by_none NoSuchPackage it = absurd it
   by_none NoList it = (none, it)
@@ -65,19 +77,23 @@ module _ (lines p : List ℕ) (number : ℕ) (moment : List ℕ) (items : List I
   by_none TwoAlike it = (none, it)
   by_none (NotFree taken) it = absurd it
 
-  pub none_told : {E : Type 0} (r : Result Answer E) → IfOk r (AnswersBy p number moment items linked more h) → IfOk r (AnswersLines lines p number moment items linked more h)
+  pub none_told : {E : Type 0} (r : Result Answer E) → IfOk r (AnswersBy p number moment items linked more h)
+      → IfOk r (AnswersLines lines p number moment items linked more h)
   none_told (Ok x) it = by_none x it
   none_told (Err e) it = tt
 
 -- where the file as a whole is no fault, what was answered is of its records
-pub told_heads : {E : Type 0} (f : Frame) (a : Ask) (n : ℕ) (items : List Item) (links : List Relation) (h : Held) (r : Result Answer E)
+pub told_heads : {E : Type 0} (f : Frame) (a : Ask) (n : ℕ) (items : List Item) (links : List Relation) (h : Held)
+    (r : Result Answer E)
     → head_fault a.«package» n f a.more h ≡ None
-    → IfOk r (AnswersLines (fault_lines f items a.more h) a.«package» n a.at.now items links a.more h) → IfOk r (AnswersGiven f a n items links h)
+    → IfOk r (AnswersLines (fault_lines f items a.more h) a.«package» n a.at.now items links a.more h)
+    → IfOk r (AnswersGiven f a n items links h)
 told_heads f a n items links h (Ok x) none it = inr (none, it)
 told_heads f a n items links h (Err e) none it = tt
 
 -- a text of no bytes has no lines
-pub no_lines : (n : ℕ) (text lines : List ℕ) (b : Bool) → n ≡ length text → text ≡ lines → b ≡ (n == 0) → b ≡ true → lines ≡ []
+pub no_lines : (n : ℕ) (text lines : List ℕ) (b : Bool) → n ≡ length text → text ≡ lines → b ≡ (n == 0) → b ≡ true
+    → lines ≡ []
 no_lines n [] lines b long is said so = sym is
 no_lines n (x ∷ xs) lines b long is said so = absurd (grind (arith, nat_tests, long, said, so))
 

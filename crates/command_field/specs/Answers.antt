@@ -20,14 +20,16 @@ use Rattle.field_faults.specs.declared.heads.HeadFault.{HeadFault}
 use Rattle.field_home_laws.specs.Free.{IsEmptyOrFree}
 use Rattle.field_faults.specs.declared.heads.HeadFault.TheVariants as head
 use Rattle.command_field.specs.declared.asking.Answer.{Answer}
-use Rattle.command_field.specs.declared.asking.Answer.TheVariants.{Asked, NoSuchPackage, NoList, OtherPackage, Stale, OtherSystem, OtherFrame, Items, TwoAlike, NotFree}
+use Rattle.command_field.specs.declared.asking.Answer.TheVariants.{Asked, NoSuchPackage, NoList, OtherPackage, Stale}
+use Rattle.command_field.specs.declared.asking.Answer.TheVariants.{OtherSystem, OtherFrame, Items, TwoAlike, NotFree}
 use Rattle.command_field.specs.declared.asking.Ask.{Ask}
 use Rattle.command_field.specs.declared.freedom.Taken.{Taken}
 use Rattle.command_field.specs.Freedom.{IsFreeOrTaken, IsTaken}
 
 -- ---- of what a package holds
 
-module _ (p : List ℕ) (number : ℕ) (moment : List ℕ) (items : List Item) (linked : List Relation) (more : Bool) (h : Held) where
+module _ (p : List ℕ) (number : ℕ) (moment : List ℕ) (items : List Item) (linked : List Relation) (more : Bool)
+    (h : Held) where
   -- The requests for it; or a link is there twice, or two new items have one identity.
   abbrev pub AnswersBy : Answer → Type 0
   AnswersBy (Asked requests) = AreChanges p number moment items linked more h.items.items h.links.items requests.items
@@ -38,7 +40,8 @@ module _ (p : List ℕ) (number : ℕ) (moment : List ℕ) (items : List Item) (
 -- The lines of what it cannot hold, if there are any; else as before.
 abbrev pub AnswersLines : List ℕ → List ℕ → ℕ → List ℕ → List Item → List Relation → Bool → Held → Answer → Type 0
 AnswersLines lines p number moment items linked more h (Items text) = (string_bytes text ≡ lines) × ¬ (lines ≡ [])
-AnswersLines lines p number moment items linked more h answer = (lines ≡ []) × AnswersBy p number moment items linked more h answer
+AnswersLines lines p number moment items linked more h answer = (lines ≡ [])
+    × AnswersBy p number moment items linked more h answer
 
 -- why a file is none of this package at its ticket
 abbrev pub head_answer : ℕ → HeadFault → Answer
@@ -47,10 +50,12 @@ head_answer number head.Stale = Stale number
 head_answer number head.OtherSystem = OtherSystem
 head_answer number head.OtherFrame = OtherFrame
 
--- The file as a whole is refused; or some of its records are; or these are the requests. Of a package of this frame and ticket, which holds this.
+-- The file as a whole is refused; or some of its records are; or these are the requests. Of a package of this frame
+-- and ticket, which holds this.
 abbrev pub AnswersGiven : Frame → Ask → ℕ → List Item → List Relation → Held → Answer → Type 0
 AnswersGiven f a number items linked h answer =
-    ((fault : HeadFault) × (head_fault a.«package» number f a.more h ≡ Some fault) × (answer ≡ head_answer number fault))
+    ((fault : HeadFault) × (head_fault a.«package» number f a.more h ≡ Some fault)
+    × (answer ≡ head_answer number fault))
     ⊎ ((head_fault a.«package» number f a.more h ≡ None)
     × AnswersLines (fault_lines f items a.more h) a.«package» number a.at.now items linked a.more h answer)
 
@@ -71,7 +76,8 @@ StaysFree w items linked first answer = answer ≡ first
 -- of a package of a world: what is answered of what it holds stays free
 abbrev pub AnswersFile : World → Ask → Held → Answer → Type 0
 AnswersFile w a h answer = (first : Answer)
-    × AnswersGiven w.frame a (ticket w a.«package») (holdings w a.«package»).items (holdings w a.«package»).links h first
+    × AnswersGiven w.frame a (ticket w a.«package») (holdings w a.«package»).items (holdings w a.«package»).links h
+    first
     × StaysFree w (holdings w a.«package»).items (holdings w a.«package»).links first answer
 
 -- ---- of a list

@@ -10,7 +10,8 @@ ghost use Rattle.world.specs.Worlds.{IsRead, StandsFor, TellsOf};
 ghost use Rattle.command_requests.specs.Listing.{IsUntouched};
 ghost use Rattle.field_faults.specs.Lines.{fault_lines};
 ghost use Rattle.field_faults.specs.declared.heads.HeadFault.{HeadFault};
-ghost use Rattle.command_field.specs.Answers.{AnswersBy, AnswersFile, AnswersGiven, AnswersLines, AnswersText, AreHeldIn, AsksNoMerge, IsTakenOf, StaysFree, head_answer};
+ghost use Rattle.command_field.specs.Answers.{AnswersBy, AnswersFile, AnswersGiven, AnswersLines, AnswersText};
+ghost use Rattle.command_field.specs.Answers.{AreHeldIn, AsksNoMerge, IsTakenOf, StaysFree, head_answer};
 
 use crate::freedom::{Taken, taken_in};
 use field_changes::changes::{Holdings, Unasked, changes};
@@ -98,7 +99,8 @@ fn answer_by(
     more: bool,
     held: Held,
 ) -> Result<Answer, Fault>
-    ensures { IfOk result (AnswersBy asker.now.package asker.now.ticket asker.now.at.now holdings.now.items.now holdings.now.links.now more held) }
+    ensures { IfOk result (AnswersBy asker.now.package asker.now.ticket asker.now.at.now holdings.now.items.now
+        holdings.now.links.now more held) }
 {
     let Held { items, links, .. } = held;
     match changes(alloc, asker, holdings, more, items, links.as_slice()) {
@@ -179,7 +181,8 @@ fn taken_of<S: Alter + Drop>(
     holdings: &Holdings<'_>,
     first: &Answer,
 ) -> Result<Option<Taken>, Fault>
-    ensures told { TellsOf S.Store (λ w found. IsTakenOf w holdings.now.items.now holdings.now.links.now first.now found) world.old world.new result }
+    ensures told { TellsOf S.Store (λ w found. IsTakenOf w holdings.now.items.now holdings.now.links.now first.now
+        found) world.old world.new result }
     ensures read { IsUntouched S.Store world.old world.new }
 {
     match first {
@@ -203,7 +206,8 @@ fn keep_free<S: Alter + Drop>(
     holdings: &Holdings<'_>,
     first: Answer,
 ) -> Result<Answer, Fault>
-    ensures told { TellsOf S.Store (λ w answer. StaysFree w holdings.now.items.now holdings.now.links.now first answer) world.old world.new result }
+    ensures told { TellsOf S.Store (λ w answer. StaysFree w holdings.now.items.now holdings.now.links.now first
+        answer) world.old world.new result }
     ensures merges { IfOk result (λ answer. AsksNoMerge first → AsksNoMerge answer) }
     ensures read { IsUntouched S.Store world.old world.new }
 {
@@ -260,7 +264,8 @@ fn held_in<R: Read + Drop>(alloc: Global, reader: R) -> Result<Option<Held>, Fau
     }
 }
 
-/// What is answered of a list of what a file holds, which a reader gives. Whether the package is live is asked before anything is read. The world is only read.
+/// What is answered of a list of what a file holds, which a reader gives. Whether the package is
+/// live is asked before anything is read. The world is only read.
 ///
 /// # Errors
 ///
@@ -271,7 +276,8 @@ pub fn answer_of<S: Alter + Drop, R: Read + Drop>(
     ask: &Ask<'_>,
     reader: R,
 ) -> Result<Answer, Fault>
-    ensures told { TellsOf S.Store (λ w answer. AnswersText w ask.now (R.remaining reader) answer) world.old world.new result }
+    ensures told { TellsOf S.Store (λ w answer. AnswersText w ask.now (R.remaining reader) answer) world.old world.new
+        result }
     ensures merges { IfOk result AsksNoMerge }
     ensures read { IsUntouched S.Store world.old world.new }
 {

@@ -1,4 +1,5 @@
-//! Whether what a list of requests asks for is free in a world: looked at before anything is carried out. The world is only read.
+//! Whether what a list of requests asks for is free in a world: looked at before anything is
+//! carried out. The world is only read.
 ghost use Rattle.std.specs.Prelude.{◌≡◌, false, true, IfOk, MatchOption};
 ghost use Rattle.std.specs.List.{list_any, AllByRecursion};
 ghost use Rattle.sheet_types.specs.Refuse.{identity_used};
@@ -50,7 +51,8 @@ fn identity_taken<S: Alter + Drop>(
     world: &mut World<S>,
     request: &Request,
 ) -> Result<Option<Taken>, Fault>
-    ensures told { TellsOf S.Store (λ w found. MatchOption found (identity_used w request.now.command ≡ false) (λ taken. takes w taken request.now ≡ true))
+    ensures told { TellsOf S.Store (λ w found. MatchOption found (identity_used w request.now.command ≡ false)
+        (λ taken. takes w taken request.now ≡ true))
         world.old world.new result }
     ensures read { IsUntouched S.Store world.old world.new }
 {
@@ -69,7 +71,8 @@ fn request_taken<S: Alter + Drop>(
     world: &mut World<S>,
     request: &Request,
 ) -> Result<Option<Taken>, Fault>
-    ensures told { TellsOf S.Store (λ w found. MatchOption found (is_kept w request.now ≡ false) (λ taken. takes w taken request.now ≡ true))
+    ensures told { TellsOf S.Store (λ w found. MatchOption found (is_kept w request.now ≡ false)
+        (λ taken. takes w taken request.now ≡ true))
         world.old world.new result }
     ensures read { IsRead S.Store world.old world.new }
 {
@@ -86,7 +89,8 @@ fn taken_by<S: Alter + Drop>(
     world: &mut World<S>,
     request: &Request,
 ) -> Result<Option<Taken>, Fault>
-    ensures told { TellsOf S.Store (λ w found. MatchOption found (IsNewIn w request.now) (λ taken. takes w taken request.now ≡ true))
+    ensures told { TellsOf S.Store (λ w found. MatchOption found (IsNewIn w request.now)
+        (λ taken. takes w taken request.now ≡ true))
         world.old world.new result }
     ensures read { IsUntouched S.Store world.old world.new }
 {
@@ -141,7 +145,8 @@ pub fn taken_in<S: Alter + Drop>(
     holdings: &Holdings<'_>,
     requests: &[Request],
 ) -> Result<Option<Taken>, Fault>
-    ensures told { TellsOf S.Store (λ w found. IsFreeOrTaken w holdings.now.items.now holdings.now.links.now requests.now found)
+    ensures told { TellsOf S.Store (λ w found. IsFreeOrTaken w holdings.now.items.now holdings.now.links.now
+        requests.now found)
         world.old world.new result }
     ensures read { IsUntouched S.Store world.old world.new }
 {

@@ -9,7 +9,8 @@ ghost use Rattle.sheet_types.specs.Texts.{kind_of};
 ghost use Rattle.sheet_types.specs.World.{kind_is};
 ghost use Rattle.sheet_types.specs.declared.command.Item.{Item};
 ghost use Rattle.sheet_types.specs.declared.receipt.MovedKind.{MovedKind};
-ghost use Rattle.field_home_laws.specs.Free.{adds_kind, deleted, ids_deleted, is_linking, is_unlinking, keeps_package, links_behind};
+ghost use Rattle.field_home_laws.specs.Free.{adds_kind, deleted, ids_deleted, is_linking, is_unlinking, keeps_package};
+ghost use Rattle.field_home_laws.specs.Free.{links_behind};
 
 use field_changes::changes::Holdings;
 use package_tables::fault::Fault;
@@ -83,7 +84,8 @@ fn put_deleted(gone: &mut BTreeSet<Uuid>, request: &Request) -> Result<(), Fault
 
 /// The identities that requests delete.
 fn deleted_by(alloc: Global, requests: &[Request]) -> Result<BTreeSet<Uuid>, Fault>
-    ensures { IfOk result (λ gone. (id : List ℕ) → contains (slice_cmp nat_cmp) gone id ≡ is_among (ids_deleted requests.now) id) }
+    ensures { IfOk result (λ gone. (id : List ℕ) → contains (slice_cmp nat_cmp) gone id
+        ≡ is_among (ids_deleted requests.now) id) }
 {
     let mut gone = BTreeSet::new(alloc);
     for request in requests {
@@ -94,14 +96,16 @@ fn deleted_by(alloc: Global, requests: &[Request]) -> Result<BTreeSet<Uuid>, Fau
 
 /// Whether an item is of this kind, and none of these.
 fn is_staying(item: &Item, kind: MovedKind, gone: &BTreeSet<Uuid>) -> bool
-    ensures { result ≡ (kind_is kind (kind_of item.now.content) && not (contains (slice_cmp nat_cmp) gone.now item.now.identity)) }
+    ensures { result ≡ (kind_is kind (kind_of item.now.content) && not
+        (contains (slice_cmp nat_cmp) gone.now item.now.identity)) }
 {
     (kind.number() == item.content.kind().number()) & !gone.contains(&item.identity)
 }
 
 /// How many items of this kind are none of these.
 fn staying_of(items: &[Item], kind: MovedKind, gone: &BTreeSet<Uuid>) -> usize
-    ensures { result ≡ count_by (λ i. kind_is kind (kind_of i.content) && not (contains (slice_cmp nat_cmp) gone.now i.identity)) items.now }
+    ensures { result ≡ count_by (λ i. kind_is kind (kind_of i.content) && not
+        (contains (slice_cmp nat_cmp) gone.now i.identity)) items.now }
 {
     items
         .iter()
@@ -109,7 +113,8 @@ fn staying_of(items: &[Item], kind: MovedKind, gone: &BTreeSet<Uuid>) -> usize
         .count()
 }
 
-/// Whether there are no more items of this kind than a package may have, once those that go are gone and those that come are there.
+/// Whether there are no more items of this kind than a package may have, once those that go are
+/// gone and those that come are there.
 fn keeps_kind(requests: &[Request], items: &[Item], gone: &BTreeSet<Uuid>, kind: MovedKind) -> bool
     ensures { result ≡ nat_le (count_by (λ q. adds_kind kind q.command) requests.now
         + count_by (λ i. kind_is kind (kind_of i.content) && not (contains (slice_cmp nat_cmp) gone.now i.identity)) items.now) greatest_items }

@@ -1,6 +1,7 @@
 -- How a call of the program on a folder ends: its exit status, and the lines that it prints before (profile).
 use Rattle.std.specs.Prelude.{ℕ, List, [], ◌∷◌, ◌++◌, codes, Result, Ok, Err}
-use Rattle.command_words.specs.Endings.{outcome_status, line_of, output_text as outcome_output, error_text as outcome_error}
+use Rattle.command_words.specs.Endings.{outcome_status, line_of, output_text as outcome_output}
+use Rattle.command_words.specs.Endings.{error_text as outcome_error}
 use Rattle.command_words.specs.Failures.{of_fault}
 use Rattle.command_words.specs.declared.statuses.Failure.TheVariants as failure
 use Rattle.command_words.specs.declared.statuses.Outcome.TheVariants.{Done, Stopped}
@@ -11,11 +12,16 @@ use Rattle.store_folder.specs.Faults.{cause_text}
 use Rattle.store_folder.specs.declared.fault.FolderFault.{FolderFault}
 use Rattle.store_folder.specs.declared.fault.FolderFault.TheVariants as folder
 use Rattle.opening_faults.specs.declared.faults.RecoverFault.{RecoverFault}
-use Rattle.opening_faults.specs.declared.faults.RecoverFault.TheVariants.{NoArchive, TwoArchives, NotAPackage, TwoCopies, MissingPackage, ForeignFrame, Dangling, OutOfAccount, Altered, OutOfMemory, StoreFault}
+use Rattle.opening_faults.specs.declared.faults.RecoverFault.TheVariants.{NoArchive, TwoArchives, NotAPackage}
+use Rattle.opening_faults.specs.declared.faults.RecoverFault.TheVariants.{TwoCopies, MissingPackage, ForeignFrame}
+use Rattle.opening_faults.specs.declared.faults.RecoverFault.TheVariants.{Dangling, OutOfAccount, Altered}
+use Rattle.opening_faults.specs.declared.faults.RecoverFault.TheVariants.{OutOfMemory, StoreFault}
 use Rattle.command_folder.specs.declared.endings.OpenFault.{OpenFault}
 use Rattle.command_folder.specs.declared.endings.OpenFault.TheVariants.{Folder, Fault}
 use Rattle.command_folder.specs.declared.endings.Ending.{Ending}
-use Rattle.command_folder.specs.declared.endings.Ending.TheVariants.{Usual, BadBody, HoldsPackages, NoSuchPackage, Declined, RecordDeclined, NoRequest, Unlisted, Unopened, Faulted}
+use Rattle.command_folder.specs.declared.endings.Ending.TheVariants.{Usual, BadBody, HoldsPackages, NoSuchPackage}
+use Rattle.command_folder.specs.declared.endings.Ending.TheVariants.{Declined, RecordDeclined, NoRequest, Unlisted}
+use Rattle.command_folder.specs.declared.endings.Ending.TheVariants.{Unopened, Faulted}
 
 -- all was done; a file or a stream gave out; a growth was refused
 abbrev pub done : Ending

@@ -30,7 +30,8 @@ module _ {S : Type 0} (g : Ghosts S) where
   -- the world of some stores that were just opened, one of each of these packages
   abbrev pub IsWorldAt : List (List ℕ) → ℕ → Seen S → Type 0
   IsWorldAt packages strays seen =
-      (stores : List (Held S)) × AreJustOpened g stores × (length stores ≡ length packages) × IsWorldOf stores strays seen
+      (stores : List (Held S)) × AreJustOpened g stores × (length stores ≡ length packages)
+      × IsWorldOf stores strays seen
 
   -- The world of some stores that were just opened, one of each package that was chosen; those of them that are not of
   -- it and those that were left out are so many.
@@ -49,7 +50,8 @@ module _ {S : Type 0} (g : Ghosts S) where
   abbrev pub IsFolderWorld : Seen S → Type 0
   IsFolderWorld seen = (strays : ℕ) × IsFolderBeside strays seen
 
-  -- The folder was not opened, the program ends with that, and nothing was written; or its world was, and this was made of it.
+  -- The folder was not opened, the program ends with that, and nothing was written; or its world was, and this was
+  -- made of it.
   abbrev pub OpensThen : {W : Type 0} → (OpenFault → Ending) → (Seen S → Seen S → Type 0) → W → W → Ending → Type 0
   OpensThen unopened Makes writer writer' ending =
       ((fault : OpenFault) × (ending ≡ unopened fault) × (writer' ≡ writer))

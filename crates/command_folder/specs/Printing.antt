@@ -7,4 +7,5 @@ use Rattle.command_folder.specs.declared.endings.Ending.{Ending}
 
 -- A text went out whole, and the program ends as is due; or the writer failed, and a beginning of the text went out.
 abbrev pub Prints : List ℕ → Ending → Option (List ℕ) → Option (List ℕ) → Ending → Type 0
-Prints text due before after ending = ((ending ≡ due) × Appends before after text) ⊎ ((ending ≡ failed) × WentOut before after text)
+Prints text due before after ending = ((ending ≡ due) × Appends before after text)
+    ⊎ ((ending ≡ failed) × WentOut before after text)

@@ -1,6 +1,7 @@
 //! How a call of the program on a folder ends: its exit status, and the lines that it prints before.
 ghost use Rattle.std.specs.Prelude.{◌≡◌, IfOk, string_bytes};
-ghost use Rattle.command_folder.specs.Endings.{ending_status, error_text, fault_line, note_text, open_note, output_text, store_line, told_as, told_folder};
+ghost use Rattle.command_folder.specs.Endings.{ending_status, error_text, fault_line, note_text, open_note};
+ghost use Rattle.command_folder.specs.Endings.{output_text, store_line, told_as, told_folder};
 
 use command_faults::texts::{fault_text, list_text, record_text, refusal_text};
 use command_words::statuses::{
@@ -187,7 +188,8 @@ fn open_note(alloc: Global, fault: OpenFault) -> Result<String, AllocError>
     }
 }
 
-/// What a person can be told of an ending beside its lines, without the end of a line: where the fault is, or what was refused. It goes to standard error, behind
+/// What a person can be told of an ending beside its lines, without the end of a line: where the
+/// fault is, or what was refused. It goes to standard error, behind
 /// the line there. It is empty where nothing more is known.
 ///
 /// # Errors

@@ -9,7 +9,8 @@ use sheet_types::error::OutOfMemory;
 use sheet_types::frame::{Frame, Ground};
 use std::alloc::Global;
 
-/// The word for the least area of a zoom that covers a box; `None` where the frame has no such zoom, or does not have all of the box, or there is
+/// The word for the least area of a zoom that covers a box; `None` where the frame has no such
+/// zoom, or does not have all of the box, or there is
 /// nothing of it.
 ///
 /// # Errors

@@ -1,6 +1,7 @@
 //! The lines of an item that is dropped: its requests, what came of them, or the links for which it stays.
 ghost use Rattle.std.specs.Prelude.{◌≡◌, ◌++◌, ◌∷◌, [], IfOk, string_bytes};
-ghost use Rattle.command_lines.specs.Drops.{linked_line, linked_lines, linked_text, outcome_text, outcomes_text, request_line, requests_text};
+ghost use Rattle.command_lines.specs.Drops.{linked_line, linked_lines, linked_text, outcome_text, outcomes_text};
+ghost use Rattle.command_lines.specs.Drops.{request_line, requests_text};
 
 use command_replies::receipts::reply_text;
 use command_replies::requests::request_text;
@@ -91,7 +92,8 @@ fn put_outcome(
     request: &Request,
     reply: &Result<Receipt, Refusal>,
 ) -> Result<(), OutOfMemory>
-    ensures { IfOk result (λ _. string_bytes text.new ≡ string_bytes text.old ++ (outcome_text request.now reply.now ++ (10 ∷ []))) }
+    ensures { IfOk result (λ _. string_bytes text.new ≡ string_bytes text.old
+        ++ (outcome_text request.now reply.now ++ (10 ∷ []))) }
 {
     let body = outcome_body(alloc, request, reply)?;
     text.push_str(body.as_str())?;
@@ -106,7 +108,8 @@ fn put_outcomes(
     requests: &[Request],
     replies: &[Result<Receipt, Refusal>],
 ) -> Result<(), OutOfMemory>
-    ensures { IfOk result (λ _. string_bytes text.new ≡ string_bytes text.old ++ outcomes_text requests.now replies.now) }
+    ensures { IfOk result (λ _. string_bytes text.new ≡ string_bytes text.old
+        ++ outcomes_text requests.now replies.now) }
 {
     let [request, requests @ ..] = requests else {
         return Ok(());

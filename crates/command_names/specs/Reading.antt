@@ -1,8 +1,10 @@
 -- Which words can begin the text of a UUID. Profile, over RFC 9562 (UUIDs).
-use Rattle.std.specs.Prelude.{◌+◌, ◌==◌, ◌&&◌, ◌||◌, [], ◌∷◌, ℕ, Bool, true, List, length, nat_le, nat_lt, if◌then◌else◌}
+use Rattle.std.specs.Prelude.{◌+◌, ◌==◌, ◌&&◌, ◌||◌, [], ◌∷◌, ℕ, Bool, true, List, length, nat_le, nat_lt}
+use Rattle.std.specs.Prelude.{if◌then◌else◌}
 
 abbrev pub is_hex : ℕ → Bool
-is_hex byte = (nat_le 48 byte && nat_le byte 57) || (nat_le 65 byte && nat_le byte 70) || (nat_le 97 byte && nat_le byte 102)
+is_hex byte = (nat_le 48 byte && nat_le byte 57) || (nat_le 65 byte && nat_le byte 70) ||
+    (nat_le 97 byte && nat_le byte 102)
 
 -- where the text of a UUID has a hyphen
 abbrev pub is_hyphen : ℕ → Bool

@@ -1,5 +1,6 @@
 -- Which of some UUIDs a word names by its first digits, and which comes nearest. Profile, over RFC 9562 (UUIDs).
-use Rattle.std.specs.Prelude.{◌≡◌, ◌<◌, ◌≤◌, ◌+◌, ◌==◌, ◌++◌, ◌∷◌, [], ℕ, Bool, false, List, length, filter, nat_lt, Option, Some, None, if◌then◌else◌}
+use Rattle.std.specs.Prelude.{◌≡◌, ◌<◌, ◌≤◌, ◌+◌, ◌==◌, ◌++◌, ◌∷◌, [], ℕ, Bool, false, List, length, filter, nat_lt}
+use Rattle.std.specs.Prelude.{Option, Some, None, if◌then◌else◌}
 use Rattle.std.specs.Char.{to_ascii_lowercase}
 use Rattle.std.specs.List.{AllByRecursion}
 use Rattle.sheet_types.specs.Texts.{uuid_text}
@@ -22,7 +23,8 @@ may_name word id = begins word (uuid_text id)
 
 -- ---- what a search is to find
 
--- This one shares the most characters with the word: more than each before it, and no fewer than each behind it. Or none shares any.
+-- This one shares the most characters with the word: more than each before it, and no fewer than each behind it. Or
+-- none shares any.
 abbrev pub IsNearest : List ℕ → List (List ℕ) → Option (List ℕ) → Type 0
 IsNearest word ids None = AllByRecursion (λ id. shared_by word id ≡ 0) ids
 IsNearest word ids (Some nearest) =

@@ -97,7 +97,8 @@ pub fn found_with(word: &str, found: Found, id: Uuid) -> Found
 
 /// What is found with the identities of more items.
 pub fn found_among(word: &str, found: Found, items: &[Item]) -> Found
-    ensures { (before : List (List ℕ)) → IsFound word.now before found → IsFound word.now (before ++ map (λ (i : ModelItem). i.identity) items.now) result }
+    ensures { (before : List (List ℕ)) → IsFound word.now before found
+        → IsFound word.now (before ++ map (λ (i : ModelItem). i.identity) items.now) result }
 {
     let mut next = found;
     for item in items {
@@ -108,7 +109,8 @@ pub fn found_among(word: &str, found: Found, items: &[Item]) -> Found
 
 /// What is found with the UUIDs of more packages.
 pub fn found_named(word: &str, found: Found, packages: &[PackageEntry]) -> Found
-    ensures { (before : List (List ℕ)) → IsFound word.now before found → IsFound word.now (before ++ map (λ (p : ListedPackage). p.uuid) packages.now) result }
+    ensures { (before : List (List ℕ)) → IsFound word.now before found
+        → IsFound word.now (before ++ map (λ (p : ListedPackage). p.uuid) packages.now) result }
 {
     let mut next = found;
     for entry in packages {

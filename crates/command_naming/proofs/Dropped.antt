@@ -10,8 +10,10 @@ use Rattle.command_naming.specs.declared.drops.DropOutcome.TheVariants.{Unnamed,
 use Rattle.command_naming.specs.declared.drops.Dropping.{Dropping}
 
 module _ {S : Type 0} (g : Ghosts S) where
-  pub dropped_so : (d : Dropping) (found : Found) (id : List ℕ) (old new : Seen S) (outcome : DropOutcome) (before after : ℕ)
-      → named d.word.now found ≡ Ok id → DropsItem g d id old new outcome before after → DropsFound g d found old new outcome before after
+  pub dropped_so : (d : Dropping) (found : Found) (id : List ℕ) (old new : Seen S) (outcome : DropOutcome)
+      (before after : ℕ)
+      → named d.word.now found ≡ Ok id → DropsItem g d id old new outcome before after
+      → DropsFound g d found old new outcome before after
   dropped_so d found id old new (Unnamed fault told) before after is it = absurd it.made
   dropped_so d found id old new (Linked links) before after is it = (id, is, it)
   dropped_so d found id old new (Planned requests) before after is it = (id, is, it)

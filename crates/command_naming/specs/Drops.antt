@@ -22,7 +22,8 @@ abbrev pub may_drop : Dropping → Holding → Bool
 may_drop d h = d.ends_links || (length h.links.items == 0)
 
 module _ {S : Type 0} (g : Ghosts S) where
-  -- An item that is held so stays for its links; or its requests are told, and the world stays; or they were carried out.
+  -- An item that is held so stays for its links; or its requests are told, and the world stays; or they were carried
+  -- out.
   -- The shelf had failed so often before and after.
   abbrev pub DropsHeld : Dropping → List ℕ → Holding → Seen S → Seen S → DropOutcome → ℕ → ℕ → Type 0
   DropsHeld d id h old new (Linked links) before after =
@@ -35,7 +36,8 @@ module _ {S : Type 0} (g : Ghosts S) where
   DropsHeld d id h old new (Unnamed fault found) before after = ⊥
 
   -- The world was read, so is the item held in each world that the value stood for, and that came of it.
-  pub record DropsItem (d : Dropping) (id : List ℕ) (old new : Seen S) (outcome : DropOutcome) (before after : ℕ) : Type 0 where
+  pub record DropsItem (d : Dropping) (id : List ℕ) (old new : Seen S) (outcome : DropOutcome) (before after : ℕ) :
+      Type 0 where
     pub holding : Holding
     pub read : Seen S
     pub untouched : IsUntouched g old read

@@ -40,7 +40,8 @@ module _ {S : Type 0} (g : Ghosts S) where
       × AddsBeside (target_of words p) files old new counts outcome
 
   -- So much is found for the word in each world that the value stood for, and that came of it.
-  pub record AddsNamed (words : TreeWords) (files : List Place) (old new : Seen S) (outcome : TreeOutcome) : Type 0 where
+  pub record AddsNamed (words : TreeWords) (files : List Place) (old new : Seen S) (outcome : TreeOutcome) :
+      Type 0 where
     pub found : Found
     pub told : (w : World) → StandsFor g old w → IsPackageFound w words.«package».now found
     pub made : AddsFound words found files old new outcome

@@ -21,7 +21,8 @@ use store_shelf::shelf::Shelf;
 use uuid::Uuid;
 use world::world::World;
 
-/// What is to be dropped: the item of a word, at a moment. Whether its links may be ended for it, and whether its requests are only shown.
+/// What is to be dropped: the item of a word, at a moment. Whether its links may be ended for it,
+/// and whether its requests are only shown.
 #[derive(Clone, Copy)]
 pub struct Dropping<'t> {
     pub word: &'t str,
@@ -58,7 +59,8 @@ fn planned<N: Identities>(
     holding: &Holding,
     identities: &mut N,
 ) -> Result<Vec<Request>, Fault>
-    ensures { IfOk result (λ requests. AreRequestsFor at.now (drop_commands holding.now.holder id holding.now.links.items) requests.items) }
+    ensures { IfOk result (λ requests. AreRequestsFor at.now
+        (drop_commands holding.now.holder id holding.now.links.items) requests.items) }
 {
     let links = holding.links.as_slice();
     match drop_requests(alloc, at, holding.holder, id, links, identities) {
@@ -120,7 +122,8 @@ fn drop_item<S: Alter + Drop, H: Shelf<S>, N: Identities>(
     }
 }
 
-/// Drops the item that a word names, or shows how: its links are ended, and then it is deleted, each by a request of its own. One that has links
+/// Drops the item that a word names, or shows how: its links are ended, and then it is deleted,
+/// each by a request of its own. One that has links
 /// stays, where these may not be ended.
 ///
 /// # Errors

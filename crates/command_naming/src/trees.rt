@@ -55,7 +55,8 @@ fn add_to<S: Alter + Drop, H: Shelf<S>, N: Identities, F: Sheets>(
     sheets: &mut F,
     identities: &mut N,
 ) -> Result<(Counts, Result<(), AddFault>), Fault>
-    ensures { MatchResult result (λ it. AddsBeside S.Store target.now files.now world.old world.new it.0 it.1) (λ fault. IsUntouched S.Store world.old world.new) }
+    ensures { MatchResult result (λ it. AddsBeside S.Store target.now files.now world.old world.new it.0 it.1)
+        (λ fault. IsUntouched S.Store world.old world.new) }
 {
     match world.holdings(alloc, target.package) {
         Ok(Some((items, _links))) => {
@@ -70,7 +71,8 @@ fn add_to<S: Alter + Drop, H: Shelf<S>, N: Identities, F: Sheets>(
     }
 }
 
-/// Adds the tiles of files, in turn, to the live package that a word names. Those that are there with the same content are passed over.
+/// Adds the tiles of files, in turn, to the live package that a word names. Those that are there
+/// with the same content are passed over.
 ///
 /// # Errors
 ///
@@ -84,7 +86,8 @@ pub fn add_named<S: Alter + Drop, H: Shelf<S>, N: Identities, F: Sheets>(
     sheets: &mut F,
     identities: &mut N,
 ) -> Result<TreeOutcome, Fault>
-    ensures { MatchResult result (AddsNamed S.Store words.now files.now world.old world.new) (λ fault. IsUntouched S.Store world.old world.new) }
+    ensures { MatchResult result (AddsNamed S.Store words.now files.now world.old world.new)
+        (λ fault. IsUntouched S.Store world.old world.new) }
 {
     let found = match found_package(alloc, world, words.package) {
         Ok(found) => found,

@@ -19,7 +19,8 @@ fn agrees(cause: ListFault, told: Option<ReadFault>) -> bool
     }
 }
 
-/// The line that says where the fault of a list is. The text is read anew, after the fact: there is no line where it is a list by now, or has another fault than was told.
+/// The line that says where the fault of a list is. The text is read anew, after the fact: there is
+/// no line where it is a list by now, or has another fault than was told.
 ///
 /// # Errors
 ///

@@ -8,9 +8,11 @@ use Rattle.sheet_types.specs.declared.command.Request.{Request}
 use Rattle.command_plans.specs.Requests.{AreRequestsFor, command_of}
 
 pub asked_one : (at : List ℕ) (commands : List Command) (requests : List Request) (command : Command) (q : Request)
-    → AreRequestsFor at commands requests → command_of q ≡ command → q.at ≡ at → AreRequestsFor at (commands ++ command ∷ []) (requests ++ q ∷ [])
+    → AreRequestsFor at commands requests → command_of q ≡ command → q.at ≡ at
+    → AreRequestsFor at (commands ++ command ∷ []) (requests ++ q ∷ [])
 asked_one at commands requests command q asked is now = record {
-  order = map-append command_of requests (q ∷ []) ∙ ap (λ l. l ++ command_of q ∷ []) asked.order ∙ ap (λ c. commands ++ c ∷ []) is;
+  order = map-append command_of requests (q ∷ []) ∙ ap (λ l. l ++ command_of q ∷ []) asked.order
+      ∙ ap (λ c. commands ++ c ∷ []) is;
   moment = All-append (λ (r : Request). r.at ≡ at) requests (q ∷ []) asked.moment (now, tt);
 }
 
@@ -18,10 +20,13 @@ asked_one at commands requests command q asked is now = record {
 pub map_taken : {X Y : Type 0} (f : X → Y) (xs : List X) (i : ℕ) (x : X) → i < length xs → x ≡ get_or xs i x
     → map f (take i xs) ++ f x ∷ [] ≡ map f (take (i + 1) xs)
 map_taken f xs i x within is =
-    sym (map-append f (take i xs) (x ∷ [])) ∙ ap (map f) (ap (λ z. take i xs ++ z ∷ []) is ∙ sym (take_more xs i x within))
+    sym (map-append f (take i xs) (x ∷ [])) ∙ ap (map f) (ap (λ z. take i xs ++ z ∷ []) is
+    ∙ sym (take_more xs i x within))
 
-pub asked_more : (at : List ℕ) (f : Relation → Command) (links : List Relation) (i : ℕ) (link : Relation) (requests : List Request) (q : Request)
-    → i < length links → link ≡ get_or links i link → AreRequestsFor at (map f (take i links)) requests → command_of q ≡ f link → q.at ≡ at
+pub asked_more : (at : List ℕ) (f : Relation → Command) (links : List Relation) (i : ℕ) (link : Relation)
+    (requests : List Request) (q : Request)
+    → i < length links → link ≡ get_or links i link → AreRequestsFor at (map f (take i links)) requests
+    → command_of q ≡ f link → q.at ≡ at
     → AreRequestsFor at (map f (take (i + 1) links)) (requests ++ q ∷ [])
 asked_more at f links i link requests q within item asked is now =
     subst (λ cs. AreRequestsFor at cs (requests ++ q ∷ [])) (map_taken f links i link within item)

@@ -13,8 +13,10 @@ pub record IsPlaced (f : Frame) (zoom row : ℤ) : Type 0 where
 
 pub placed : (f : Frame) (zoom row : ℤ) → has_place f zoom (pos 0) row ≡ true → IsPlaced f zoom row
 placed f zoom row h =
-    let last = three (has_level f zoom && int_le (pos 0) (pos 0) && int_lt (pos 0) (width_at f (level_of f zoom))) (int_le (pos 0) row) (int_lt row (height_at f (level_of f zoom))) h in
-    let first = three (has_level f zoom) (int_le (pos 0) (pos 0)) (int_lt (pos 0) (width_at f (level_of f zoom))) last.0 in
+    let last = three (has_level f zoom && int_le (pos 0) (pos 0) && int_lt (pos 0) (width_at f (level_of f zoom)))
+    (int_le (pos 0) row) (int_lt row (height_at f (level_of f zoom))) h in
+    let first = three (has_level f zoom) (int_le (pos 0) (pos 0)) (int_lt (pos 0) (width_at f (level_of f zoom)))
+    last.0 in
     record {
       level = first.0;
       from_top = omega (arith, ints, last.1);

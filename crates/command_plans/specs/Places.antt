@@ -1,4 +1,5 @@
--- Where the tiles of a tree of files lie. Profile, over OGC GeoPackage 1.3, 2.2.7 (tile matrix) and OSGeo TMS 1.0.0 (rows that run upwards).
+-- Where the tiles of a tree of files lie. Profile, over OGC GeoPackage 1.3, 2.2.7 (tile matrix) and OSGeo TMS 1.0.0
+-- (rows that run upwards).
 use Rattle.std.specs.Prelude.{◌≡◌, ◌&&◌, Bool, true, false, ℕ, List, pos, ◌+ℤ◌, bytes_eq}
 use Rattle.std.specs.Ordering.{int_eq}
 use Rattle.sheet_types.specs.Matrix.{has_place, height_at, level_of}
@@ -12,7 +13,8 @@ use Rattle.command_verbs.specs.declared.areas.Place.{Place}
 abbrev pub has_row : Frame → Place → Bool
 has_row f file = has_place f file.zoom (pos 0) file.row
 
--- A file whose rows run downwards lies where its name says. Where they run upwards, its row and that of its place are as far from the two edges.
+-- A file whose rows run downwards lies where its name says. Where they run upwards, its row and that of its place are
+-- as far from the two edges.
 abbrev pub IsPlaceOf : Frame → Bool → Place → Place → Type 0
 IsPlaceOf f false file place = place ≡ file
 IsPlaceOf f true file place =

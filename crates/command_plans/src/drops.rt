@@ -63,7 +63,8 @@ fn unlink_requests<N: Identities>(
     Ok(requests)
 }
 
-/// The requests that drop an item which has these links, all at this moment: each link is ended, and then the item is deleted.
+/// The requests that drop an item which has these links, all at this moment: each link is ended,
+/// and then the item is deleted.
 ///
 /// # Errors
 ///

@@ -19,7 +19,8 @@ fn turned(rows: i64, row: i64) -> i64
     last - row
 }
 
-/// The row that is counted from the other edge of a zoom; `None` where the frame has no such zoom, or the zoom no such row.
+/// The row that is counted from the other edge of a zoom; `None` where the frame has no such zoom,
+/// or the zoom no such row.
 fn turned_row(frame: &Frame, zoom: i64, row: i64) -> Option<i64>
     requires { IsTrue (is_good_frame frame.now) }
     ensures some { IfSome result (λ other. ((other +ℤ row) +ℤ pos 1) ≡ height_at frame.now (level_of frame.now zoom)) }
@@ -31,7 +32,8 @@ fn turned_row(frame: &Frame, zoom: i64, row: i64) -> Option<i64>
     Some(turned(axes_at(frame, zoom).down.tiles, row))
 }
 
-/// The place of a file's tile, whose rows run downwards, or upwards as in a TMS; `None` where the frame has no such row.
+/// The place of a file's tile, whose rows run downwards, or upwards as in a TMS; `None` where the
+/// frame has no such row.
 pub fn place_of(frame: &Frame, file: &Place, is_upward: bool) -> Option<Place>
     requires { IsTrue (is_good_frame frame.now) }
     ensures some { IfSome result (IsPlaceOf frame.now is_upward file.now) }

@@ -27,7 +27,8 @@ deed_text (Add holder identity content) = said (codes "added") identity
 deed_text (Delete holder identity) = said (codes "deleted") identity
 deed_text (Link holder mapping base other) = said_of_two (codes "joined") base other
 deed_text (Unlink holder mapping base other) = said_of_two (codes "parted") base other
-deed_text (Split source loan mode rect) = said (codes "loan") loan ++ (codes "sheets " ++ (area_text rect ++ codes "\n"))
+deed_text (Split source loan mode rect) = said (codes "loan") loan
+    ++ (codes "sheets " ++ (area_text rect ++ codes "\n"))
 deed_text (Merge loan into ticket) = said_of_two (codes "home") loan into
 
 -- the items and links that moved by a receipt
@@ -39,7 +40,8 @@ things_text r =
 -- its number, and how much moved
 abbrev pub counts_text : Receipt → List ℕ
 counts_text r =
-    codes "receipt " ++ (decimal r.seq ++ (codes ": " ++ (things_text r ++ (codes ", " ++ (decimal r.bytes ++ codes " bytes")))))
+    codes "receipt " ++ (decimal r.seq ++ (codes ": " ++ (things_text r
+    ++ (codes ", " ++ (decimal r.bytes ++ codes " bytes")))))
 
 -- both, but for the end of the last line
 abbrev pub reply_text : Command → Receipt → List ℕ

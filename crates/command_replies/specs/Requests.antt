@@ -1,4 +1,5 @@
--- A request as JSON (RFC 8259), its members in the order of the fields of a list. UUIDs as in RFC 9562, section 4. Profile.
+-- A request as JSON (RFC 8259), its members in the order of the fields of a list. UUIDs as in RFC 9562, section 4.
+-- Profile.
 use Rattle.std.specs.Prelude.{ℕ, ℤ, List, ◌++◌, codes}
 use Rattle.std.specs.Fmt.{signed_decimal}
 use Rattle.hex.specs.Hex.{encode_lower}
@@ -34,7 +35,8 @@ tile_members place bytes = codes "\"kind\":\"tile\"," ++ (place ++ (codes "," ++
 
 abbrev pub medium_members : List ℕ → List ℕ → List ℕ
 medium_members content_type bytes =
-    codes "\"kind\":\"media\",\"text\":" ++ (quoted content_type ++ (codes ",\"data\":\"" ++ (encode_lower bytes ++ codes "\"")))
+    codes "\"kind\":\"media\",\"text\":" ++ (quoted content_type
+    ++ (codes ",\"data\":\"" ++ (encode_lower bytes ++ codes "\"")))
 
 abbrev pub mark_members : ℤ → ℤ → ℤ → List ℕ → List ℕ
 mark_members x y code label =
@@ -58,7 +60,8 @@ area_members r =
 
 abbrev pub loan_members : List ℕ → Mode → Rect → List ℕ
 loan_members child mode rect =
-    codes "\"other\":\"" ++ (uuid_text child ++ (codes "\",\"kind\":\"" ++ (mode_word mode ++ (codes "\"," ++ area_members rect))))
+    codes "\"other\":\"" ++ (uuid_text child ++ (codes "\",\"kind\":\"" ++ (mode_word mode ++ (codes "\","
+    ++ area_members rect))))
 
 -- of a command, but for its word and the package that it names first
 abbrev pub command_members : Command → List ℕ

@@ -1,6 +1,7 @@
 //! What came of a command, in plain words.
 ghost use Rattle.std.specs.Prelude.{◌≡◌, IfOk, string_bytes};
-ghost use Rattle.command_replies.specs.Receipts.{area_text, counts_text, deed_text, reply_text, said, said_of_two, things_text};
+ghost use Rattle.command_replies.specs.Receipts.{area_text, counts_text, deed_text, reply_text, said, said_of_two};
+ghost use Rattle.command_replies.specs.Receipts.{things_text};
 
 use sheet_types::command::Command;
 use sheet_types::frame::Rect;

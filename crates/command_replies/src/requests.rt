@@ -1,6 +1,9 @@
 //! A request as JSON (RFC 8259), as it is read: its members in the order of the fields of a list.
 ghost use Rattle.std.specs.Prelude.{◌≡◌, IfOk, string_bytes};
-ghost use Rattle.command_replies.specs.Requests.{area_members, command_members, command_word, content_members, data_member, front_members, link_members, loan_members, mark_members, medium_members, package_of, place_members, quoted, request_text, tile_members};
+ghost use Rattle.command_replies.specs.Requests.{area_members, command_members, command_word, content_members};
+ghost use Rattle.command_replies.specs.Requests.{data_member, front_members, link_members, loan_members, mark_members};
+ghost use Rattle.command_replies.specs.Requests.{medium_members, package_of, place_members, quoted, request_text};
+ghost use Rattle.command_replies.specs.Requests.{tile_members};
 
 use serde_json::json;
 use sheet_types::command::{Command, Content, Mapping, Mode, Request};

@@ -23,7 +23,8 @@ names_items (PutTile holder place identity) = false
 names_items (PutMedium holder word identity) = false
 names_items (PutMark holder mark identity) = false
 
--- the request whose command the words say over these packages and items, under the identity and at the moment of the order
+-- the request whose command the words say over these packages and items, under the identity and at the moment of the
+-- order
 abbrev pub AsksAmong : List PackageSight → List ItemEntry → Order → List ℕ → Request → Type 0
 AsksAmong sights items o bytes q =
     (command : Command) × Says sights items o.verb bytes command × (q ≡ request_of o.id o.at.now command)

@@ -83,7 +83,8 @@ pub fn named_data<S: Alter + Drop>(
     world: &mut World<S>,
     word: &str,
 ) -> Result<Result<Vec<u8>, NameFault>, Fault>
-    ensures told { TellsOf S.Store (λ w found. MatchResult found (λ bytes. IsNamedData w word.now bytes.items) (λ fault. the_item (world_items w) word.now ≡ Err fault)) world.old world.new result }
+    ensures told { TellsOf S.Store (λ w found. MatchResult found (λ bytes. IsNamedData w word.now bytes.items)
+        (λ fault. the_item (world_items w) word.now ≡ Err fault)) world.old world.new result }
     ensures read { IsUntouched S.Store world.old world.new }
 {
     let items = world_items(alloc, world)?;

@@ -44,7 +44,8 @@ pub fn packages_of<S: Alter + Drop>(
     alloc: Global,
     world: &World<S>,
 ) -> Result<Vec<PackageEntry>, Fault>
-    ensures { IfOk result (λ entries. (w : ModelWorld) → StandsFor S.Store world.now w → map sight entries.items ≡ package_sights w) }
+    ensures { IfOk result (λ entries. (w : ModelWorld) → StandsFor S.Store world.now w
+        → map sight entries.items ≡ package_sights w) }
 {
     let sights = world.packages(alloc)?;
     entries_of(alloc, sights.as_slice())
@@ -93,7 +94,8 @@ pub(crate) fn items_among<S: Alter + Drop>(
     world: &mut World<S>,
     packages: &[PackageEntry],
 ) -> Result<Vec<ItemEntry>, Fault>
-    ensures told { TellsOf S.Store (λ w entries. entries.items ≡ flat_map (λ p. items_under w p.uuid) packages.now) world.old world.new result }
+    ensures told { TellsOf S.Store (λ w entries. entries.items ≡ flat_map (λ p. items_under w p.uuid) packages.now)
+        world.old world.new result }
     ensures read { IsUntouched S.Store world.old world.new }
 {
     let mut entries = Vec::new(alloc);

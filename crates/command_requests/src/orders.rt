@@ -66,7 +66,8 @@ fn items_for<S: Alter + Drop>(
     packages: &[PackageEntry],
     verb: &Verb<'_>,
 ) -> Result<Vec<ItemEntry>, Fault>
-    ensures told { TellsOf S.Store (λ w items. names_items verb.now ≡ true → items.items ≡ flat_map (λ p. items_under w p.uuid) packages.now) world.old world.new result }
+    ensures told { TellsOf S.Store (λ w items. names_items verb.now ≡ true
+        → items.items ≡ flat_map (λ p. items_under w p.uuid) packages.now) world.old world.new result }
     ensures read { IsUntouched S.Store world.old world.new }
 {
     if !names_items(verb) {

@@ -16,6 +16,7 @@ module _ {S : Type 0} (g : Ghosts S) where
   clean_before a b (inl same) clean = subst (λ (s : Seen S). AllClean g s.members) same clean
   clean_before a b (inr read) clean = read.clean clean
 
-pub if_ok_so : {X E : Type 0} (P Q : X → Type 0) (r : Result X E) → ((x : X) → P x → Q x) → IfOk r (λ x. P x) → IfOk r (λ x. Q x)
+pub if_ok_so : {X E : Type 0} (P Q : X → Type 0) (r : Result X E) → ((x : X) → P x → Q x) → IfOk r (λ x. P x)
+    → IfOk r (λ x. Q x)
 if_ok_so P Q (Ok x) so it = so x it
 if_ok_so P Q (Err e) so it = tt

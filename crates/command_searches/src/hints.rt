@@ -39,7 +39,8 @@ pub fn package_hint<'t, S: Alter + Drop>(
     world: &World<S>,
     word: &'t str,
 ) -> Result<Option<Hint<'t>>, Fault>
-    ensures { IfOk result (λ hint. (w : ModelWorld) → StandsFor S.Store world.now w → IsHintOf whose.Package w word.entry hint) }
+    ensures { IfOk result (λ hint. (w : ModelWorld) → StandsFor S.Store world.now w
+        → IsHintOf whose.Package w word.entry hint) }
 {
     let found = found_package(alloc, world, word)?;
     Ok(hint_of(Whose::Package, word, found))

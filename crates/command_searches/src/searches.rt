@@ -25,7 +25,8 @@ pub fn found_package<S: Alter + Drop>(
     world: &World<S>,
     word: &str,
 ) -> Result<Found, Fault>
-    ensures { IfOk result (λ found. (w : ModelWorld) → StandsFor S.Store world.now w → IsPackageFound w word.now found) }
+    ensures { IfOk result (λ found. (w : ModelWorld) → StandsFor S.Store world.now w
+        → IsPackageFound w word.now found) }
 {
     let packages = packages_of(alloc, world)?;
     Ok(found_named(word, nothing(), packages.as_slice()))
@@ -39,7 +40,8 @@ fn found_in<S: Alter + Drop>(
     word: &str,
     found: Found,
 ) -> Result<Found, Fault>
-    ensures told { TellsOf S.Store (λ w next. (before : List (List ℕ)) → IsFound word.now before found → IsFound word.now (before ++ identities_under w holder) next) world.old world.new result }
+    ensures told { TellsOf S.Store (λ w next. (before : List (List ℕ)) → IsFound word.now before found
+        → IsFound word.now (before ++ identities_under w holder) next) world.old world.new result }
     ensures read { IsRead S.Store world.old world.new }
 {
     let Some((items, _links)) = world.holdings(alloc, holder)? else {
@@ -55,7 +57,8 @@ fn found_in_each<S: Alter + Drop>(
     packages: &[PackageEntry],
     word: &str,
 ) -> Result<Found, Fault>
-    ensures told { TellsOf S.Store (λ w found. IsFound word.now (flat_map (λ p. identities_under w p.uuid) packages.now) found) world.old world.new result }
+    ensures told { TellsOf S.Store (λ w found. IsFound word.now
+        (flat_map (λ p. identities_under w p.uuid) packages.now) found) world.old world.new result }
     ensures read { IsUntouched S.Store world.old world.new }
 {
     let mut found = nothing();
@@ -65,7 +68,8 @@ fn found_in_each<S: Alter + Drop>(
     Ok(found)
 }
 
-/// The item of a live package that a word names. What one package holds is in memory at a time, and of it nothing is kept.
+/// The item of a live package that a word names. What one package holds is in memory at a time, and
+/// of it nothing is kept.
 ///
 /// # Errors
 ///

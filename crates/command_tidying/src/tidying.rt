@@ -118,7 +118,8 @@ fn take_leftovers<Y: Yard>(
     take_leftover_each(alloc, yard, names, register, &found)
 }
 
-/// Takes out what the register can do without. First go the files of packages, and then what stood beside them: a log without its database means nothing.
+/// Takes out what the register can do without. First go the files of packages, and then what stood
+/// beside them: a log without its database means nothing.
 fn take_all<Y: Yard>(
     alloc: Global,
     yard: &mut Y,

@@ -15,7 +15,8 @@ pub trait Yard {
     /// This was seen of the store in the file of this package.
     ghost shown: { List ℕ → StoreSeen → Type 0 };
 
-    /// The file of this name was taken out of the folder between these two states, if it was there, and no other was. Who takes files out by
+    /// The file of this name was taken out of the folder between these two states, if it was there,
+    /// and no other was. Who takes files out by
     /// this trait alone can show it of a name by such a call, and by nothing else.
     ghost removes: { List ℕ → Self → Self → Type 0 };
 

@@ -1,5 +1,6 @@
 -- One more file behind others.
-use Rattle.std.proofs.Common.{◌≡◌, ◌∙◌, ◌<◌, ◌≤◌, ◌+◌, ◌++◌, ◌∷◌, [], ℕ, suc, List, Bool, true, false, not, Ok, Err, ap, arith, cond, refl, sym, subst, length, take, drop, drop-cons, get_or}
+use Rattle.std.proofs.Common.{◌≡◌, ◌∙◌, ◌<◌, ◌≤◌, ◌+◌, ◌++◌, ◌∷◌, [], ℕ, suc, List, Bool, true, false, not, Ok, Err}
+use Rattle.std.proofs.Common.{ap, arith, cond, refl, sym, subst, length, take, drop, drop-cons, get_or}
 use Rattle.std.specs.Prelude.{count_by}
 use Rattle.std.proofs.lemmas.List.{take-append-drop, take_all, take_more}
 use Rattle.std.proofs.lemmas.List.Sums.{sum_by-append}
@@ -16,7 +17,8 @@ use Rattle.command_trees.specs.declared.adding.Target.{Target}
 
 -- ---- how many were added, and how many passed over
 
-one_more : (p : Bool → Bool) (told : List Bool) (b : Bool) → count_by p (told ++ b ∷ []) ≡ count_by p told + count_by p (b ∷ [])
+one_more : (p : Bool → Bool) (told : List Bool) (b : Bool) → count_by p (told ++ b ∷ [])
+    ≡ count_by p told + count_by p (b ∷ [])
 one_more p told b = sum_by-append (λ x. cond (p x) 1 0) told (b ∷ [])
 
 pub counted_new : (told : List Bool) (added passed : ℕ) → AreCounted told (record { added = added; passed = passed })
@@ -47,26 +49,32 @@ module _ {S : Type 0} (g : Ghosts S) (t : Target) (items : List Item) where
   added_more (f ∷ files) [] old mid new file is_new none step = absurd none
 
   -- a tile that was not added, of a file that lies there
-  pub not_added : (file place : Place) (bytes : List ℕ) (old new : Seen S) (fault : AddFault) → IsPlaceOf old.frame t.is_upward file place → is_there items place bytes ≡ false
+  pub not_added : (file place : Place) (bytes : List ℕ) (old new : Seen S) (fault : AddFault)
+      → IsPlaceOf old.frame t.is_upward file place → is_there items place bytes ≡ false
       → AddsTile g t place bytes old new (Err fault) → AddsBytes g t items file bytes old new (Err fault)
   not_added file place bytes old new (Refused why) is not_there it = (place, is, not_there, it)
   not_added file place bytes old new (Failed fault) is not_there it = it
   not_added file place bytes old new BadPlace is not_there it = absurd it
   not_added file place bytes old new Unread is not_there it = absurd it
 
-  pub added_next : (files : List Place) (i : ℕ) (d : Place) (told : List Bool) (old mid new : Seen S) (is_new : Bool) → i < length files
+  pub added_next : (files : List Place) (i : ℕ) (d : Place) (told : List Bool) (old mid new : Seen S) (is_new : Bool)
+      → i < length files
       → AreAdded g t items (take i files) told old mid → AddsFile g t items (get_or files i d) mid new (Ok is_new)
       → AreAdded g t items (take (i + 1) files) (told ++ is_new ∷ []) old new
   added_next files i d told old mid new is_new within so_far step =
       subst (λ fs. AreAdded g t items fs (told ++ is_new ∷ []) old new) (sym (take_more files i d within))
       (added_more (take i files) told old mid new (get_or files i d) is_new so_far step)
 
-  pub added_all : (files : List Place) (i : ℕ) (told : List Bool) (old new : Seen S) → length files ≤ i → AreAdded g t items (take i files) told old new
+  pub added_all : (files : List Place) (i : ℕ) (told : List Bool) (old new : Seen S) → length files ≤ i
+      → AreAdded g t items (take i files) told old new
       → AreAdded g t items files told old new
-  added_all files i told old new beyond all = subst (λ fs. AreAdded g t items fs told old new) (take_all i files beyond) all
+  added_all files i told old new beyond all = subst (λ fs. AreAdded g t items fs told old new)
+      (take_all i files beyond) all
 
-  pub stopped_at : (files : List Place) (i : ℕ) (d : Place) (told : List Bool) (counts : Counts) (old mid new : Seen S) (fault : AddFault) → i < length files
-      → AreAdded g t items (take i files) told old mid → AreCounted told counts → AddsFile g t items (get_or files i d) mid new (Err fault)
+  pub stopped_at : (files : List Place) (i : ℕ) (d : Place) (told : List Bool) (counts : Counts)
+      (old mid new : Seen S) (fault : AddFault) → i < length files
+      → AreAdded g t items (take i files) told old mid → AreCounted told counts
+      → AddsFile g t items (get_or files i d) mid new (Err fault)
       → AddsFiles g t items files old new counts (Err fault)
   stopped_at files i d told counts old mid new fault within so_far counted step = (
     told,

@@ -35,7 +35,8 @@ module _ {S : Type 0} (g : Ghosts S) where
   -- It was asked for, and this came of it.
   abbrev pub IsAsked : Target → Place → List ℕ → Seen S → Seen S → Result Receipt Refusal → Type 0
   IsAsked t place bytes old new reply =
-      (q : Request) × IsAddition t place bytes q × IsStep g q old reply new × StandsStill g old reply new × LeavesNoTrace g old reply new
+      (q : Request) × IsAddition t place bytes q × IsStep g q old reply new × StandsStill g old reply new
+      × LeavesNoTrace g old reply new
 
   -- a tile is asked for: it is added, or refused; or it was not asked for, and nothing was done
   abbrev pub AddsTile : Target → Place → List ℕ → Seen S → Seen S → Result Unit AddFault → Type 0
@@ -45,7 +46,8 @@ module _ {S : Type 0} (g : Ghosts S) where
   AddsTile t place bytes old new (Err BadPlace) = ⊥
   AddsTile t place bytes old new (Err Unread) = ⊥
 
-  -- The tile of a file lies where its name says. It is there with these bytes, and nothing is done; or it is added, or refused.
+  -- The tile of a file lies where its name says. It is there with these bytes, and nothing is done; or it is added,
+  -- or refused.
   abbrev pub AddsBytes : Target → List Item → Place → List ℕ → Seen S → Seen S → Result Bool AddFault → Type 0
   AddsBytes t items file bytes old new (Ok false) =
       (place : Place) × IsPlaceOf old.frame t.is_upward file place × (is_there items place bytes ≡ true) × (new ≡ old)
@@ -60,10 +62,12 @@ module _ {S : Type 0} (g : Ghosts S) where
   AddsBytes t items file bytes old new (Err Unread) = new ≡ old
 
   -- the same of some bytes; or there were none, and nothing was done
-  pub record AddsFile (t : Target) (items : List Item) (file : Place) (old new : Seen S) (result : Result Bool AddFault) : Type 0 where
+  pub record AddsFile (t : Target) (items : List Item) (file : Place) (old new : Seen S)
+      (result : Result Bool AddFault) : Type 0 where
     pub came : ((result ≡ Err Unread) × (new ≡ old)) ⊎ ((bytes : List ℕ) × AddsBytes t items file bytes old new result)
 
-  -- Files one after the other, each in the world that the one before left; of each it is told whether its tile was added.
+  -- Files one after the other, each in the world that the one before left; of each it is told whether its tile was
+  -- added.
   abbrev pub AreAdded : Target → List Item → List Place → List Bool → Seen S → Seen S → Type 0
   AreAdded t items [] [] old new = new ≡ old
   AreAdded t items (file ∷ files) (told ∷ rest) old new =

@@ -176,7 +176,8 @@ fn counted(counts: Counts, is_new: bool) -> Counts
     }
 }
 
-/// Adds the tiles of files, in turn, to a package that held these items. Those that are there with the same content are passed over. What was
+/// Adds the tiles of files, in turn, to a package that held these items. Those that are there with
+/// the same content are passed over. What was
 /// done up to a fault stands, and is counted.
 pub fn add_files<S: Alter + Drop, H: Shelf<S>, N: Identities, F: Sheets>(
     alloc: Global,

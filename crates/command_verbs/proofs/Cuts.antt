@@ -1,5 +1,7 @@
 -- A text that is cut at the first of a byte.
-use Rattle.std.proofs.Common.{eqb-true, ◌≡◌, ◌==◌, ◌<◌, ◌+◌, ◌∙◌, ℕ, suc, Bool, true, false, not, cond, List, [], ◌∷◌, ◌++◌, length, take, drop, refl, sym, ap, subst, arith, Option, Some, None, IfNone, IfSome, MatchOption, Bor}
+use Rattle.std.proofs.Common.{eqb-true, ◌≡◌, ◌==◌, ◌<◌, ◌+◌, ◌∙◌, ℕ, suc, Bool, true, false, not, cond, List, [], ◌∷◌}
+use Rattle.std.proofs.Common.{◌++◌, length, take, drop, refl, sym, ap, subst, arith, Option, Some, None, IfNone}
+use Rattle.std.proofs.Common.{IfSome, MatchOption, Bor}
 use Rattle.std.specs.List.{position_or_len, before_first, after_first}
 use Rattle.command_verbs.specs.Areas.{IsCut, Lacks}
 
@@ -12,7 +14,8 @@ place_later : (mark x : ℕ) (xs : List ℕ) → (x == mark) ≡ false
 place_later mark x xs e = rw e (omega arith)
 
 -- where the place is past the end, there is none
-lacks_by : (mark x : ℕ) (xs : List ℕ) (v : Bool) → (x == mark) ≡ v → position_or_len (λ b. b == mark) (x ∷ xs) ≡ suc (length xs)
+lacks_by : (mark x : ℕ) (xs : List ℕ) (v : Bool) → (x == mark) ≡ v
+    → position_or_len (λ b. b == mark) (x ∷ xs) ≡ suc (length xs)
     → (position_or_len (λ b. b == mark) xs ≡ length xs → Lacks mark xs) → Lacks mark (x ∷ xs)
 lacks_by mark x xs true is e more = absurd (omega (arith, e, place_first mark x xs is))
 lacks_by mark x xs false is e more = (is, more (omega (arith, e, place_later mark x xs is)))
@@ -25,17 +28,20 @@ lacks_it mark (x ∷ xs) e = lacks_by mark x xs (x == mark) refl e (lacks_it mar
 abbrev IsCutAt : ℕ → List ℕ → ℕ → Type 0
 IsCutAt mark text at = IsCut mark text (take at text) (drop (at + 1) text)
 
-cut_by : (mark x : ℕ) (xs : List ℕ) (v : Bool) → (x == mark) ≡ v → position_or_len (λ b. b == mark) (x ∷ xs) < suc (length xs)
+cut_by : (mark x : ℕ) (xs : List ℕ) (v : Bool) → (x == mark) ≡ v
+    → position_or_len (λ b. b == mark) (x ∷ xs) < suc (length xs)
     → (position_or_len (λ b. b == mark) xs < length xs → IsCutAt mark xs (position_or_len (λ b. b == mark) xs))
     → IsCutAt mark (x ∷ xs) (position_or_len (λ b. b == mark) (x ∷ xs))
-cut_by mark x xs true is below more = subst (IsCutAt mark (x ∷ xs)) (sym (place_first mark x xs is)) (ap (λ y. y ∷ xs) (eqb-true x mark is), tt)
+cut_by mark x xs true is below more = subst (IsCutAt mark (x ∷ xs)) (sym (place_first mark x xs is))
+    (ap (λ y. y ∷ xs) (eqb-true x mark is), tt)
 cut_by mark x xs false is below more =
     let rest = more (omega (arith, below, place_later mark x xs is)) in
     let at : ℕ = position_or_len (λ b. b == mark) xs in
     let next : suc at + 1 ≡ suc (at + 1) = omega arith in
     let back : drop (suc at + 1) (x ∷ xs) ≡ drop (at + 1) xs = ap (λ n. drop n (x ∷ xs)) next in
     let front : x ∷ xs ≡ x ∷ (take at xs ++ (mark ∷ drop (at + 1) xs)) = ap (λ ys. x ∷ ys) rest.0 in
-    let whole : x ∷ xs ≡ x ∷ (take at xs ++ (mark ∷ drop (suc at + 1) (x ∷ xs))) = front ∙ ap (λ ys. x ∷ (take at xs ++ (mark ∷ ys))) (sym back) in
+    let whole : x ∷ xs ≡ x ∷ (take at xs ++ (mark ∷ drop (suc at + 1) (x ∷ xs))) =
+    front ∙ ap (λ ys. x ∷ (take at xs ++ (mark ∷ ys))) (sym back) in
     subst (IsCutAt mark (x ∷ xs)) (sym (place_later mark x xs is)) (whole, (is, rest.1))
 
 pub cut_there : (mark : ℕ) (text : List ℕ) → position_or_len (λ b. b == mark) text < length text
@@ -48,14 +54,17 @@ cut_there mark (x ∷ xs) below = cut_by mark x xs (x == mark) refl below (cut_t
 -- none, or both parts
 abbrev IsSplit : ℕ → List ℕ → Option (Bor (List ℕ) × Bor (List ℕ)) → Type 0
 IsSplit mark text r = MatchOption r (position_or_len (λ b. b == mark) text ≡ length text)
-    (λ x. (x.0.now ≡ before_first (λ b. b == mark) text) × (x.1.now ≡ after_first (λ b. b == mark) text) × (position_or_len (λ b. b == mark) text < length text))
+    (λ x. (x.0.now ≡ before_first (λ b. b == mark) text) × (x.1.now ≡ after_first (λ b. b == mark) text)
+    × (position_or_len (λ b. b == mark) text < length text))
 
-pub cut_parts : (mark : ℕ) (text : List ℕ) (r : Option (Bor (List ℕ) × Bor (List ℕ))) → IsSplit mark text r → IfSome r (λ x. IsCut mark text x.0.now x.1.now)
+pub cut_parts : (mark : ℕ) (text : List ℕ) (r : Option (Bor (List ℕ) × Bor (List ℕ))) → IsSplit mark text r
+    → IfSome r (λ x. IsCut mark text x.0.now x.1.now)
 cut_parts mark text None h = tt
 cut_parts mark text (Some x) h =
     subst (λ front. IsCut mark text front x.1.now) (sym h.0)
     (subst (λ back. IsCut mark text (before_first (λ b. b == mark) text) back) (sym h.1) (cut_there mark text h.2))
 
-pub cut_none : (mark : ℕ) (text : List ℕ) (r : Option (Bor (List ℕ) × Bor (List ℕ))) → IsSplit mark text r → IfNone r (Lacks mark text)
+pub cut_none : (mark : ℕ) (text : List ℕ) (r : Option (Bor (List ℕ) × Bor (List ℕ))) → IsSplit mark text r
+    → IfNone r (Lacks mark text)
 cut_none mark text None h = lacks_it mark text h
 cut_none mark text (Some x) h = tt

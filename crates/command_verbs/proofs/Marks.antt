@@ -10,8 +10,10 @@ use Rattle.command_verbs.specs.declared.verbs.Verb.{Verb}
 use Rattle.command_verbs.specs.declared.verbs.Verb.TheVariants.{PutMark}
 use Rattle.command_verbs.specs.declared.verbs.VerbFault.{VerbFault}
 
-pub said_mark : (sights : List PackageSight) (items : List ItemEntry) (v : Verb) (holder : Bor (List ℕ)) (m : Mark) (identity bytes : List ℕ) (r : Result Command VerbFault)
-    → v ≡ PutMark holder m identity → MatchResult r (PutsMark sights holder.now m identity) (IsWhyNoMark sights holder.now m)
+pub said_mark : (sights : List PackageSight) (items : List ItemEntry) (v : Verb) (holder : Bor (List ℕ)) (m : Mark)
+    (identity bytes : List ℕ) (r : Result Command VerbFault)
+    → v ≡ PutMark holder m identity → MatchResult r (PutsMark sights holder.now m identity)
+    (IsWhyNoMark sights holder.now m)
     → MatchResult r (Says sights items v bytes) (IsWhyUnsaid sights items v bytes)
 said_mark sights items v holder m identity bytes r is it =
     subst (λ x. MatchResult r (Says sights items x bytes) (IsWhyUnsaid sights items x bytes)) (sym is) it

@@ -1,5 +1,7 @@
 -- Which texts are of no number of units.
-use Rattle.std.proofs.Common.{◌≡◌, ◌≢◌, ◌≤ℤ◌, ◌<ℤ◌, ◌≤◌, ◌<◌, ◌⊎◌, ◌∙◌, ◌==◌, ◌&&◌, ◌-◌, ℕ, zero, suc, Bool, nat_le, ℤ, pos, negsuc, ◌*ℤ◌, ◌+ℤ◌, List, [], ◌∷◌, ◌++◌, Option, Some, None, IfNone, FitsSigned, w64, rules, refl, sym, ap, subst, inl, inr, arith, true, false}
+use Rattle.std.proofs.Common.{◌≡◌, ◌≢◌, ◌≤ℤ◌, ◌<ℤ◌, ◌≤◌, ◌<◌, ◌⊎◌, ◌∙◌, ◌==◌, ◌&&◌, ◌-◌, ℕ, zero, suc, Bool, nat_le}
+use Rattle.std.proofs.Common.{ℤ, pos, negsuc, ◌*ℤ◌, ◌+ℤ◌, List, [], ◌∷◌, ◌++◌, Option, Some, None, IfNone, FitsSigned}
+use Rattle.std.proofs.Common.{w64, rules, refl, sym, ap, subst, inl, inr, arith, true, false}
 use Rattle.std.specs.Fmt.{signed_decimal}
 use Rattle.std.proofs.lemmas.Int.{ints}
 use Rattle.std.proofs.lemmas.Fmt.{signed_decimal_injective}
@@ -14,13 +16,16 @@ fits_whole : (u : ℤ) → pos 0 ≤ℤ u → u ≤ℤ most_units → FitsSigned
 fits_whole u some most = search rules
 
 -- a text that is no number is no whole one
-pub no_whole : (o : Option ℤ) (text : List ℕ) → ((z : ℤ) → FitsSigned w64 z → ¬ IsNatural text z) → IfNone o ((u : ℤ) → ¬ IsWhole text u)
+pub no_whole : (o : Option ℤ) (text : List ℕ) → ((z : ℤ) → FitsSigned w64 z → ¬ IsNatural text z)
+    → IfNone o ((u : ℤ) → ¬ IsWhole text u)
 no_whole None text h = λ u it. h u (fits_whole u it.0.1 it.1) it.0
 no_whole (Some x) text h = tt
 
-pub too_many : (known : ℤ) (text : List ℕ) → FitsSigned w64 known → IsNatural text known → most_units <ℤ known → (u : ℤ) → ¬ IsWhole text u
+pub too_many : (known : ℤ) (text : List ℕ) → FitsSigned w64 known → IsNatural text known → most_units <ℤ known
+    → (u : ℤ) → ¬ IsWhole text u
 too_many known text fits is high u it =
-    let same : u ≡ known = (let f : FitsSigned w64 u = fits_whole u it.0.1 it.1 in signed_decimal_injective u known (search rules) (search rules)) (sym it.0.0 ∙ is.0) in
+    let same : u ≡ known = (let f : FitsSigned w64 u = fits_whole u it.0.1 it.1 in signed_decimal_injective u known
+    (search rules) (search rules)) (sym it.0.0 ∙ is.0) in
     let more : most_units <ℤ u = subst (λ y. most_units <ℤ y) (sym same) high in
     let most = it.1 in
     absurd (omega (arith, ints, more, most))
@@ -33,7 +38,8 @@ natural_lacks mark text (negsuc n) low it = let some = it.1 in absurd (omega (ar
 
 -- ---- a size
 
-pub no_size_whole : (o : Option ℤ) (text : List ℕ) → Lacks 46 text → IfNone o ((u : ℤ) → ¬ IsWhole text u) → IfNone o ((n : ℤ) → ¬ IsSize text n)
+pub no_size_whole : (o : Option ℤ) (text : List ℕ) → Lacks 46 text → IfNone o ((u : ℤ) → ¬ IsWhole text u)
+    → IfNone o ((n : ℤ) → ¬ IsSize text n)
 no_size_whole (Some x) text lacks none = tt
 no_size_whole None text lacks none = by
   where
@@ -47,19 +53,30 @@ broken_parts : (text front digits : List ℕ) → IsCut 46 text front digits →
 broken_parts text front digits cut n (inl it) =
     absurd (mark_is_there 46 front digits (subst (Lacks 46) cut.0 (natural_lacks 46 text it.0 (omega arith) it.1.0)))
 broken_parts text front digits cut n (inr it) =
-    let same = cut_once 46 front it.front digits it.digits cut.1 (natural_lacks 46 it.front it.units (omega arith) it.whole.0) (sym cut.0 ∙ it.written) in
-    (it.units, it.part, subst (λ t. IsWhole t it.units) (sym same.0) it.whole, subst (λ t. fraction t ≡ Some it.part) (sym same.1) it.broken)
+    let same = cut_once 46 front it.front digits it.digits cut.1
+    (natural_lacks 46 it.front it.units (omega arith) it.whole.0) (sym cut.0 ∙ it.written) in (
+      it.units,
+      it.part,
+      subst (λ t. IsWhole t it.units) (sym same.0) it.whole,
+      subst (λ t. fraction t ≡ Some it.part)
+          (sym same.1) it.broken,
+    )
 
-pub no_size_front : (o : Option ℤ) (text front digits : List ℕ) → IsCut 46 text front digits → ((u : ℤ) → ¬ IsWhole front u) → IfNone o ((n : ℤ) → ¬ IsSize text n)
+pub no_size_front : (o : Option ℤ) (text front digits : List ℕ) → IsCut 46 text front digits
+    → ((u : ℤ) → ¬ IsWhole front u) → IfNone o ((n : ℤ) → ¬ IsSize text n)
 no_size_front (Some x) text front digits cut none = tt
-no_size_front None text front digits cut none = λ n it. let parts = broken_parts text front digits cut n it in none parts.0 parts.2
+no_size_front None text front digits cut none = λ n it. let parts =
+    broken_parts text front digits cut n it in none parts.0 parts.2
 
-pub no_size_back : (o : Option ℤ) (text front digits : List ℕ) → IsCut 46 text front digits → fraction digits ≡ None → IfNone o ((n : ℤ) → ¬ IsSize text n)
+pub no_size_back : (o : Option ℤ) (text front digits : List ℕ) → IsCut 46 text front digits → fraction digits ≡ None
+    → IfNone o ((n : ℤ) → ¬ IsSize text n)
 no_size_back (Some x) text front digits cut none = tt
-no_size_back None text front digits cut none = λ n it. let parts = broken_parts text front digits cut n it in let some = parts.3 in absurd (cc (some, none))
+no_size_back None text front digits cut none = λ n it. let parts =
+    broken_parts text front digits cut n it in let some = parts.3 in absurd (cc (some, none))
 
 -- the two parts together
-pub broken_size : (text front digits : List ℕ) (n f : ℤ) → IsCut 46 text front digits → (u : ℤ) × IsWhole front u × (n ≡ u *ℤ pos 1000) → fraction digits ≡ Some f → IsSize text (n +ℤ f)
+pub broken_size : (text front digits : List ℕ) (n f : ℤ) → IsCut 46 text front digits → (u : ℤ) × IsWhole front u
+    × (n ≡ u *ℤ pos 1000) → fraction digits ≡ Some f → IsSize text (n +ℤ f)
 broken_size text front digits n f cut it part = inr (record {
   front = front;
   digits = digits;

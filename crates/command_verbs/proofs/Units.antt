@@ -1,5 +1,7 @@
 -- Which texts are of no number of units, of no point and of no box.
-use Rattle.std.proofs.Common.{◌≡◌, ◌≢◌, ◌≤ℤ◌, ◌<◌, ◌⊎◌, ◌∙◌, ◌==◌, ◌&&◌, ℕ, Bool, ℤ, pos, ◌-ℤ◌, List, [], ◌∷◌, ◌++◌, length, Option, Some, None, IfNone, IfSome, refl, sym, ap, subst, inl, inr, arith, true, false}
+use Rattle.std.proofs.Common.{◌≡◌, ◌≢◌, ◌≤ℤ◌, ◌<◌, ◌⊎◌, ◌∙◌, ◌==◌, ◌&&◌, ℕ, Bool, ℤ, pos, ◌-ℤ◌, List, [], ◌∷◌, ◌++◌}
+use Rattle.std.proofs.Common.{length, Option, Some, None, IfNone, IfSome, refl, sym, ap, subst, inl, inr, arith, true}
+use Rattle.std.proofs.Common.{false}
 use Rattle.std.specs.Bool.{then_some}
 use Rattle.std.proofs.lemmas.Bool.Decides.{nat_tests}
 use Rattle.std.proofs.lemmas.Bool.{and_parts}
@@ -40,11 +42,13 @@ size_lacks mark text n low (inr it) =
     let no_point : (46 == mark) ≡ false = grind (arith, nat_tests, low) in
     let under : mark < 48 = omega (arith, low) in
     subst (Lacks mark) (sym it.written)
-    (lacks_both mark it.front (46 ∷ it.digits) (natural_lacks mark it.front it.units under it.whole.0) (no_point, digits_lack mark it.digits it.part under it.broken))
+    (lacks_both mark it.front (46 ∷ it.digits) (natural_lacks mark it.front it.units under it.whole.0)
+    (no_point, digits_lack mark it.digits it.part under it.broken))
 
 -- ---- a number of units
 
-pub no_units_alone : (o : Option ℤ) (text : List ℕ) → Lacks 45 text → IfNone o ((n : ℤ) → ¬ IsSize text n) → IfNone o ((n : ℤ) → ¬ IsUnits text n)
+pub no_units_alone : (o : Option ℤ) (text : List ℕ) → Lacks 45 text → IfNone o ((n : ℤ) → ¬ IsSize text n)
+    → IfNone o ((n : ℤ) → ¬ IsUnits text n)
 no_units_alone (Some x) text lacks none = tt
 no_units_alone None text lacks none = by
   where
@@ -53,8 +57,10 @@ no_units_alone None text lacks none = by
     by n (inr it) = mark_is_there 45 [] it.0 (subst (Lacks 45) it.2 lacks)
 
 -- what stands behind the minus
-minus_parts : (text front rest : List ℕ) → IsCut 45 text front rest → (n : ℤ) → IsUnits text n → (front ≡ []) × ((size : ℤ) × IsSize rest size)
-minus_parts text front rest cut n (inl it) = absurd (mark_is_there 45 front rest (subst (Lacks 45) cut.0 (size_lacks 45 text n (omega arith) it)))
+minus_parts : (text front rest : List ℕ) → IsCut 45 text front rest → (n : ℤ) → IsUnits text n → (front ≡ [])
+    × ((size : ℤ) × IsSize rest size)
+minus_parts text front rest cut n (inl it) = absurd (mark_is_there 45 front rest
+    (subst (Lacks 45) cut.0 (size_lacks 45 text n (omega arith) it)))
 minus_parts text front rest cut n (inr it) =
     let same = cut_once 45 front [] rest it.0 cut.1 tt (sym cut.0 ∙ it.2) in
     (same.0, (it.1, subst (λ t. IsSize t it.1) (sym same.1) it.3))
@@ -62,15 +68,18 @@ minus_parts text front rest cut n (inr it) =
 pub no_units_behind : (text front rest : List ℕ) → IsCut 45 text front rest → front ≢ [] → (n : ℤ) → ¬ IsUnits text n
 no_units_behind text front rest cut some n it = some (minus_parts text front rest cut n it).0
 
-pub no_units_minus : (o : Option ℤ) (text front rest : List ℕ) → IsCut 45 text front rest → ((n : ℤ) → ¬ IsSize rest n) → IfNone o ((n : ℤ) → ¬ IsUnits text n)
+pub no_units_minus : (o : Option ℤ) (text front rest : List ℕ) → IsCut 45 text front rest
+    → ((n : ℤ) → ¬ IsSize rest n) → IfNone o ((n : ℤ) → ¬ IsUnits text n)
 no_units_minus (Some x) text front rest cut none = tt
-no_units_minus None text front rest cut none = λ n it. let parts = (minus_parts text front rest cut n it).1 in none parts.0 parts.1
+no_units_minus None text front rest cut none = λ n it. let parts =
+    (minus_parts text front rest cut n it).1 in none parts.0 parts.1
 
 pub units_of_size : (o : Option ℤ) (text : List ℕ) → IfSome o (IsSize text) → IfSome o (IsUnits text)
 units_of_size None text h = tt
 units_of_size (Some n) text h = inl h
 
-pub units_minus : (text front rest : List ℕ) (n : ℤ) → IsCut 45 text front rest → front ≡ [] → IsSize rest n → IsUnits text (pos 0 -ℤ n)
+pub units_minus : (text front rest : List ℕ) (n : ℤ) → IsCut 45 text front rest → front ≡ [] → IsSize rest n
+    → IsUnits text (pos 0 -ℤ n)
 units_minus text front rest n cut empty it = inr (rest, n, cut.0 ∙ ap (λ f. f ++ (45 ∷ rest)) empty, it, refl)
 
 -- it has no comma
@@ -80,7 +89,8 @@ units_lack text n (inr it) = subst (Lacks 44) (sym it.2) (refl, size_lacks 44 it
 
 -- ---- a point
 
-point_parts : (text across up : List ℕ) → IsCut 44 text across up → (p : Point) → IsPoint text p → IsUnits across p.x × IsUnits up p.y
+point_parts : (text across up : List ℕ) → IsCut 44 text across up → (p : Point) → IsPoint text p → IsUnits across p.x
+    × IsUnits up p.y
 point_parts text across up cut p it =
     let same = cut_once 44 across it.across up it.up cut.1 (units_lack it.across p.x it.x) (sym cut.0 ∙ it.written) in
     (subst (λ t. IsUnits t p.x) (sym same.0) it.x, subst (λ t. IsUnits t p.y) (sym same.1) it.y)
@@ -92,11 +102,13 @@ pub no_comma : (o : Option Point) (text : List ℕ) → Lacks 44 text → IfNone
 no_comma (Some x) text lacks = tt
 no_comma None text lacks = λ p it. mark_is_there 44 it.across it.up (subst (Lacks 44) it.written lacks)
 
-pub no_across : (o : Option Point) (text across up : List ℕ) → IsCut 44 text across up → ((n : ℤ) → ¬ IsUnits across n) → IfNone o (NoPoint text)
+pub no_across : (o : Option Point) (text across up : List ℕ) → IsCut 44 text across up
+    → ((n : ℤ) → ¬ IsUnits across n) → IfNone o (NoPoint text)
 no_across (Some x) text across up cut none = tt
 no_across None text across up cut none = λ p it. none p.x (point_parts text across up cut p it).0
 
-pub no_up : (o : Option Point) (text across up : List ℕ) → IsCut 44 text across up → ((n : ℤ) → ¬ IsUnits up n) → IfNone o (NoPoint text)
+pub no_up : (o : Option Point) (text across up : List ℕ) → IsCut 44 text across up → ((n : ℤ) → ¬ IsUnits up n)
+    → IfNone o (NoPoint text)
 no_up (Some x) text across up cut none = tt
 no_up None text across up cut none = λ p it. none p.y (point_parts text across up cut p it).1
 
@@ -105,17 +117,21 @@ no_up None text across up cut none = λ p it. none p.y (point_parts text across 
 abbrev corner : Ground → Point
 corner g = record { x = g.east; y = g.north }
 
-pub box_parts : (text west south rest behind : List ℕ) → IsCut 44 text west behind → IsCut 44 behind south rest → (g : Ground) → IsBox text g
+pub box_parts : (text west south rest behind : List ℕ) → IsCut 44 text west behind → IsCut 44 behind south rest
+    → (g : Ground) → IsBox text g
     → IsUnits west g.west × IsUnits south g.south × IsPoint rest (corner g)
 box_parts text west south rest behind cut more g it =
-    let one = cut_once 44 west it.west behind (it.south ++ (44 ∷ it.rest)) cut.1 (units_lack it.west g.west it.left) (sym cut.0 ∙ it.written) in
-    let two = cut_once 44 south it.south rest it.rest more.1 (units_lack it.south g.south it.bottom) (sym more.0 ∙ one.1) in (
+    let one = cut_once 44 west it.west behind (it.south ++ (44 ∷ it.rest)) cut.1 (units_lack it.west g.west it.left)
+    (sym cut.0 ∙ it.written) in
+    let two = cut_once 44 south it.south rest it.rest more.1 (units_lack it.south g.south it.bottom)
+    (sym more.0 ∙ one.1) in (
       subst (λ t. IsUnits t g.west) (sym one.0) it.left,
       subst (λ t. IsUnits t g.south) (sym two.0) it.bottom,
       subst (λ t. IsPoint t (corner g)) (sym two.1) it.corner,
     )
 
-pub box_of : (text west south rest behind : List ℕ) → IsCut 44 text west behind → IsCut 44 behind south rest → (g : Ground)
+pub box_of : (text west south rest behind : List ℕ) → IsCut 44 text west behind → IsCut 44 behind south rest
+    → (g : Ground)
     → IsUnits west g.west → IsUnits south g.south → IsPoint rest (corner g) → IsBox text g
 box_of text west south rest behind cut more g left bottom there = record {
   west = west;
@@ -135,11 +151,13 @@ no_box None text h = h
 no_box (Some x) text h = tt
 
 pub no_comma_at_all : (text : List ℕ) → Lacks 44 text → NoBox text
-no_comma_at_all text lacks g it = mark_is_there 44 it.west (it.south ++ (44 ∷ it.rest)) (subst (Lacks 44) it.written lacks)
+no_comma_at_all text lacks g it = mark_is_there 44 it.west (it.south ++ (44 ∷ it.rest))
+    (subst (Lacks 44) it.written lacks)
 
 pub one_comma_alone : (text west behind : List ℕ) → IsCut 44 text west behind → Lacks 44 behind → NoBox text
 one_comma_alone text west behind cut lacks g it =
-    let one = cut_once 44 west it.west behind (it.south ++ (44 ∷ it.rest)) cut.1 (units_lack it.west g.west it.left) (sym cut.0 ∙ it.written) in
+    let one = cut_once 44 west it.west behind (it.south ++ (44 ∷ it.rest)) cut.1 (units_lack it.west g.west it.left)
+    (sym cut.0 ∙ it.written) in
     mark_is_there 44 it.south it.rest (subst (Lacks 44) one.1 lacks)
 
 -- ---- whether a text is empty
@@ -152,5 +170,6 @@ pub not_empty : (text : List ℕ) (b : Bool) → b ≡ (length text == 0) → b 
 not_empty [] b is so = absurd (grind (arith, nat_tests, is, so))
 not_empty (x ∷ xs) b is so = λ e. cc e
 
-pub point_of : (text across up : List ℕ) → IsCut 44 text across up → (p : Point) → IsUnits across p.x → IsUnits up p.y → IsPoint text p
+pub point_of : (text across up : List ℕ) → IsCut 44 text across up → (p : Point) → IsUnits across p.x → IsUnits up p.y
+    → IsPoint text p
 point_of text across up cut p x y = record { across = across; up = up; written = cut.0; x = x; y = y }

@@ -4,7 +4,9 @@ use Rattle.sheet_types.specs.Texts.{uuid_text}
 use Rattle.command_verbs.specs.declared.names.NameFault.{NameFault}
 use Rattle.command_verbs.specs.declared.names.NameFault.TheVariants.{Short, Unknown, Two}
 use Rattle.command_verbs.specs.declared.verbs.VerbFault.{VerbFault}
-use Rattle.command_verbs.specs.declared.verbs.VerbFault.TheVariants.{OutOfMemory, Unnamed, Unfound, BadArea, BadPlace, BadPoint, BadCode, BadType, NotLent, BadTicket, Apart, Unrelated}
+use Rattle.command_verbs.specs.declared.verbs.VerbFault.TheVariants.{OutOfMemory, Unnamed, Unfound, BadArea, BadPlace}
+use Rattle.command_verbs.specs.declared.verbs.VerbFault.TheVariants.{BadPoint, BadCode, BadType, NotLent, BadTicket}
+use Rattle.command_verbs.specs.declared.verbs.VerbFault.TheVariants.{Apart, Unrelated}
 
 abbrev pub name_word : NameFault → List ℕ → List ℕ → List ℕ
 name_word Short none two = codes "refused: a name of fewer than four digits"

@@ -1,5 +1,6 @@
 -- Numbers in units, with at most three decimals, as thousandths. Profile.
-use Rattle.std.specs.Prelude.{◌≡◌, ◌⊎◌, ◌-◌, ℕ, Bool, ◌&&◌, nat_le, List, [], ◌∷◌, ◌++◌, ℤ, pos, ◌+ℤ◌, ◌-ℤ◌, ◌*ℤ◌, ◌≤ℤ◌, Option, Some, None}
+use Rattle.std.specs.Prelude.{◌≡◌, ◌⊎◌, ◌-◌, ℕ, Bool, ◌&&◌, nat_le, List, [], ◌∷◌, ◌++◌, ℤ, pos, ◌+ℤ◌, ◌-ℤ◌, ◌*ℤ◌}
+use Rattle.std.specs.Prelude.{◌≤ℤ◌, Option, Some, None}
 use Rattle.std.specs.Bool.{then_some}
 use Rattle.std.specs.Fmt.{signed_decimal}
 use Rattle.sheet_types.specs.declared.frame.Ground.{Ground}
@@ -48,7 +49,8 @@ IsSize text n = ((units : ℤ) × IsWhole text units × (n ≡ units *ℤ pos 10
 
 -- the same, or behind a minus
 abbrev pub IsUnits : List ℕ → ℤ → Type 0
-IsUnits text n = IsSize text n ⊎ ((rest : List ℕ) × (size : ℤ) × (text ≡ 45 ∷ rest) × IsSize rest size × (n ≡ pos 0 -ℤ size))
+IsUnits text n = IsSize text n ⊎ ((rest : List ℕ) × (size : ℤ) × (text ≡ 45 ∷ rest) × IsSize rest size
+    × (n ≡ pos 0 -ℤ size))
 
 -- X,Y
 pub record IsPoint (text : List ℕ) (p : Point) : Type 0 where

@@ -25,7 +25,9 @@ use Rattle.command_verbs.specs.declared.verbs.Mark.{Mark}
 use Rattle.command_verbs.specs.declared.verbs.Verb.{Verb}
 use Rattle.command_verbs.specs.declared.verbs.Verb.TheVariants.{Lend, Return, PutTile, PutMedium, PutMark, Join, Part}
 use Rattle.command_verbs.specs.declared.verbs.VerbFault.{VerbFault}
-use Rattle.command_verbs.specs.declared.verbs.VerbFault.TheVariants.{OutOfMemory, Unnamed, Unfound, BadArea, BadPlace, BadPoint, BadCode, BadType, NotLent, BadTicket, Apart, Unrelated}
+use Rattle.command_verbs.specs.declared.verbs.VerbFault.TheVariants.{OutOfMemory, Unnamed, Unfound, BadArea, BadPlace}
+use Rattle.command_verbs.specs.declared.verbs.VerbFault.TheVariants.{BadPoint, BadCode, BadType, NotLent, BadTicket}
+use Rattle.command_verbs.specs.declared.verbs.VerbFault.TheVariants.{Apart, Unrelated}
 
 -- the type that is said, or else that of the first bytes
 abbrev pub IsTypeOf : Option (List ℕ) → List ℕ → List ℕ → Type 0
@@ -68,7 +70,8 @@ module _ (sights : List PackageSight) where
   -- an attributes row does
   abbrev pub PutsMark : List ℕ → Mark → List ℕ → Command → Type 0
   PutsMark holder m identity command =
-      (p : PackageSight) × (at : Point) × (code : ℤ) × (the_one sights holder ≡ Ok p) × IsPoint m.point.now at × IsNatural m.code.now code
+      (p : PackageSight) × (at : Point) × (code : ℤ) × (the_one sights holder ≡ Ok p) × IsPoint m.point.now at
+      × IsNatural m.code.now code
       × (command ≡ Add p.uuid identity (Row at.x at.y code m.label.now))
 
   -- ---- why there is none
@@ -111,12 +114,14 @@ module _ (items : List ItemEntry) where
   -- they are linked
   abbrev pub Joins : List ℕ → List ℕ → Command → Type 0
   Joins first second command =
-      (holder : List ℕ) × (r : Relation) × IsTied first second holder r × (command ≡ Link holder r.mapping r.base r.other)
+      (holder : List ℕ) × (r : Relation) × IsTied first second holder r
+      × (command ≡ Link holder r.mapping r.base r.other)
 
   -- their link is ended
   abbrev pub Parts : List ℕ → List ℕ → Command → Type 0
   Parts first second command =
-      (holder : List ℕ) × (r : Relation) × IsTied first second holder r × (command ≡ Unlink holder r.mapping r.base r.other)
+      (holder : List ℕ) × (r : Relation) × IsTied first second holder r
+      × (command ≡ Unlink holder r.mapping r.base r.other)
 
   abbrev pub IsUnfound : List ℕ → VerbFault → Type 0
   IsUnfound word fault = (why : NameFault) × (the_item items word ≡ Err why) × (fault ≡ Unfound why)
@@ -138,7 +143,8 @@ module _ (sights : List PackageSight) (items : List ItemEntry) where
   Says (Lend from area mode loan) bytes command = Lends sights (text_of from) area.now mode loan command
   Says (Return loan) bytes command = Returns sights loan.now command
   Says (PutTile holder place identity) bytes command = PutsTile sights holder.now place.now identity bytes command
-  Says (PutMedium holder word identity) bytes command = PutsMedium sights holder.now (text_of word) identity bytes command
+  Says (PutMedium holder word identity) bytes command = PutsMedium sights holder.now (text_of word) identity bytes
+      command
   Says (PutMark holder mark identity) bytes command = PutsMark sights holder.now mark identity command
   Says (Join first second) bytes command = Joins items first.now second.now command
   Says (Part first second) bytes command = Parts items first.now second.now command

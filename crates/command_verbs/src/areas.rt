@@ -3,7 +3,8 @@ ghost use Rattle.std.specs.Prelude.{◌≡◌, ◌≢◌, ◌<◌, ℕ, ℤ, Lis
 ghost use Rattle.std.specs.Int.{w64};
 ghost use Rattle.sheet_types.specs.declared.frame.Rect.{Rect};
 ghost use Rattle.command_verbs.specs.declared.areas.Place.{Place};
-ghost use Rattle.command_verbs.specs.Areas.{AreEnds, FitsWords, IsArea, IsCut, IsCutInThree, IsNatural, IsPlace, Lacks, PlaceFits, slashed};
+ghost use Rattle.command_verbs.specs.Areas.{AreEnds, FitsWords, IsArea, IsCut, IsCutInThree, IsNatural, IsPlace};
+ghost use Rattle.command_verbs.specs.Areas.{Lacks, PlaceFits, slashed};
 
 use sheet_types::frame::Rect;
 use sheet_types::reading::read_number;
@@ -40,7 +41,8 @@ pub(crate) fn read_natural(text: &str) -> Option<i64>
 /// The first and the last of `3-5`, or of `3`, which is both.
 fn read_ends(text: &str) -> Option<(i64, i64)>
     ensures some { IfSome result (λ ends. AreEnds text.now ends.0 ends.1) }
-    ensures none { IfNone result ((first last : ℤ) → FitsSigned w64 first → FitsSigned w64 last → ¬ AreEnds text.now first last) }
+    ensures none { IfNone result ((first last : ℤ) → FitsSigned w64 first → FitsSigned w64 last
+        → ¬ AreEnds text.now first last) }
 {
     let Some((front, back)) = cut(text, '-') else {
         let only = read_natural(text)?;
@@ -54,7 +56,8 @@ fn read_ends(text: &str) -> Option<(i64, i64)>
 /// Three texts with a slash between each and the next.
 fn cut_in_three(text: &str) -> Option<(&str, &str, &str)>
     ensures some { IfSome result (λ parts. IsCutInThree text.now parts.0.now parts.1.now parts.2.now) }
-    ensures none { IfNone result ((one two three : List ℕ) → Lacks 47 one → Lacks 47 two → text.now ≢ slashed one two three) }
+    ensures none { IfNone result ((one two three : List ℕ) → Lacks 47 one → Lacks 47 two
+        → text.now ≢ slashed one two three) }
 {
     let (one, rest) = cut(text, '/')?;
     let (two, three) = cut(rest, '/')?;
@@ -73,7 +76,8 @@ pub fn read_place(text: &str) -> Option<Place>
     Some(Place { zoom, column, row })
 }
 
-/// The rectangle of a text `ZOOM/COLUMNS/ROWS`, where columns and rows are one number, or the first and the last with a hyphen between them.
+/// The rectangle of a text `ZOOM/COLUMNS/ROWS`, where columns and rows are one number, or the first
+/// and the last with a hyphen between them.
 pub fn read_area(text: &str) -> Option<Rect>
     ensures some { IfSome result (IsArea text.now) }
     ensures none { IfNone result ((rect : Rect) → FitsWords rect → ¬ IsArea text.now rect) }

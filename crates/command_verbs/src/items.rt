@@ -17,7 +17,8 @@ pub struct ItemEntry {
 
 /// The first item that a word may name, and those listed behind it.
 fn next_item<'e>(word: &str, entries: &'e [ItemEntry]) -> Option<(ItemEntry, &'e [ItemEntry])>
-    ensures some { IfSome result (λ it. filter (has_identity word.now) entries.now ≡ it.0 ∷ filter (has_identity word.now) it.1.now) }
+    ensures some { IfSome result (λ it. filter (has_identity word.now) entries.now ≡ it.0
+        ∷ filter (has_identity word.now) it.1.now) }
     ensures none { IfNone result (filter (has_identity word.now) entries.now ≡ []) }
 {
     let [entry, rest @ ..] = entries else {

@@ -6,7 +6,8 @@ ghost use Rattle.command_verbs.specs.Names.{archive_of, begins, has_name, of_tho
 
 use uuid::Uuid;
 
-/// What is listed of a live package: its parent, where it is a loan, how many loans it is below the archive, and the number of the last receipt that names it.
+/// What is listed of a live package: its parent, where it is a loan, how many loans it is below the
+/// archive, and the number of the last receipt that names it.
 #[derive(Clone, Copy, PartialEq, Eq)]
 pub struct PackageEntry {
     pub uuid: Uuid,
@@ -53,7 +54,8 @@ fn next_named<'e>(
     word: &str,
     entries: &'e [PackageEntry],
 ) -> Option<(PackageEntry, &'e [PackageEntry])>
-    ensures some { IfSome result (λ it. filter (has_name word.now) (map sight entries.now) ≡ sight it.0 ∷ filter (has_name word.now) (map sight it.1.now)) }
+    ensures some { IfSome result (λ it. filter (has_name word.now) (map sight entries.now) ≡ sight it.0
+        ∷ filter (has_name word.now) (map sight it.1.now)) }
     ensures none { IfNone result (filter (has_name word.now) (map sight entries.now) ≡ []) }
 {
     let [entry, rest @ ..] = entries else {

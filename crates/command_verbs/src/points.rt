@@ -2,7 +2,8 @@
 ghost use Rattle.std.specs.Prelude.{◌≡◌, ℤ, pos, ◌≤ℤ◌, ◌*ℤ◌, IfSome, IfNone};
 ghost use Rattle.sheet_types.specs.declared.frame.Ground.{Ground};
 ghost use Rattle.command_verbs.specs.declared.points.Point.{Point};
-ghost use Rattle.command_verbs.specs.Points.{IsBox, IsPoint, IsSize, IsUnits, IsWhole, digit_of, fraction, is_digit, is_small};
+ghost use Rattle.command_verbs.specs.Points.{IsBox, IsPoint, IsSize, IsUnits, IsWhole, digit_of, fraction, is_digit};
+ghost use Rattle.command_verbs.specs.Points.{is_small};
 
 use crate::areas::{cut, read_natural};
 use sheet_types::frame::Ground;

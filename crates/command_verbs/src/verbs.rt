@@ -1,7 +1,10 @@
 //! Verbs: each is one command, which its words and the live packages say.
 ghost use Rattle.std.specs.Prelude.{◌≡◌, IfOk, MatchResult, Ok, Err, map};
 ghost use Rattle.command_verbs.specs.Names.{giver_of, sight};
-ghost use Rattle.command_verbs.specs.Verbs.{IsTied, IsWhyNoMark, IsWhyUntied, Joins, Parts, PutsMark, IsTypeOf, IsWhyNoMedium, IsWhyNoTile, IsWhyUnlent, IsWhyUnreturned, IsWhyUnsaid, IsWhyUntyped, Lends, PutsMedium, PutsTile, Returns, Says, request_of, text_of};
+ghost use Rattle.command_verbs.specs.Verbs.{IsTied, IsWhyNoMark, IsWhyUntied, Joins, Parts, PutsMark, IsTypeOf};
+ghost use Rattle.command_verbs.specs.Verbs.{IsWhyNoMedium, IsWhyNoTile, IsWhyUnlent, IsWhyUnreturned, IsWhyUnsaid};
+ghost use Rattle.command_verbs.specs.Verbs.{IsWhyUntyped, Lends, PutsMedium, PutsTile, Returns, Says, request_of};
+ghost use Rattle.command_verbs.specs.Verbs.{text_of};
 
 use crate::areas::{read_area, read_natural, read_place};
 use crate::items::{ItemEntry, find_item, tie};
@@ -331,7 +334,8 @@ fn part(items: &[ItemEntry], first: &str, second: &str) -> Result<Command, VerbF
     }
 }
 
-/// The command that a verb says among the live packages and their items, over the bytes that it was given. Items are asked for by `Join` and `Part` alone.
+/// The command that a verb says among the live packages and their items, over the bytes that it was
+/// given. Items are asked for by `Join` and `Part` alone.
 pub fn say(
     alloc: Global,
     entries: &[PackageEntry],

@@ -1,5 +1,7 @@
 -- A frame is written in one way, and a good one within 64 bits.
-use Rattle.std.proofs.Common.{◌≡◌, ◌≢◌, ℕ, zero, suc, Bool, true, false, not, ◌&&◌, List, [], ◌∷◌, length, ℤ, pos, negsuc, ◌+ℤ◌, ◌-ℤ◌, ◌*ℤ◌, ◌≤ℤ◌, int_le, int_lt, FitsSigned, w64, Option, Some, None, IfNone, subst, rules, refl, sym, ap, ◌∙◌, arith}
+use Rattle.std.proofs.Common.{◌≡◌, ◌≢◌, ℕ, zero, suc, Bool, true, false, not, ◌&&◌, List, [], ◌∷◌, length, ℤ, pos}
+use Rattle.std.proofs.Common.{negsuc, ◌+ℤ◌, ◌-ℤ◌, ◌*ℤ◌, ◌≤ℤ◌, int_le, int_lt, FitsSigned, w64, Option, Some, None}
+use Rattle.std.proofs.Common.{IfNone, subst, rules, refl, sym, ap, ◌∙◌, arith}
 use Rattle.std.specs.List.{AllByRecursion}
 use Rattle.std.specs.Fmt.{signed_decimal}
 use Rattle.std.proofs.lemmas.Fmt.{signed_decimal_injective}
@@ -10,8 +12,10 @@ use Rattle.std.proofs.lemmas.Bool.{and_parts}
 use Rattle.std.proofs.lemmas.Int.{ints}
 use Rattle.command_words.specs.Arguments.{IsFrame}
 use Rattle.sheet_types.specs.declared.frame.FrameFault.{FrameFault}
-use Rattle.sheet_types.specs.declared.frame.FrameFault.TheVariants.{BadSrs, BadBounds, BadTile, BadZoom, BadMatrix, Uneven}
-use Rattle.sheet_types.specs.Matrix.{is_within, first_row, is_good_bound, ten_to_12, divides, width_at, height_at, last_level, frame_fault}
+use Rattle.sheet_types.specs.declared.frame.FrameFault.TheVariants.{BadSrs, BadBounds, BadTile, BadZoom, BadMatrix}
+use Rattle.sheet_types.specs.declared.frame.FrameFault.TheVariants.{Uneven}
+use Rattle.sheet_types.specs.Matrix.{is_within, first_row, is_good_bound, ten_to_12, divides, width_at, height_at}
+use Rattle.sheet_types.specs.Matrix.{last_level, frame_fault}
 use Rattle.matrix_rules.proofs.Frames.{GoodFrame, good_frame}
 
 abbrev Fit : List ℤ → Type 0
@@ -28,7 +32,8 @@ numbers_once (y ∷ []) (z ∷ []) l f g e = ap (λ n. n ∷ []) (number_once y 
 numbers_once (y ∷ []) (z ∷ v ∷ zs) l f g e = absurd cc
 numbers_once (y ∷ x ∷ ys) (z ∷ []) l f g e = absurd cc
 numbers_once (y ∷ x ∷ ys) (z ∷ v ∷ zs) l f g e =
-    let cut = cut_once 44 (signed_decimal y) (signed_decimal z) (numbers_text (x ∷ ys)) (numbers_text (v ∷ zs)) (signed_lacks 44 y (omega arith)) (signed_lacks 44 z (omega arith)) e in
+    let cut = cut_once 44 (signed_decimal y) (signed_decimal z) (numbers_text (x ∷ ys)) (numbers_text (v ∷ zs))
+    (signed_lacks 44 y (omega arith)) (signed_lacks 44 z (omega arith)) e in
     let first : y ≡ z = number_once y z f.0 g.0 cut.0 in
     let rest : x ∷ ys ≡ v ∷ zs = numbers_once (x ∷ ys) (v ∷ zs) (cc) f.1 g.1 cut.1 in
     cc
@@ -62,7 +67,8 @@ frame_once f g in_f in_g e =
 -- ---- a good frame
 
 -- no row of the table of faults is taken where all six rules hold
-rules_hold : (a b c d e g : Bool) → first_row ((not a, BadSrs) ∷ (not b, BadBounds) ∷ (not c, BadTile) ∷ (not d, BadZoom) ∷ (not e, BadMatrix) ∷ (not g, Uneven) ∷ []) ≡ None → a ≡ true
+rules_hold : (a b c d e g : Bool) → first_row ((not a, BadSrs) ∷ (not b, BadBounds) ∷ (not c, BadTile)
+    ∷ (not d, BadZoom) ∷ (not e, BadMatrix) ∷ (not g, Uneven) ∷ []) ≡ None → a ≡ true
 rules_hold true b c d e g h = refl
 rules_hold false b c d e g h = absurd (cc)
 
@@ -86,11 +92,13 @@ pub in_range : (f : Frame) → frame_fault f ≡ None → IsInRange f
 in_range f h =
     let good : GoodFrame f = good_frame f (rw h refl) in
     let srs = rules_hold (is_within (negsuc 0) (pos 999999) f.srs_id)
-    (is_good_bound f.min_x && is_good_bound f.min_y && is_good_bound f.max_x && is_good_bound f.max_y && int_lt f.min_x f.max_x && int_lt f.min_y f.max_y)
+    (is_good_bound f.min_x && is_good_bound f.min_y && is_good_bound f.max_x && is_good_bound f.max_y && int_lt
+    f.min_x f.max_x && int_lt f.min_y f.max_y)
     (is_within (pos 1) (pos 4096) f.tile_width && is_within (pos 1) (pos 4096) f.tile_height)
     (int_le (pos 0) f.first_zoom && int_le (pos 1) f.levels && int_le (f.first_zoom +ℤ f.levels) (pos 21))
     (is_within (pos 1) (pos 2 *ℤ ten_to_12) f.matrix_width && is_within (pos 1) (pos 2 *ℤ ten_to_12) f.matrix_height)
-    (divides (width_at f (last_level f) *ℤ f.tile_width) (f.max_x -ℤ f.min_x) && divides (height_at f (last_level f) *ℤ f.tile_height) (f.max_y -ℤ f.min_y)) h in
+    (divides (width_at f (last_level f) *ℤ f.tile_width) (f.max_x -ℤ f.min_x) && divides
+    (height_at f (last_level f) *ℤ f.tile_height) (f.max_y -ℤ f.min_y)) h in
     let zoom : f.first_zoom ≤ℤ pos 2000000000000 = omega (arith, ints, good.levels, good.zooms) in
     let levels : f.levels ≤ℤ pos 2000000000000 = omega (arith, ints, good.first_zoom, good.zooms) in (
       fits_srs f.srs_id srs,
@@ -103,9 +111,11 @@ in_range f h =
             (
               fits_bound f.max_y good.max_y.0 good.max_y.1,
               (
-                fits_most f.tile_width (omega (arith, ints, good.tile_width.0)) (omega (arith, ints, good.tile_width.1)),
+                fits_most f.tile_width (omega (arith, ints, good.tile_width.0))
+                    (omega (arith, ints, good.tile_width.1)),
                 (
-                  fits_most f.tile_height (omega (arith, ints, good.tile_height.0)) (omega (arith, ints, good.tile_height.1)),
+                  fits_most f.tile_height (omega (arith, ints, good.tile_height.0))
+                      (omega (arith, ints, good.tile_height.1)),
                   (
                     fits_most f.first_zoom good.first_zoom zoom,
                     (
@@ -130,12 +140,14 @@ in_range f h =
 -- ---- which texts are of no good frame
 
 -- a text of no frame
-pub no_good_frame : (o : Option Frame) (text : List ℕ) → ((f : Frame) → IsInRange f → text ≢ frame_text f) → IfNone o ((f : Frame) → ¬ IsFrame text f)
+pub no_good_frame : (o : Option Frame) (text : List ℕ) → ((f : Frame) → IsInRange f → text ≢ frame_text f)
+    → IfNone o ((f : Frame) → ¬ IsFrame text f)
 no_good_frame None text h = λ f is. h f (in_range f is.good) is.written
 no_good_frame (Some g) text h = tt
 
 -- the text of a frame that breaks a rule
-pub other_frame : (g : Frame) (broken : FrameFault) (text : List ℕ) → IsInRange g → text ≡ frame_text g → frame_fault g ≡ Some broken → (f : Frame) → ¬ IsFrame text f
+pub other_frame : (g : Frame) (broken : FrameFault) (text : List ℕ) → IsInRange g → text ≡ frame_text g
+    → frame_fault g ≡ Some broken → (f : Frame) → ¬ IsFrame text f
 other_frame g broken text fits is bad f good =
     let same : f ≡ g = frame_once f g (in_range f good.good) fits (sym good.written ∙ is) in
     let none : frame_fault g ≡ None = subst (λ x. frame_fault x ≡ None) same good.good in

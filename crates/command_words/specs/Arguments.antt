@@ -24,7 +24,8 @@ pub record Asks (archive at frame : List ℕ) (uuid moment : List ℕ) (asked : 
 abbrev pub IsFirstUnread : List ℕ → List ℕ → List ℕ → What → Type 0
 IsFirstUnread archive at frame BadUuid = parsed_hyphenated archive ≡ None
 IsFirstUnread archive at frame BadMoment = IsSome (parsed_hyphenated archive) × (is_moment at ≡ false)
-IsFirstUnread archive at frame BadFrame = IsSome (parsed_hyphenated archive) × (is_moment at ≡ true) × ((asked : Frame) → ¬ IsFrame frame asked)
+IsFirstUnread archive at frame BadFrame = IsSome (parsed_hyphenated archive) × (is_moment at ≡ true)
+    × ((asked : Frame) → ¬ IsFrame frame asked)
 IsFirstUnread archive at frame BadNumber = ⊥
 IsFirstUnread archive at frame BadList = ⊥
 
@@ -44,7 +45,8 @@ IsCount text n = IsNumber 1 1000000 text n
 abbrev pub AsksDesk : List ℕ → List ℕ → ℕ → ℕ → Type 0
 AsksDesk port count place most = IsPort port place × IsCount count most
 
--- Of five texts, of a UUID, a moment, a frame, a port and a count, this is the first that is none. A port and a count that are none are told alike.
+-- Of five texts, of a UUID, a moment, a frame, a port and a count, this is the first that is none. A port and a count
+-- that are none are told alike.
 abbrev pub IsFirstUnserved : List ℕ → List ℕ → List ℕ → List ℕ → List ℕ → What → Type 0
 IsFirstUnserved archive at frame port count BadUuid = IsFirstUnread archive at frame BadUuid
 IsFirstUnserved archive at frame port count BadMoment = IsFirstUnread archive at frame BadMoment

@@ -1,7 +1,8 @@
 //! What the words of a command line ask for.
 ghost use Rattle.std.specs.Prelude.{◌≡◌, ℕ, IfSome, IfNone, IfOk, IfErr, MatchResult};
 ghost use Rattle.sheet_types.specs.declared.frame.Frame.{Frame};
-ghost use Rattle.command_words.specs.Arguments.{IsFrame, IsFirstUnread, Asks, IsPort, IsCount, AsksDesk, IsFirstUnserved};
+ghost use Rattle.command_words.specs.Arguments.{IsFrame, IsFirstUnread, Asks, IsPort, IsCount, AsksDesk};
+ghost use Rattle.command_words.specs.Arguments.{IsFirstUnserved};
 
 use crate::statuses::What;
 use matrix_rules::check::FrameRules;
@@ -40,7 +41,8 @@ pub struct Desk {
     pub count: u32,
 }
 
-/// The good frame of a text of eleven numbers in plain decimal with single commas between them, in the order of the fields of `Frame`.
+/// The good frame of a text of eleven numbers in plain decimal with single commas between them, in
+/// the order of the fields of `Frame`.
 pub fn read_frame(text: &str) -> Option<Frame>
     ensures some { IfSome result (λ frame. IsFrame text.now frame) }
     ensures none { IfNone result ((frame : Frame) → ¬ IsFrame text.now frame) }
@@ -54,7 +56,9 @@ pub fn read_frame(text: &str) -> Option<Frame>
 
 /// What the words ask for, or the first of them that cannot be read: the UUID, then the moment, then the frame.
 pub fn read_rehearsal<'t>(words: &Words<'t>) -> Result<Rehearsal<'t>, What>
-    ensures { MatchResult result (λ asked. Asks words.now.archive.now words.now.at.now words.now.frame.now asked.archive asked.at.now asked.frame) (λ what. IsFirstUnread words.now.archive.now words.now.at.now words.now.frame.now what) }
+    ensures { MatchResult result (λ asked. Asks words.now.archive.now words.now.at.now words.now.frame.now
+        asked.archive asked.at.now asked.frame) (λ what. IsFirstUnread words.now.archive.now words.now.at.now
+        words.now.frame.now what) }
 {
     let Some(archive) = reading::read_uuid(words.archive) else {
         return Err(What::BadUuid);
@@ -106,14 +110,17 @@ pub fn read_desk(words: &DeskWords<'_>) -> Option<Desk>
     Some(Desk { port, count })
 }
 
-/// What the words ask for, a rehearsal and then a desk, or the first of them that cannot be read: the UUID, the moment, the frame, then the numbers of the desk.
+/// What the words ask for, a rehearsal and then a desk, or the first of them that cannot be read:
+/// the UUID, the moment, the frame, then the numbers of the desk.
 pub fn read_serving<'t>(
     words: &Words<'t>,
     desk: &DeskWords<'_>,
 ) -> Result<(Rehearsal<'t>, Desk), What>
-    ensures ok { IfOk result (λ read. Asks words.now.archive.now words.now.at.now words.now.frame.now read.0.archive read.0.at.now read.0.frame) }
+    ensures ok { IfOk result (λ read. Asks words.now.archive.now words.now.at.now words.now.frame.now read.0.archive
+        read.0.at.now read.0.frame) }
     ensures desk { IfOk result (λ read. AsksDesk desk.now.port.now desk.now.count.now read.1.port read.1.count) }
-    ensures err { IfErr result (λ what. IsFirstUnserved words.now.archive.now words.now.at.now words.now.frame.now desk.now.port.now desk.now.count.now what) }
+    ensures err { IfErr result (λ what. IsFirstUnserved words.now.archive.now words.now.at.now words.now.frame.now
+        desk.now.port.now desk.now.count.now what) }
 {
     let rehearsal = match read_rehearsal(words) {
         Ok(rehearsal) => rehearsal,

@@ -26,7 +26,9 @@ fn shown(byte: u8) -> u8
     }
 }
 
-/// The line of one connection: the moment, the first line of its request, and the status of the response. A byte that could not be seen is shown as `?`, so that no request makes a line of its own.
+/// The line of one connection: the moment, the first line of its request, and the status of the
+/// response. A byte that could not be seen is shown as `?`, so that no request makes a line of its
+/// own.
 ///
 /// # Errors
 ///

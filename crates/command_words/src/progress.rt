@@ -1,4 +1,5 @@
-//! How far an import or an opening is, told on a writer: a line for each thousand requests, and one that counts packages.
+//! How far an import or an opening is, told on a writer: a line for each thousand requests, and one
+//! that counts packages.
 ghost use Rattle.std.specs.Prelude.{◌≡◌, ◌↔◌, None, OnOk, IsTrue};
 ghost use Rattle.std.specs.Io.KnownBytes.{Appends};
 ghost use Rattle.command_words.specs.Progress.{IsDue, are_read, counted_text, opening_text, progress_text};
@@ -24,7 +25,8 @@ fn write_counts<W: Write>(
     all: u64,
     what: &[u8],
 ) -> Result<(), WriteFault>
-    ensures ok { OnOk result (Appends (W.contents writer.old) (W.contents writer.new) (counted_text done all what.now)) }
+    ensures ok { OnOk result (Appends (W.contents writer.old) (W.contents writer.new)
+        (counted_text done all what.now)) }
 {
     let mut digits = Buffer::new();
     send(writer, digits.format(done).as_bytes())?;

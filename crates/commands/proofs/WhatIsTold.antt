@@ -25,24 +25,30 @@ long_map : {X Y : Type 0} (f : X → Y) (xs : List X) → length (map f xs) ≡ 
 long_map f [] = refl
 long_map f (x ∷ xs) = ap suc (long_map f xs)
 
-pub long_live : (w : World) (live : List (List ℕ)) → live ≡ map (λ p. p.uuid) w.packages → length live ≡ length w.packages
+pub long_live : (w : World) (live : List (List ℕ)) → live ≡ map (λ p. p.uuid) w.packages
+    → length live ≡ length w.packages
 long_live w live is = ap length is ∙ long_map (λ p. p.uuid) w.packages
 
 -- of two answers what they say together
-pub joined : {S L R M : Type 0} (g : Ghosts S) (P : World → L → Type 0) (Q : World → R → Type 0) (A : World → M → Type 0) (left : M → L) (right : M → R)
+pub joined : {S L R M : Type 0} (g : Ghosts S) (P : World → L → Type 0) (Q : World → R → Type 0)
+    (A : World → M → Type 0) (left : M → L) (right : M → R)
     (seen : Seen S) (stores : List (Held S)) (first : Result L Fault) (second : Result R Fault) (made : Result M Fault)
     → ((w : World) (m : M) → P w (left m) → Q w (right m) → A w m)
     → IfOk first (λ x. (w : World) → StandsFor g seen w → P w x) → LooksInto g {X = R} {E = Fault} Q seen stores second
-    → IfOk made (λ m. (first ≡ Ok (left m)) × (second ≡ Ok (right m))) → LooksInto g {X = M} {E = Fault} A seen stores made
+    → IfOk made (λ m. (first ≡ Ok (left m)) × (second ≡ Ok (right m)))
+    → LooksInto g {X = M} {E = Fault} A seen stores made
 joined g P Q A left right seen stores first second (Ok m) so known it is = record {
   read = it.read;
-  told = λ clean w stands. so w m (subst (λ r. IfOk r (λ x. (w : World) → StandsFor g seen w → P w x)) is.0 known w stands)
+  told = λ clean w stands. so w m (subst (λ r. IfOk r (λ x. (w : World) → StandsFor g seen w → P w x)) is.0 known w
+      stands)
       (subst (λ r. IfOk r (λ x. (w : World) → StandsFor g seen w → Q w x)) is.1 (it.told clean) w stands);
 }
-joined g P Q A left right seen stores first second (Err fault) so known it is = record { read = it.read; told = λ clean. tt }
+joined g P Q A left right seen stores first second (Err fault) so known it is =
+    record { read = it.read; told = λ clean. tt }
 
 -- the same of a world that stays
-pub tells_joined : {S L R M : Type 0} (g : Ghosts S) (P : World → L → Type 0) (Q : World → R → Type 0) (A : World → M → Type 0) (left : M → L) (right : M → R)
+pub tells_joined : {S L R M : Type 0} (g : Ghosts S) (P : World → L → Type 0) (Q : World → R → Type 0)
+    (A : World → M → Type 0) (left : M → L) (right : M → R)
     (old new : Seen S) (first : Result L Fault) (second : Result R Fault) (made : Result M Fault)
     → ((w : World) (m : M) → P w (left m) → Q w (right m) → A w m)
     → IfOk first (λ x. (w : World) → StandsFor g old w → P w x) → TellsOf g {X = R} {E = Fault} Q old new second

@@ -82,7 +82,8 @@ serve_ending (Err fault) = failed
 
 module _ {S : Type 0} (g : Ghosts S) where
   -- A request that was carried out, and its reply as a line.
-  pub record IsApplied (q : Request) (old new : Seen S) (before after : Option (List ℕ)) (ending : Ending) : Type 0 where
+  pub record IsApplied (q : Request) (old new : Seen S) (before after : Option (List ℕ)) (ending : Ending) :
+      Type 0 where
     pub reply : Result Receipt Refusal
     pub step : IsStep g q old reply new
     pub still : StandsStill g old reply new
@@ -90,27 +91,35 @@ module _ {S : Type 0} (g : Ghosts S) where
     pub printed : PrintsReply reply before after ending
 
   -- One request was read and carried out; or none was read, and nothing was done or written.
-  abbrev pub Applies : {W : Type 0} → Option (List ℕ) → Seen S → Seen S → W → W → Option (List ℕ) → Option (List ℕ) → Ending → Type 0
+  abbrev pub Applies : {W : Type 0} → Option (List ℕ) → Seen S → Seen S → W → W → Option (List ℕ) → Option (List ℕ)
+      → Ending → Type 0
   Applies text old new writer writer' before after ending =
       (IsUnread ending × (new ≡ old) × (writer' ≡ writer))
       ⊎ ((q : Request) × IfSome text (λ t. IsRequestText t q) × IsApplied q old new before after ending)
 
   -- what an import makes of a world and writes, and how the program ends then
-  abbrev pub EndsImport : {W : Type 0} → Option (List ℕ) → Seen S → Seen S → ℕ → ℕ → W → W → Option (List ℕ) → Option (List ℕ) → Ending → Type 0
+  abbrev pub EndsImport : {W : Type 0} → Option (List ℕ) → Seen S → Seen S → ℕ → ℕ → W → W → Option (List ℕ)
+      → Option (List ℕ) → Ending → Type 0
   EndsImport text old new faults more writer writer' before after ending =
-      (r : Result (Unit {0}) ImportFault) × (ending ≡ import_ending r) × Imports g text old new faults more writer writer' before after r
+      (r : Result (Unit {0}) ImportFault) × (ending ≡ import_ending r)
+      × Imports g text old new faults more writer writer' before after r
 
   -- the same of a list that is read twice, of some text at either reading
-  abbrev pub EndsTwice : {W : Type 0} → Option (List ℕ) → Option (List ℕ) → Seen S → Seen S → ℕ → ℕ → W → W → Option (List ℕ) → Option (List ℕ) → Ending → Type 0
+  abbrev pub EndsTwice : {W : Type 0} → Option (List ℕ) → Option (List ℕ) → Seen S → Seen S → ℕ → ℕ → W → W
+      → Option (List ℕ) → Option (List ℕ) → Ending → Type 0
   EndsTwice text again old new faults more writer writer' before after ending =
-      (r : Result (Unit {0}) TwiceFault) × (ending ≡ twice_ending r) × ImportsTwice g text again old new faults more writer writer' before after r
+      (r : Result (Unit {0}) TwiceFault) × (ending ≡ twice_ending r)
+      × ImportsTwice g text again old new faults more writer writer' before after r
 
-  -- The same of a file, of some text, or of two where it is read twice; or the file could not be opened, and nothing was done or written.
+  -- The same of a file, of some text, or of two where it is read twice; or the file could not be opened, and nothing
+  -- was done or written.
   abbrev pub ImportsFile : {W : Type 0} → Seen S → Seen S → W → W → Option (List ℕ) → Option (List ℕ) → Ending → Type 0
   ImportsFile old new writer writer' before after ending =
       (IsUnlisted ending × (new ≡ old) × (writer' ≡ writer))
-      ⊎ ((text : Option (List ℕ)) × (faults more : ℕ) × EndsImport text old new faults more writer writer' before after ending)
-      ⊎ ((text again : Option (List ℕ)) × (faults more : ℕ) × EndsTwice text again old new faults more writer writer' before after ending)
+      ⊎ ((text : Option (List ℕ)) × (faults more : ℕ) × EndsImport text old new faults more writer writer' before
+      after ending)
+      ⊎ ((text again : Option (List ℕ)) × (faults more : ℕ) × EndsTwice text again old new faults more writer writer'
+      before after ending)
 
   -- A desk over so many connections ended so; or the port could not be had, and nothing was done.
   abbrev pub ServesOn : ℕ → Seen S → Seen S → Ending → Type 0

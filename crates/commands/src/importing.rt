@@ -1,6 +1,7 @@
 //! A request list, carried out in a world.
 ghost use Rattle.std.specs.Prelude.{◌≡◌, Err, IfErr};
-ghost use Rattle.commands.specs.Subcommands.{EndsImport, EndsTwice, ImportsFile, IsUnlisted, import_ending, twice_ending};
+ghost use Rattle.commands.specs.Subcommands.{EndsImport, EndsTwice, ImportsFile, IsUnlisted, import_ending};
+ghost use Rattle.commands.specs.Subcommands.{twice_ending};
 
 use command_folder::endings::{DONE, Ending, FAILED, NO_MEMORY};
 use command_words::statuses::{Failure, Outcome};
@@ -153,7 +154,8 @@ pub(crate) fn import_file<S: Alter + Drop, H: Shelf<S>, W: Write, T: Teller>(
     writer: &mut W,
     teller: &mut T,
 ) -> Ending
-    ensures { ImportsFile S.Store world.old world.new writer.old writer.new (W.contents writer.old) (W.contents writer.new) result }
+    ensures { ImportsFile S.Store world.old world.new writer.old writer.new (W.contents writer.old)
+        (W.contents writer.new) result }
 {
     let reader = match open_list(rt, file) {
         Ok(reader) => reader,

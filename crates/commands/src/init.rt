@@ -36,7 +36,8 @@ fn new_world<S: Alter + Drop>(
     conn: Connection<S>,
 ) -> Result<World<S>, Failure>
     requires { HasCleanDisk (state S.Store conn) → IsBlank no_schema (state S.Store conn).now }
-    ensures { IfOk result (λ world. AllClean S.Store world.members → StandsFor S.Store world (new_world rehearsal.now.archive rehearsal.now.frame)) }
+    ensures { IfOk result (λ world. AllClean S.Store world.members
+        → StandsFor S.Store world (new_world rehearsal.now.archive rehearsal.now.frame)) }
 {
     let made = World::create(
         alloc,
@@ -145,12 +146,17 @@ fn made<W: Write>(
     }
 }
 
-/// Makes the archive that the words ask for, as `<uuid>.gpkg` in a folder that is there and holds no packages, and writes the line that names it.
+/// Makes the archive that the words ask for, as `<uuid>.gpkg` in a folder that is there and holds
+/// no packages, and writes the line that names it.
 /// The words are read first: where one of them cannot be, nothing is made and nothing is written.
 pub fn init<W: Write>(rt: &HostRuntime, words: &Words<'_>, folder: &str, writer: &mut W) -> Ending
-    ensures refused { (what : What) → IsFirstUnread words.now.archive.now words.now.at.now words.now.frame.now what → result ≡ Usual (Refused what) }
-    ensures unwritten { (what : What) → IsFirstUnread words.now.archive.now words.now.at.now words.now.frame.now what → writer.new ≡ writer.old }
-    ensures made { (uuid moment : List ℕ) (frame : Frame) → Asks words.now.archive.now words.now.at.now words.now.frame.now uuid moment frame → Inits uuid writer.old writer.new (W.contents writer.old) (W.contents writer.new) result }
+    ensures refused { (what : What) → IsFirstUnread words.now.archive.now words.now.at.now words.now.frame.now what
+        → result ≡ Usual (Refused what) }
+    ensures unwritten { (what : What) → IsFirstUnread words.now.archive.now words.now.at.now words.now.frame.now what
+        → writer.new ≡ writer.old }
+    ensures made { (uuid moment : List ℕ) (frame : Frame) → Asks words.now.archive.now words.now.at.now
+        words.now.frame.now uuid moment frame → Inits uuid writer.old writer.new (W.contents writer.old)
+        (W.contents writer.new) result }
 {
     match read_rehearsal(words) {
         Ok(rehearsal) => made(rt, &rehearsal, folder, writer),

@@ -1,6 +1,7 @@
 //! The words of a verb over a world: its request is made, and shown or carried out.
 ghost use Rattle.std.specs.Prelude.{◌≡◌};
-ghost use Rattle.commands.specs.Orders.{Answers, EndsOrder, IsCarriedOut, Orders, OrdersFor, OrdersOver, PrintsDeed, PrintsLine, TellsUnasked, TellsUnsaid};
+ghost use Rattle.commands.specs.Orders.{Answers, EndsOrder, IsCarriedOut, Orders, OrdersFor, OrdersOver, PrintsDeed};
+ghost use Rattle.commands.specs.Orders.{PrintsLine, TellsUnasked, TellsUnsaid};
 ghost use Rattle.commands.specs.Printing.{with_end};
 ghost use Rattle.command_folder.specs.Endings.{done};
 ghost use Rattle.command_folder.specs.declared.endings.Ending.TheVariants.{NoRequest};
@@ -98,7 +99,8 @@ fn carry_out<S: Alter + Drop, H: Shelf<S>, W: Write>(
     request: &Request,
     writer: &mut W,
 ) -> Ending
-    ensures { IsCarriedOut S.Store request.now world.old world.new (W.contents writer.old) (W.contents writer.new) result }
+    ensures { IsCarriedOut S.Store request.now world.old world.new (W.contents writer.old) (W.contents writer.new)
+        result }
 {
     match world.apply(alloc, request, shelf) {
         Ok(receipt) => tell_deed(alloc, &request.command, &receipt, writer),

@@ -27,7 +27,8 @@ fn uuids_of(alloc: Global, sights: &[PackageSight]) -> Result<Vec<Uuid>, AllocEr
 
 /// The live packages of a world that has not failed.
 fn live_of<S: Alter + Drop>(alloc: Global, world: &World<S>) -> Result<Vec<Uuid>, Fault>
-    ensures { IfOk result (λ live. (w : ModelWorld) → StandsFor S.Store world.now w → live.items ≡ map (λ p. p.uuid) w.packages) }
+    ensures { IfOk result (λ live. (w : ModelWorld) → StandsFor S.Store world.now w
+        → live.items ≡ map (λ p. p.uuid) w.packages) }
 {
     usable(world)?;
     let sights = world.packages(alloc)?;
@@ -41,8 +42,10 @@ fn receipts_of<S: Alter + Drop>(
     stores: &mut Vec<Connection<S>>,
     alloc: Global,
 ) -> Result<Vec<Receipt>, Fault>
-    ensures counted { OnOk result (MatchResult live.now (λ all. length all.items ≡ length stores.old.items) (λ fault. ⊥)) }
-    ensures asked { Asks S.Store (λ packages receipts. receipts.items ≡ ledger_of packages) stores.old.items stores.new.items result }
+    ensures counted { OnOk result (MatchResult live.now (λ all. length all.items ≡ length stores.old.items)
+        (λ fault. ⊥)) }
+    ensures asked { Asks S.Store (λ packages receipts. receipts.items ≡ ledger_of packages) stores.old.items
+        stores.new.items result }
 {
     let count = match live {
         Ok(all) => all.len(),
@@ -67,7 +70,8 @@ fn joined(
     Ok(Register { live, receipts })
 }
 
-/// What a world tells of itself. It ends with it, and its stores are handed on, only read. All receipts are in memory at once, as they are while
+/// What a world tells of itself. It ends with it, and its stores are handed on, only read. All
+/// receipts are in memory at once, as they are while
 /// a world is opened.
 ///
 /// # Errors

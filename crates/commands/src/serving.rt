@@ -22,7 +22,9 @@ fn serve_ending(ended: Result<(), DeskFault>) -> Ending
     }
 }
 
-/// Serves so many connections of a port over a world, one after the other, until the world or the listener fails. Where the port cannot be had, nothing is served. The teller is told of the port once it is taken, and of each connection. The clerk carries out the commands of command lines.
+/// Serves so many connections of a port over a world, one after the other, until the world or the
+/// listener fails. Where the port cannot be had, nothing is served. The teller is told of the port
+/// once it is taken, and of each connection. The clerk carries out the commands of command lines.
 pub(crate) fn serve_world<S: Alter + Drop, H: Shelf<S>, T: DeskTeller, K: Clerk>(
     rt: &HostRuntime,
     world: &mut World<S>,

@@ -29,11 +29,14 @@ BringsHome source old new =
 
 -- What the receipt of a number moved in another database comes to this one.
 abbrev pub BringsThings : ℤ → Database → Database → Database → Type 0
-BringsThings seq source old new = (f : Frame) (from : Package) → Reads f from source → (r : Receipt) → Contains from.receipts r → pos r.seq ≡ seq → EachChained Enters (moved_rows r) old new
+BringsThings seq source old new = (f : Frame) (from : Package) → Reads f from source → (r : Receipt)
+    → Contains from.receipts r → pos r.seq ≡ seq → EachChained Enters (moved_rows r) old new
 
 -- The receipt of a row of another database comes to this one.
 abbrev pub BringsReceipt : ReceiptRow → Database → Database → Database → Type 0
-BringsReceipt row source old new = (f : Frame) (from : Package) → Reads f from source → (r : Receipt) → Contains from.receipts r → receipt_row r ≡ row → Grows (λ p. has receipt_key (receipt_key r) p.receipts ≡ false) (with_receipt r) old new
+BringsReceipt row source old new = (f : Frame) (from : Package) → Reads f from source → (r : Receipt)
+    → Contains from.receipts r → receipt_row r ≡ row → Grows (λ p. has receipt_key (receipt_key r) p.receipts ≡ false)
+    (with_receipt r) old new
 
 -- the change, where the disk that was read gave back what was written
 abbrev pub FromClean : State → (Database → Database → Type 0) → Database → Database → Type 0

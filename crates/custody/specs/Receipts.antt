@@ -18,7 +18,8 @@ pub record IsNewReceipt (r : Receipt) (p : Package) : Type 0 where
 
 -- a receipt that the package keeps for a request, or none
 abbrev pub IsKept : Package → List ℕ → Option Receipt → Type 0
-IsKept p id found = MatchOption found (has (λ r. r.request) id p.receipts ≡ false) (λ r. Contains p.receipts r × (r.request ≡ id))
+IsKept p id found = MatchOption found (has (λ r. r.request) id p.receipts ≡ false)
+    (λ r. Contains p.receipts r × (r.request ≡ id))
 
 -- a receipt of the package names the identity as that of an item
 abbrev pub is_named : Package → List ℕ → Bool

@@ -37,7 +37,8 @@ fn put_thing<S: Alter>(tx: &mut Transaction<'_, S>, row: MovedRow) -> Result<(),
 /// Enters the row of a receipt as it stands.
 fn put_row<S: Alter>(tx: &mut Transaction<'_, S>, row: ReceiptRow) -> Result<(), Fault>
     ensures same_reference { tx.new.conn.ghost_name ≡ tx.old.conn.ghost_name }
-    ensures steps { Steps (λ _. OnTables (Adds receipts row)) (state S.Store tx.old.conn.now) (state S.Store tx.new.conn.now) result }
+    ensures steps { Steps (λ _. OnTables (Adds receipts row)) (state S.Store tx.old.conn.now)
+        (state S.Store tx.new.conn.now) result }
 {
     insert_receipt(
         tx,
@@ -64,7 +65,9 @@ fn bring_things<S: Alter>(
     requires { Rests (state S.Store source.old) }
     ensures same_reference { tx.new.conn.ghost_name ≡ tx.old.conn.ghost_name }
     ensures source { Stays (state S.Store source.old) (state S.Store source.new) }
-    ensures steps { Steps (λ _. FromClean (state S.Store source.new) (BringsThings seq (state S.Store source.old).now)) (state S.Store tx.old.conn.now) (state S.Store tx.new.conn.now) result }
+    ensures steps { Steps (λ _. FromClean (state S.Store source.new)
+        (BringsThings seq (state S.Store source.old).now)) (state S.Store tx.old.conn.now)
+        (state S.Store tx.new.conn.now) result }
 {
     for position in 0..u64::MAX {
         let at = stored(position)?;
@@ -85,14 +88,17 @@ fn bring_receipt<S: Alter>(
     requires { Rests (state S.Store source.old) }
     ensures same_reference { tx.new.conn.ghost_name ≡ tx.old.conn.ghost_name }
     ensures source { Stays (state S.Store source.old) (state S.Store source.new) }
-    ensures steps { Steps (λ _. FromClean (state S.Store source.new) (BringsReceipt row (state S.Store source.old).now)) (state S.Store tx.old.conn.now) (state S.Store tx.new.conn.now) result }
+    ensures steps { Steps (λ _. FromClean (state S.Store source.new)
+        (BringsReceipt row (state S.Store source.old).now)) (state S.Store tx.old.conn.now)
+        (state S.Store tx.new.conn.now) result }
 {
     let seq = row.seq;
     put_row(tx, row)?;
     bring_things(source, tx, seq)
 }
 
-/// Enters all receipts of the source, as they stand and with all that they moved, into a package that has no receipt of these numbers. The source is only read.
+/// Enters all receipts of the source, as they stand and with all that they moved, into a package
+/// that has no receipt of these numbers. The source is only read.
 ///
 /// # Errors
 ///
@@ -105,7 +111,8 @@ pub fn bring_home<S: Alter>(
     ensures same_reference { tx.new.conn.ghost_name ≡ tx.old.conn.ghost_name }
     ensures source { Stays (state S.Store source.old) (state S.Store source.new) }
     ensures opens { HasCleanDisk (state S.Store source.new) → OnOk result (IsTrue (state S.Store source.new).is_open) }
-    ensures steps { Steps (λ _. FromClean (state S.Store source.new) (BringsHome (state S.Store source.old).now)) (state S.Store tx.old.conn.now) (state S.Store tx.new.conn.now) result }
+    ensures steps { Steps (λ _. FromClean (state S.Store source.new) (BringsHome (state S.Store source.old).now))
+        (state S.Store tx.old.conn.now) (state S.Store tx.new.conn.now) result }
 {
     let mut last = -1;
     for _ in 0..u64::MAX {

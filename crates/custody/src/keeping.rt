@@ -56,7 +56,8 @@ fn bytes_fit<const N: usize>(bytes: &[u8; N])
 fn end_of(text: &str) -> Result<Option<Uuid>, Fault>
     ensures text { IfOk result (λ end. text.now ≡ optional_uuid_text end) }
     ensures fit { IfOk result (λ end. is_fit_end end ≡ true) }
-    ensures none { IfErr result (λ _. (end : Option (List ℕ)) → is_fit_end end ≡ true → text.now ≢ optional_uuid_text end) }
+    ensures none { IfErr result (λ _. (end : Option (List ℕ)) → is_fit_end end ≡ true
+        → text.now ≢ optional_uuid_text end) }
 {
     match read_stored_optional(text) {
         Some(None) => Ok(None),
@@ -72,7 +73,8 @@ fn end_of(text: &str) -> Result<Option<Uuid>, Fault>
 fn digest_of(text: &str) -> Result<Option<[u8; 32]>, Fault>
     ensures text { IfOk result (λ digest. text.now ≡ option_map_or encode_lower digest []) }
     ensures fit { IfOk result (λ digest. option_map_or (is_bytes 32) digest true ≡ true) }
-    ensures none { IfErr result (λ _. (digest : Option (List ℕ)) → option_map_or (is_bytes 32) digest true ≡ true → text.now ≢ option_map_or encode_lower digest []) }
+    ensures none { IfErr result (λ _. (digest : Option (List ℕ)) → option_map_or (is_bytes 32) digest true ≡ true
+        → text.now ≢ option_map_or encode_lower digest []) }
 {
     if text.is_empty() {
         return Ok(None);
@@ -96,7 +98,8 @@ fn thing_at(
     requires other { (row.now.other ≡ optional_uuid_text other) × (is_fit_end other ≡ true) }
     ensures row { IfOk result (λ thing. row.now ≡ row_at seq position thing) }
     ensures fit { IfOk result (λ thing. is_fit_moved thing ≡ true) }
-    ensures none { IfErr result (λ _. (thing : Moved) → is_fit_moved thing ≡ true → row.now ≢ row_at seq position thing) }
+    ensures none { IfErr result (λ _. (thing : Moved) → is_fit_moved thing ≡ true
+        → row.now ≢ row_at seq position thing) }
 {
     let place = counted(row.position)?;
     if row.seq != seq || place != position as u64 {
@@ -133,7 +136,8 @@ fn things_of(alloc: Global, seq: i64, rows: &[MovedRow]) -> Result<MovedList, Fa
 /// What the receipt of a number moved.
 fn items_of<S: Alter>(conn: &mut Connection<S>, alloc: Global, seq: i64) -> Result<MovedList, Fault>
     requires { Rests (state S.Store conn.old) }
-    ensures looked { LooksUp (λ t things. AreThose (λ x. int_eq x.seq seq) t.moved (rows_at seq things)) (state S.Store conn.old) (state S.Store conn.new) result }
+    ensures looked { LooksUp (λ t things. AreThose (λ x. int_eq x.seq seq) t.moved (rows_at seq things))
+        (state S.Store conn.old) (state S.Store conn.new) result }
     ensures fit { IfOk result (λ things. AllByRecursion (λ m. is_fit_moved m ≡ true) things) }
 {
     let rows = moved_of(conn, alloc, seq)?;
@@ -151,7 +155,8 @@ struct Named {
 }
 
 /// What a row names.
-// What is read of a row stands in values that need no drop, so that the row and its things are alive at two exits alone.
+// What is read of a row stands in values that need no drop, so that the row and its things are
+// alive at two exits alone.
 fn named_by(row: &ReceiptRow) -> Result<Named, Fault>
     ensures seq { IfOk result (λ named. row.now.seq ≡ pos named.seq) }
     ensures request { IfOk result (λ named. row.now.request ≡ uuid_text named.request) }
@@ -226,7 +231,8 @@ fn receipt_of(row: ReceiptRow, items: MovedList) -> Result<Receipt, Fault>
 /// The row of the receipt of a request.
 fn row_of<S: Alter>(conn: &mut Connection<S>, request: Uuid) -> Result<Option<ReceiptRow>, Fault>
     requires { Rests (state S.Store conn.old) }
-    ensures looked { LooksUp (λ t. IsOneOf (λ x. bytes_eq x.request (uuid_text request)) t.receipts) (state S.Store conn.old) (state S.Store conn.new) result }
+    ensures looked { LooksUp (λ t. IsOneOf (λ x. bytes_eq x.request (uuid_text request)) t.receipts)
+        (state S.Store conn.old) (state S.Store conn.new) result }
     ensures fit { IsUuid request }
 {
     let mut buffer = Uuid::encode_buffer();

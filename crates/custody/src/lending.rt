@@ -31,7 +31,9 @@ fn next_to<S: Alter>(
     last: i64,
 ) -> Result<Option<ReceiptRow>, Fault>
     requires { Rests (state S.Store conn.old) }
-    ensures looked { LooksUp (λ t. IsLeast (λ x. x.seq) (filter (λ x. bytes_eq x.target (uuid_text target) && is_gt (int_cmp x.seq last)) t.receipts)) (state S.Store conn.old) (state S.Store conn.new) result }
+    ensures looked { LooksUp (λ t. IsLeast (λ x. x.seq) (filter
+        (λ x. bytes_eq x.target (uuid_text target) && is_gt (int_cmp x.seq last)) t.receipts))
+        (state S.Store conn.old) (state S.Store conn.new) result }
     ensures back { uuid_in (uuid_text target) ≡ target }
 {
     let mut buffer = Uuid::encode_buffer();
@@ -46,7 +48,8 @@ fn next_to<S: Alter>(
 /// Want of memory, or a store that failed. The store is as it was.
 pub fn was_lent<S: Alter>(conn: &mut Connection<S>, id: Uuid) -> Result<bool, Fault>
     requires { Rests (state S.Store conn.old) }
-    ensures { Looks (Sees (λ f p found. found ≡ was_lent p id)) (state S.Store conn.old) (state S.Store conn.new) result }
+    ensures { Looks (Sees (λ f p found. found ≡ was_lent p id)) (state S.Store conn.old) (state S.Store conn.new)
+        result }
 {
     let mut last = -1;
     for _ in 0..u64::MAX {

@@ -64,7 +64,8 @@ fn enter_moved<S: Alter>(
     moved: Moved,
 ) -> Result<(), Fault>
     ensures same_reference { tx.new.conn.ghost_name ≡ tx.old.conn.ghost_name }
-    ensures steps { Steps (λ _. Enters (moved_row seq position moved)) (state S.Store tx.old.conn.now) (state S.Store tx.new.conn.now) result }
+    ensures steps { Steps (λ _. Enters (moved_row seq position moved)) (state S.Store tx.old.conn.now)
+        (state S.Store tx.new.conn.now) result }
 {
     let seq = stored(seq)?;
     let position = stored(position)?;
@@ -86,7 +87,8 @@ fn enter_things<S: Alter>(
     things: &[Moved],
 ) -> Result<(), Fault>
     ensures same_reference { tx.new.conn.ghost_name ≡ tx.old.conn.ghost_name }
-    ensures steps { Steps (λ _. EachChained Enters (rows_from seq 0 things.now)) (state S.Store tx.old.conn.now) (state S.Store tx.new.conn.now) result }
+    ensures steps { Steps (λ _. EachChained Enters (rows_from seq 0 things.now)) (state S.Store tx.old.conn.now)
+        (state S.Store tx.new.conn.now) result }
 {
     for position in 0..things.len() {
         enter_moved(tx, seq, position as u64, things[position])?;
@@ -97,7 +99,8 @@ fn enter_things<S: Alter>(
 /// Enters the row of a receipt, without the things that it moved.
 fn enter_row<S: Alter>(tx: &mut Transaction<'_, S>, receipt: &Receipt) -> Result<(), Fault>
     ensures same_reference { tx.new.conn.ghost_name ≡ tx.old.conn.ghost_name }
-    ensures steps { Steps (λ _. OnTables (Adds receipts (receipt_row receipt.now))) (state S.Store tx.old.conn.now) (state S.Store tx.new.conn.now) result }
+    ensures steps { Steps (λ _. OnTables (Adds receipts (receipt_row receipt.now))) (state S.Store tx.old.conn.now)
+        (state S.Store tx.new.conn.now) result }
 {
     let seq = stored(receipt.seq)?;
     let tiles = stored(receipt.tiles)?;
@@ -125,10 +128,12 @@ fn enter_row<S: Alter>(tx: &mut Transaction<'_, S>, receipt: &Receipt) -> Result
 ///
 /// # Errors
 ///
-/// Want of memory, a store that failed, or a number of 2^63 or more, which a column of integers cannot have. Nothing is committed; the transaction has to be dropped.
+/// Want of memory, a store that failed, or a number of 2^63 or more, which a column of integers
+/// cannot have. Nothing is committed; the transaction has to be dropped.
 pub fn enter<S: Alter>(tx: &mut Transaction<'_, S>, receipt: &Receipt) -> Result<(), Fault>
     ensures same_reference { tx.new.conn.ghost_name ≡ tx.old.conn.ghost_name }
-    ensures steps { Steps (λ _. Becomes (IsNewReceipt receipt.now) (with_receipt receipt.now)) (state S.Store tx.old.conn.now) (state S.Store tx.new.conn.now) result }
+    ensures steps { Steps (λ _. Becomes (IsNewReceipt receipt.now) (with_receipt receipt.now))
+        (state S.Store tx.old.conn.now) (state S.Store tx.new.conn.now) result }
 {
     enter_row(tx, receipt)?;
     enter_things(tx, receipt.seq, receipt.items.as_slice())
@@ -137,7 +142,8 @@ pub fn enter<S: Alter>(tx: &mut Transaction<'_, S>, receipt: &Receipt) -> Result
 /// Whether the row of a thing has this identity and the kind of this number.
 fn is_moved_as<S: Alter>(conn: &mut Connection<S>, identity: Uuid, kind: i64) -> Result<bool, Fault>
     requires { Rests (state S.Store conn.old) }
-    ensures looked { LooksUp (λ t found. found ≡ list_any (is_of identity kind) t.moved) (state S.Store conn.old) (state S.Store conn.new) result }
+    ensures looked { LooksUp (λ t found. found ≡ list_any (is_of identity kind) t.moved) (state S.Store conn.old)
+        (state S.Store conn.new) result }
     ensures back { uuid_in (uuid_text identity) ≡ identity }
 {
     let mut buffer = Uuid::encode_buffer();
@@ -156,7 +162,8 @@ fn any_of_three(a: bool, b: bool, c: bool) -> bool
 /// Whether a receipt of the package names this identity as that of an item.
 pub fn names<S: Alter>(conn: &mut Connection<S>, identity: Uuid) -> Result<bool, Fault>
     requires { Rests (state S.Store conn.old) }
-    ensures { Looks (Sees (λ f p found. found ≡ is_named p identity)) (state S.Store conn.old) (state S.Store conn.new) result }
+    ensures { Looks (Sees (λ f p found. found ≡ is_named p identity)) (state S.Store conn.old)
+        (state S.Store conn.new) result }
 {
     let tile = is_moved_as(conn, identity, TILE)?;
     let medium = is_moved_as(conn, identity, MEDIUM)?;

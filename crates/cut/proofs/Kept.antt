@@ -12,7 +12,8 @@ use Rattle.sheet_types.proofs.Every.{All-weaker}
 use Rattle.cut.specs.Laws.{KeptIsInOrder}
 use Rattle.cut.specs.Taken.{HasPlace}
 
-place : (w : World) (uuid identity : List ℕ) (x : Content) → bad_place w (Add uuid identity x) ≡ false → HasPlace w.frame x
+place : (w : World) (uuid identity : List ℕ) (x : Content) → bad_place w (Add uuid identity x) ≡ false
+    → HasPlace w.frame x
 place w uuid identity (Tile zoom column row bytes) h = not_false (has_place w.frame zoom column row) h
 place w uuid identity (Media content_type bytes) h = tt
 place w uuid identity (Row x y code label) h = tt
@@ -22,6 +23,7 @@ kept_in_order w p kept = record {
   items = kept.items;
   links = kept.links;
   identities = kept.identities;
-  places = All-weaker (IsFit w p) (λ i. HasPlace w.frame i.content) (λ i fit. place w p.uuid i.identity i.content fit.2) p.items kept.fit;
+  places = All-weaker (IsFit w p) (λ i. HasPlace w.frame i.content)
+      (λ i fit. place w p.uuid i.identity i.content fit.2) p.items kept.fit;
   ends = kept.ends;
 }

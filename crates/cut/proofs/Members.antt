@@ -17,15 +17,21 @@ use Rattle.cut.specs.Gathering.{IsGroup, Enters}
 use Rattle.cut.specs.declared.group.Group.{Group}
 
 -- a search by the order
-pub contains_among : (id : List ℕ) (ks : List (List ℕ)) → list_any (λ k. is_eq (slice_cmp nat_cmp id k)) ks ≡ is_among ks id
+pub contains_among : (id : List ℕ) (ks : List (List ℕ)) → list_any (λ k. is_eq (slice_cmp nat_cmp id k)) ks
+    ≡ is_among ks id
 contains_among id [] = refl
-contains_among id (k ∷ ks) = ap (λ b. b || list_any (λ x. is_eq (slice_cmp nat_cmp id x)) ks) (is_eq-slice_cmp id k ∙ bytes_eq_swap id k) ∙ ap (λ b. bytes_eq k id || b) (contains_among id ks)
+contains_among id (k ∷ ks) = ap (λ b. b || list_any (λ x. is_eq (slice_cmp nat_cmp id x)) ks)
+    (is_eq-slice_cmp id k ∙ bytes_eq_swap id k) ∙ ap (λ b. bytes_eq k id || b) (contains_among id ks)
 
 -- the order of the tree is that of the identities
 pub sorted_arranged : (ks : List (List ℕ)) → IsStrictlySortedBy (slice_cmp nat_cmp) ks → IsArranged (λ id. id) ks
 unfolding IsStrictlySortedBy
 sorted_arranged [] h = tt
-sorted_arranged (k ∷ ks) h = (All-weaker (λ y. slice_cmp nat_cmp k y ≡ Less) (λ y. is_before k y ≡ true) (λ y e. ap is_lt e) ks h.0, sorted_arranged ks h.1)
+sorted_arranged (k ∷ ks) h = (
+  All-weaker (λ y. slice_cmp nat_cmp k y ≡ Less) (λ y. is_before k y ≡ true)
+      (λ y e. ap is_lt e) ks h.0,
+  sorted_arranged ks h.1,
+)
 
 -- one more is among them
 pub among-append : (xs ys : List (List ℕ)) (id : List ℕ) → is_among (xs ++ ys) id ≡ (is_among xs id || is_among ys id)
@@ -43,7 +49,8 @@ cond_or false b = refl
 
 -- one more came in, in both
 pub enters_one : (id : List ℕ) (old new : Group) → IsGroup old → new.order.items ≡ old.order.items ++ id ∷ []
-    → ((q : List ℕ) → list_any (λ k. is_eq (slice_cmp nat_cmp q k)) new.known.keys ≡ cond (is_eq (slice_cmp nat_cmp id q)) true (list_any (λ k. is_eq (slice_cmp nat_cmp q k)) old.known.keys))
+    → ((q : List ℕ) → list_any (λ k. is_eq (slice_cmp nat_cmp q k)) new.known.keys
+    ≡ cond (is_eq (slice_cmp nat_cmp id q)) true (list_any (λ k. is_eq (slice_cmp nat_cmp q k)) old.known.keys))
     → Enters (id ∷ []) old new
 enters_one id old new same is updates = record {
   same = λ q. sym (contains_among q new.known.keys) ∙ updates q ∙ cond_or (is_eq (slice_cmp nat_cmp id q)) _
@@ -64,13 +71,16 @@ absorbs false true h = h refl
 absorbs false false h = refl
 
 -- one that was there changes nothing
-pub enters_none : (id : List ℕ) (old new : Group) → IsGroup old → new.order.items ≡ old.order.items → new.known.keys ≡ old.known.keys → list_any (λ k. is_eq (slice_cmp nat_cmp id k)) old.known.keys ≡ true → Enters (id ∷ []) old new
+pub enters_none : (id : List ℕ) (old new : Group) → IsGroup old → new.order.items ≡ old.order.items
+    → new.known.keys ≡ old.known.keys → list_any (λ k. is_eq (slice_cmp nat_cmp id k)) old.known.keys ≡ true
+    → Enters (id ∷ []) old new
 enters_none id old new same is keys there = record {
   same = λ q. ap (λ l. is_among l q) keys ∙ same q ∙ ap (λ l. is_among l q) (sym is);
   more = [];
   behind = is ∙ sym (append-nil old.order.items);
   members = λ q. ap (λ l. is_among l q) is ∙ absorbs (is_among old.order.items q) (is_among (id ∷ []) q) (λ h.
-      ap (is_among old.order.items) (sym ((bytes_eq-Decides id q).0 (sym (or-false (bytes_eq id q)) ∙ h))) ∙ sym (same id) ∙ sym (contains_among id old.known.keys) ∙ there);
+      ap (is_among old.order.items) (sym ((bytes_eq-Decides id q).0 (sym (or-false (bytes_eq id q)) ∙ h)))
+      ∙ sym (same id) ∙ sym (contains_among id old.known.keys) ∙ there);
 }
 
 or_assoc : (a b c : Bool) → ((a || b) || c) ≡ (a || (b || c))
@@ -83,9 +93,17 @@ enters_then xs ys a b c first second = record {
   same = second.same;
   more = first.more ++ second.more;
   behind = second.behind ∙ ap (λ l. l ++ second.more) first.behind ∙ append_assoc a.order.items first.more second.more;
-  members = λ q. second.members q ∙ ap (λ v. v || is_among ys q) (first.members q) ∙ or_assoc (is_among a.order.items q) (is_among xs q) (is_among ys q) ∙ ap (λ v. is_among a.order.items q || v) (sym (among-append xs ys q));
+  members = λ q. second.members q ∙ ap (λ v. v || is_among ys q) (first.members q)
+      ∙ or_assoc (is_among a.order.items q) (is_among xs q) (is_among ys q)
+      ∙ ap (λ v. is_among a.order.items q || v) (sym (among-append xs ys q));
 }
 
 -- none
 pub enters_nobody : (a : Group) → IsGroup a → Enters [] a a
-enters_nobody a same = record { same = same; more = []; behind = sym (append-nil a.order.items); members = λ q. sym (or-false (is_among a.order.items q)) }
+enters_nobody a same = record {
+  same = same;
+  more = [];
+  behind = sym (append-nil a.order.items);
+  members =
+      λ q. sym (or-false (is_among a.order.items q));
+}

@@ -1,5 +1,6 @@
 -- What is gathered on the way to a selection: the words of the private calls.
-use Rattle.std.specs.Prelude.{◌≡◌, ℕ, ℤ, int_lt, Bool, true, false, ◌&&◌, ◌||◌, if◌then◌else◌, List, [], ◌∷◌, ◌++◌, map, filter, flat_map, Option, None, Some}
+use Rattle.std.specs.Prelude.{◌≡◌, ℕ, ℤ, int_lt, Bool, true, false, ◌&&◌, ◌||◌, if◌then◌else◌, List, [], ◌∷◌, ◌++◌}
+use Rattle.std.specs.Prelude.{map, filter, flat_map, Option, None, Some}
 use Rattle.std.specs.List.{list_any, AllByRecursion}
 use Rattle.std.specs.Option.{option_to_list}
 use Rattle.std.specs.Ordering.{int_eq}
@@ -77,7 +78,8 @@ media_at set links = map (λ l. l.other) (filter (λ l. leads_to_media l && set 
 
 -- the one end of a link that is in the set, where the other isn't
 abbrev pub torn_end : (List ℕ → Bool) → Relation → Option (List ℕ)
-torn_end set l = if set l.base then (if set l.other then None else Some l.base) else (if set l.other then Some l.other else None)
+torn_end set l = if set l.base then (if set l.other then None else Some l.base) else
+    (if set l.other then Some l.other else None)
 
 abbrev pub torn_ends : (List ℕ → Bool) → List Relation → List (List ℕ)
 torn_ends set links = flat_map (λ l. option_to_list (torn_end set l)) links

@@ -39,7 +39,8 @@ torn f p Follow r = None
 
 -- why nothing can be taken, if so
 abbrev pub refused : Frame → Package → Mode → Rect → Option Refusal
-refused f p mode r = first_row ((nat_le (length (start f r p)) 0, NothingToLend) ∷ carrying CutLink (torn f p mode r) ∷ [])
+refused f p mode r = first_row ((nat_le (length (start f r p)) 0, NothingToLend) ∷ carrying CutLink (torn f p mode r)
+    ∷ [])
 
 -- a cut as it is selected: its identities in their order, and its links
 pub record Selects (c : Cut) (s : Selection) : Type 0 where

@@ -37,7 +37,8 @@ fn links_of_each<R: Reach>(
     alloc: Global,
 ) -> Result<Vec<Relation>, Fault>
     requires { R.can_ask reach.old }
-    ensures { Asks R.can_ask R.stays R.shows (λ p found. found.items ≡ flat_map (links_of p) ids.now) reach.old reach.new result }
+    ensures { Asks R.can_ask R.stays R.shows (λ p found. found.items ≡ flat_map (links_of p) ids.now) reach.old
+        reach.new result }
 {
     let mut links = Vec::new(alloc);
     for id in ids {
@@ -89,7 +90,8 @@ pub(crate) fn strict<R: Reach>(
 ) -> Result<Gathered, Fault>
     requires { R.can_ask reach.old }
     ensures group { IfOk result (λ g. IsGroup g.items) }
-    ensures asks { Asks R.can_ask R.stays R.shows (λ p g. Gathers p (strict_set p start.now) g) reach.old reach.new result }
+    ensures asks { Asks R.can_ask R.stays R.shows (λ p g. Gathers p (strict_set p start.now) g) reach.old reach.new
+        result }
 {
     let mut items = Group::new(alloc);
     items.enter_all(start)?;
@@ -110,7 +112,8 @@ pub(crate) fn follow<R: Reach>(
 ) -> Result<Gathered, Fault>
     requires { R.can_ask reach.old }
     ensures group { IfOk result (λ g. IsGroup g.items) }
-    ensures asks { Asks R.can_ask R.stays R.shows (λ p g. HasStart p start.now → Gathers p (in_each p start.now) g) reach.old reach.new result }
+    ensures asks { Asks R.can_ask R.stays R.shows (λ p g. HasStart p start.now → Gathers p (in_each p start.now) g)
+        reach.old reach.new result }
 {
     let mut items = Group::new(alloc);
     items.enter_all(start)?;

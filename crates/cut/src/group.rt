@@ -8,7 +8,8 @@ use std::alloc::Global;
 use std::collections::BTreeSet;
 use uuid::Uuid;
 
-/// Identities in the order in which they came, each once. To see whether one is there costs about as much as the logarithm of their number.
+/// Identities in the order in which they came, each once. To see whether one is there costs about
+/// as much as the logarithm of their number.
 #[derive(Drop)]
 pub(crate) struct Group {
     pub(crate) order: Vec<Uuid>,

@@ -8,7 +8,8 @@ ghost use Rattle.sheet_types.specs.Ordered.{IsArranged};
 ghost use Rattle.sheet_types.specs.World.{link_key};
 ghost use Rattle.identity_register.specs.Calls.{Sees};
 ghost use Rattle.identity_register.specs.Reach.{Asks};
-ghost use Rattle.cut.specs.Gathering.{AreSameLinks, IsGroup, IsLeast, IsTorn, has_member, lesser, torn_end, torn_ends, brought_along, Gathers, HasStart, Sorts};
+ghost use Rattle.cut.specs.Gathering.{AreSameLinks, IsGroup, IsLeast, IsTorn, has_member, lesser, torn_end, torn_ends};
+ghost use Rattle.cut.specs.Gathering.{brought_along, Gathers, HasStart, Sorts};
 ghost use Rattle.cut.specs.Taken.{IsCutOf};
 
 use crate::gathering::{Gathered, follow, strict};
@@ -118,7 +119,8 @@ fn gathered<R: Reach>(
 ) -> Result<Gathered, Fault>
     requires { R.can_ask reach.old }
     ensures group { IfOk result (λ g. IsGroup g.items) }
-    ensures asks { Asks R.can_ask R.stays R.shows (λ p g. HasStart p start.now → Gathers p (brought_along p mode start.now) g) reach.old reach.new result }
+    ensures asks { Asks R.can_ask R.stays R.shows (λ p g. HasStart p start.now
+        → Gathers p (brought_along p mode start.now) g) reach.old reach.new result }
 {
     match mode {
         Mode::Strict => strict(reach, start, alloc),
@@ -126,7 +128,8 @@ fn gathered<R: Reach>(
     }
 }
 
-/// The cut of a good rectangle of a good frame, by the questions of a reach; or the refusal that says why there is none.
+/// The cut of a good rectangle of a good frame, by the questions of a reach; or the refusal that
+/// says why there is none.
 ///
 /// # Errors
 /// `Fault` is want of memory, or a package that could not be read.
@@ -154,7 +157,8 @@ pub fn select_over<R: Reach>(
     Ok(Ok(selection))
 }
 
-/// The cut of a good rectangle of a good frame out of a package of that frame; or the refusal that says why there is none.
+/// The cut of a good rectangle of a good frame out of a package of that frame; or the refusal that
+/// says why there is none.
 ///
 /// # Errors
 /// `Fault` is want of memory, or a store that failed; the store is only read, whatever comes.
@@ -169,7 +173,8 @@ pub fn select<S: Alter>(
     requires frame { IsTrue (is_good_frame frame.now) }
     requires rect { IsTrue (is_good_rect frame.now rect.now) }
     ensures stays { Stays (state S.Store conn.old) (state S.Store conn.new) }
-    ensures selected { Looks (Sees (λ f. IsCutOf frame.now mode rect.now)) (state S.Store conn.old) (state S.Store conn.new) result }
+    ensures selected { Looks (Sees (λ f. IsCutOf frame.now mode rect.now)) (state S.Store conn.old)
+        (state S.Store conn.new) result }
 {
     let answer = select_over(conn, frame, rect, mode, alloc)?;
     // A store may be shut by an error alone, so one that answers now was open all along.

@@ -26,7 +26,8 @@ fn tiles_at<R: Reach>(
     requires ready { R.can_ask reach.old }
     requires frame { IsTrue (is_good_frame frame.now) }
     requires rect { IsTrue (is_good_rect frame.now rect.now) }
-    ensures { Asks R.can_ask R.stays R.shows (λ p found. found.items ≡ tiles_at frame.now rect.now p zoom) reach.old reach.new result }
+    ensures { Asks R.can_ask R.stays R.shows (λ p found. found.items ≡ tiles_at frame.now rect.now p zoom) reach.old
+        reach.new result }
 {
     match span(frame, rect, zoom) {
         Some(span) => reach.tiles_in(zoom, &span, alloc),
@@ -44,7 +45,8 @@ fn tiles_inside<R: Reach>(
     requires ready { R.can_ask reach.old }
     requires frame { IsTrue (is_good_frame frame.now) }
     requires rect { IsTrue (is_good_rect frame.now rect.now) }
-    ensures { Asks R.can_ask R.stays R.shows (λ p found. AreSame found.items (tiles_below frame.now rect.now p (frame.now.first_zoom +ℤ frame.now.levels))) reach.old reach.new result }
+    ensures { Asks R.can_ask R.stays R.shows (λ p found. AreSame found.items
+        (tiles_below frame.now rect.now p (frame.now.first_zoom +ℤ frame.now.levels))) reach.old reach.new result }
 {
     let mut found = Vec::new(alloc);
     let levels = level_count(frame);
@@ -65,7 +67,8 @@ pub(crate) fn start<R: Reach>(
     requires ready { R.can_ask reach.old }
     requires frame { IsTrue (is_good_frame frame.now) }
     requires rect { IsTrue (is_good_rect frame.now rect.now) }
-    ensures { Asks R.can_ask R.stays R.shows (λ p found. IsInOrder frame.now p → AreSame found.items (identities (start frame.now rect.now p))) reach.old reach.new result }
+    ensures { Asks R.can_ask R.stays R.shows (λ p found. IsInOrder frame.now p
+        → AreSame found.items (identities (start frame.now rect.now p))) reach.old reach.new result }
 {
     let mut found = tiles_inside(reach, frame, rect, alloc)?;
     let rows = reach.rows_in(&block(frame, rect), alloc)?;

@@ -1,5 +1,6 @@
 -- What a beginning of a reader's bytes says of them all.
-use Rattle.std.proofs.Common.{◌≡◌, ◌≢◌, ◌≤◌, ◌+◌, ◌-◌, ◌∙◌, ℕ, List, [], ◌∷◌, ◌++◌, Option, Some, None, IfSome, length, take, drop, refl, sym, ap, arith, append-nil, false, ◌==◌, ◌⊎◌, inl, inr}
+use Rattle.std.proofs.Common.{◌≡◌, ◌≢◌, ◌≤◌, ◌+◌, ◌-◌, ◌∙◌, ℕ, List, [], ◌∷◌, ◌++◌, Option, Some, None, IfSome}
+use Rattle.std.proofs.Common.{length, take, drop, refl, sym, ap, arith, append-nil, false, ◌==◌, ◌⊎◌, inl, inr}
 use Rattle.std.proofs.KnownBytes.{Consumes-trans}
 use Rattle.std.proofs.lemmas.List.{length-map, length-append, length-take}
 use Rattle.std.proofs.Math.Seq.{take-append_seam, take-append-add}
@@ -20,9 +21,11 @@ front_nil (x ∷ a) b e = cc e
 front_of : (a b c d : List ℕ) → a ++ b ≡ c ++ d → length c ≤ length a → a ≡ c ++ take (length a - length c) d
 front_of a b c d e h =
     let n : length a ≡ length c + (length a - length c) = omega arith in
-    sym (take-append_seam a b) ∙ ap (take (length a)) e ∙ ap (λ k. take k (c ++ d)) n ∙ take-append-add c d (length a - length c)
+    sym (take-append_seam a b) ∙ ap (take (length a)) e ∙ ap (λ k. take k (c ++ d)) n
+    ∙ take-append-add c d (length a - length c)
 
-pub whole_gathers : (o after : Option (List ℕ)) (input : List ℕ) (headers : List HeaderSpan) (spans : RequestSpans) → Consumes o after input → length input ≤ 16384 → length headers ≡ 64
+pub whole_gathers : (o after : Option (List ℕ)) (input : List ℕ) (headers : List HeaderSpan) (spans : RequestSpans)
+    → Consumes o after input → length input ≤ 16384 → length headers ≡ 64
     → IsRequestOf input headers spans → IfSome o (λ xs. Gathers xs input headers (Head spans))
 whole_gathers None after input headers spans p short room is = tt
 whole_gathers (Some xs) None input headers spans p short room is = absurd p
@@ -40,14 +43,19 @@ whole_gathers (Some xs) (Some ys) input headers spans p short room (h, at) =
       at,
     )
 
-pub never_gathers : (o after : Option (List ℕ)) (input : List ℕ) (headers : List HeaderSpan) → Consumes o after input → input ≢ []
+pub never_gathers : (o after : Option (List ℕ)) (input : List ℕ) (headers : List HeaderSpan) → Consumes o after input
+    → input ≢ []
     → RequestOverflows 64 input → IfSome o (λ xs. Gathers xs input headers Bad)
 never_gathers None after input headers p some over = tt
 never_gathers (Some xs) None input headers p some over = absurd p
-never_gathers (Some xs) (Some ys) input headers p some over =
-    (λ e. some (front_nil input ys (sym p ∙ e)), λ h rest is. let many = over ys h rest (rw p at is.reads) in let few = is.few in absurd (omega arith))
+never_gathers (Some xs) (Some ys) input headers p some over = (
+  λ e. some (front_nil input ys (sym p ∙ e)),
+  λ h rest is. let many =
+      over ys h rest (rw p at is.reads) in let few = is.few in absurd (omega arith),
+)
 
-pub full_gathers : (o after : Option (List ℕ)) (input : List ℕ) (headers : List HeaderSpan) → Consumes o after input → 16384 ≤ length input → input ≢ []
+pub full_gathers : (o after : Option (List ℕ)) (input : List ℕ) (headers : List HeaderSpan) → Consumes o after input
+    → 16384 ≤ length input → input ≢ []
     → HasNoRequest input → IfSome o (λ xs. Gathers xs input headers Bad)
 full_gathers None after input headers p full some none = tt
 full_gathers (Some xs) None input headers p full some none = absurd p
@@ -57,7 +65,8 @@ full_gathers (Some xs) (Some ys) input headers p full some none = (
       none h _ (is.reads.0, front_of input ys (print_request h) rest (sym p ∙ is.reads.1) (omega arith)),
 )
 
-pub ended_gathers : (o after : Option (List ℕ)) (input : List ℕ) (headers : List HeaderSpan) → Consumes o after input → IsAtEnd after → input ≢ []
+pub ended_gathers : (o after : Option (List ℕ)) (input : List ℕ) (headers : List HeaderSpan) → Consumes o after input
+    → IsAtEnd after → input ≢ []
     → HasNoRequest input → IfSome o (λ xs. Gathers xs input headers Bad)
 ended_gathers None after input headers p end some none = tt
 ended_gathers (Some xs) None input headers p end some none = absurd p
@@ -65,17 +74,20 @@ ended_gathers (Some xs) (Some ys) input headers p end some none =
     let same : xs ≡ input = p ∙ ap (λ l. input ++ l) end ∙ append-nil input in
     (λ e. some (sym same ∙ e), λ h rest is. none h rest (rw same at is.reads))
 
-pub nothing_gathers : (o after : Option (List ℕ)) (input : List ℕ) (headers : List HeaderSpan) → Consumes o after input → IsAtEnd after → input ≡ []
+pub nothing_gathers : (o after : Option (List ℕ)) (input : List ℕ) (headers : List HeaderSpan)
+    → Consumes o after input → IsAtEnd after → input ≡ []
     → IfSome o (λ xs. Gathers xs input headers Nothing)
 nothing_gathers None after input headers p end none = tt
 nothing_gathers (Some xs) None input headers p end none = absurd p
 nothing_gathers (Some xs) (Some ys) input headers p end none = p ∙ ap (λ l. input ++ l) end ∙ append-nil input ∙ none
 
-pub grown : (o a b : Option (List ℕ)) (old new bs : List ℕ) → Consumes o a old → new ≡ old ++ bs → Consumes a b bs → Consumes o b new
+pub grown : (o a b : Option (List ℕ)) (old new bs : List ℕ) → Consumes o a old → new ≡ old ++ bs → Consumes a b bs
+    → Consumes o b new
 grown o a b old new bs p e q = rw e (Consumes-trans o a b old bs p q)
 
 pub grown_some : (old new bs : List ℕ) (n : ℕ) → n ≢ 0 → n ≡ length bs → new ≡ old ++ bs → new ≢ []
-grown_some old new bs n some size e none = let sum = ap length (sym e ∙ none) in some (omega (arith, sum, length-append old bs))
+grown_some old new bs n some size e none = let sum = ap length (sym e ∙ none) in some
+    (omega (arith, sum, length-append old bs))
 
 pub long_some : (xs : List ℕ) → 16384 ≤ length xs → xs ≢ []
 long_some xs h e = let none = ap length e in absurd (omega arith)
@@ -96,5 +108,6 @@ pub room_within : (old new n : ℕ) → new ≤ old + (16384 - n) → n ≡ old 
 room_within old new n h e small = omega arith
 
 -- a piece that is not empty makes the input longer
-pub one_more : (old new bs : List ℕ) (turn n : ℕ) → turn ≤ length old → n ≢ 0 → n ≡ length bs → new ≡ old ++ bs → turn + 1 ≤ length new
+pub one_more : (old new bs : List ℕ) (turn n : ℕ) → turn ≤ length old → n ≢ 0 → n ≡ length bs → new ≡ old ++ bs
+    → turn + 1 ≤ length new
 one_more old new bs turn n h some size e = let sum = ap length e in omega (arith, sum, length-append old bs)

@@ -1,5 +1,6 @@
 -- A connection asks one call at most.
-use Rattle.std.proofs.Common.{◌≡◌, ◌∙◌, ℕ, Bool, true, false, List, [], ◌++◌, Option, Some, None, take, refl, sym, ap, arith, inl, inr, codes}
+use Rattle.std.proofs.Common.{◌≡◌, ◌∙◌, ℕ, Bool, true, false, List, [], ◌++◌, Option, Some, None, take, refl, sym, ap}
+use Rattle.std.proofs.Common.{arith, inl, inr, codes}
 use Rattle.std.specs.Prelude.{bytes_eq}
 use Rattle.std.proofs.lemmas.List.{append_cancel_left, append_cancel_right}
 use Rattle.uuid.specs.Text.{parsed_hyphenated}
@@ -7,7 +8,8 @@ use Rattle.httparse.proofs.GrammarLemmas.{request_unique}
 use Rattle.httparse.specs.Grammar.{RequestHead}
 use Rattle.request_json.proofs.OneRequest.{one_request}
 use Rattle.sheet_types.proofs.Basics.{None≢Some}
-use Rattle.desk_calls.specs.Calls.{BodyAsks, HeadAsks, IsCall, MethodAsks, NamesBetween, OriginAsks, PathAsks, RestAsks, RouteAsks, method_of, origins_of, origins_pass}
+use Rattle.desk_calls.specs.Calls.{BodyAsks, HeadAsks, IsCall, MethodAsks, NamesBetween, OriginAsks, PathAsks}
+use Rattle.desk_calls.specs.Calls.{RestAsks, RouteAsks, method_of, origins_of, origins_pass}
 use Rattle.desk_calls.specs.Heads.{path_of, route_of}
 use Rattle.desk_calls.specs.declared.calls.Asked.{Asked}
 use Rattle.desk_calls.specs.declared.calls.Asked.TheVariants.{Now, Body}
@@ -16,23 +18,28 @@ use Rattle.desk_calls.specs.declared.calls.Call.TheVariants.{Refused, Apply, Pac
 use Rattle.desk_calls.specs.declared.routes.Route.{Route}
 use Rattle.desk_calls.specs.declared.routes.Route.TheVariants as route
 
-one_named : (front back path : List ℕ) (a b : Option (List ℕ)) → NamesBetween front back path a → NamesBetween front back path b → a ≡ b
+one_named : (front back path : List ℕ) (a b : Option (List ℕ)) → NamesBetween front back path a
+    → NamesBetween front back path b → a ≡ b
 one_named front back path None None x y = refl
 one_named front back path None (Some id) none (text, e, f) = absurd (None≢Some (sym (none text e) ∙ f))
 one_named front back path (Some id) None (text, e, f) none = absurd (None≢Some (sym (none text e) ∙ f))
 one_named front back path (Some id) (Some other) (text, e, f) (again, g, h) =
-    let same : text ≡ again = append_cancel_right text again back (append_cancel_left front (text ++ back) (again ++ back) (sym e ∙ g)) in
+    let same : text ≡ again = append_cancel_right text again back
+    (append_cancel_left front (text ++ back) (again ++ back) (sym e ∙ g)) in
     sym f ∙ ap parsed_hyphenated same ∙ h
 
 by_route : (to : Route) (h : RequestHead) (a b : Asked) → RouteAsks to h a → RouteAsks to h b → a ≡ b
 by_route route.Requests h a b x y = x ∙ sym y
 by_route route.Packages h a b x y = x ∙ sym y
 by_route route.Manifest h a b (id, is, named) (other, also, called) =
-    is ∙ ap (λ i. Now (Manifest i)) (one_named (codes "/packages/") (codes "/manifest") (path_of h.target) id other named called) ∙ sym also
+    is ∙ ap (λ i. Now (Manifest i)) (one_named (codes "/packages/") (codes "/manifest") (path_of h.target) id other
+    named called) ∙ sym also
 by_route route.Receipt h a b (id, is, named) (other, also, called) =
-    is ∙ ap (λ i. Now (Receipt i)) (one_named (codes "/receipts/") [] (path_of h.target) id other named called) ∙ sym also
+    is ∙ ap (λ i. Now (Receipt i)) (one_named (codes "/receipts/") [] (path_of h.target) id other named called)
+    ∙ sym also
 
-by_method : (is_so : Bool) (to : Route) (h : RequestHead) (a b : Asked) → MethodAsks is_so to h a → MethodAsks is_so to h b → a ≡ b
+by_method : (is_so : Bool) (to : Route) (h : RequestHead) (a b : Asked) → MethodAsks is_so to h a
+    → MethodAsks is_so to h b → a ≡ b
 by_method true to h a b x y = by_route to h a b x y
 by_method false to h a b x y = x ∙ sym y
 

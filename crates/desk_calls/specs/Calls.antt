@@ -1,5 +1,7 @@
--- What the bytes of a connection ask of the desk: the checks, in their order. Profile, over RFC 9112 for fields and RFC 9562 for UUIDs.
-use Rattle.std.specs.Prelude.{◌≡◌, ◌≢◌, ◌≤◌, ◌<◌, ◌⊎◌, ℕ, Bool, true, false, ◌&&◌, nat_le, nat_lt, if◌then◌else◌, List, [], ◌∷◌, ◌++◌, length, take, map, codes, bytes_eq, Option, Some, None}
+-- What the bytes of a connection ask of the desk: the checks, in their order. Profile, over RFC 9112 for fields and
+-- RFC 9562 for UUIDs.
+use Rattle.std.specs.Prelude.{◌≡◌, ◌≢◌, ◌≤◌, ◌<◌, ◌⊎◌, ℕ, Bool, true, false, ◌&&◌, nat_le, nat_lt, if◌then◌else◌}
+use Rattle.std.specs.Prelude.{List, [], ◌∷◌, ◌++◌, length, take, map, codes, bytes_eq, Option, Some, None}
 use Rattle.std.specs.List.{list_all}
 use Rattle.std.specs.Char.{is_ascii_digit}
 use Rattle.std.specs.Str.{str_eq_ignore_ascii_case}
@@ -12,7 +14,8 @@ use Rattle.request_json.specs.Requests.{IsRequestText}
 use Rattle.desk_calls.specs.Heads.{HeadIs, HasNoHead, path_of, route_of}
 use Rattle.desk_calls.specs.declared.routes.Route.{Route}
 use Rattle.desk_calls.specs.declared.routes.Route.TheVariants as route
-use Rattle.desk_calls.specs.declared.calls.Flaw.TheVariants.{BadOrigin, BadRequest, NoSuchPath, BadMethod, NoLength, TooLarge}
+use Rattle.desk_calls.specs.declared.calls.Flaw.TheVariants.{BadOrigin, BadRequest, NoSuchPath, BadMethod, NoLength}
+use Rattle.desk_calls.specs.declared.calls.Flaw.TheVariants.{TooLarge}
 use Rattle.desk_calls.specs.declared.calls.Call.{Call}
 use Rattle.desk_calls.specs.declared.calls.Call.TheVariants.{Refused, Apply, Packages, Manifest, Receipt}
 use Rattle.desk_calls.specs.declared.calls.Asked.{Asked}
@@ -67,7 +70,8 @@ encodings_ask (encoding ∷ encodings) lengths = Now (Refused BadRequest)
 
 -- the body that the fields of a request announce, or what is wrong with them
 abbrev pub fields_ask : List (List ℕ × List ℕ) → Asked
-fields_ask fields = encodings_ask (values_of (codes "transfer-encoding") fields) (values_of (codes "content-length") fields)
+fields_ask fields = encodings_ask (values_of (codes "transfer-encoding") fields)
+    (values_of (codes "content-length") fields)
 
 -- ---- heads
 
@@ -79,15 +83,18 @@ method_of route.Receipt = codes "GET"
 
 -- the UUID that a path has between these two texts, if what stands there is one
 abbrev pub NamesBetween : List ℕ → List ℕ → List ℕ → Option (List ℕ) → Type 0
-NamesBetween front back path (Some id) = (text : List ℕ) × (path ≡ front ++ (text ++ back)) × (parsed_hyphenated text ≡ Some id)
+NamesBetween front back path (Some id) = (text : List ℕ) × (path ≡ front ++ (text ++ back))
+    × (parsed_hyphenated text ≡ Some id)
 NamesBetween front back path None = (text : List ℕ) → path ≡ front ++ (text ++ back) → parsed_hyphenated text ≡ None
 
 -- what a head asks on its route, whose method it has
 abbrev pub RouteAsks : Route → RequestHead → Asked → Type 0
 RouteAsks route.Requests h asked = asked ≡ fields_ask (map name_and_value h.fields)
 RouteAsks route.Packages h asked = asked ≡ Now Packages
-RouteAsks route.Manifest h asked = (id : Option (List ℕ)) × (asked ≡ Now (Manifest id)) × NamesBetween (codes "/packages/") (codes "/manifest") (path_of h.target) id
-RouteAsks route.Receipt h asked = (id : Option (List ℕ)) × (asked ≡ Now (Receipt id)) × NamesBetween (codes "/receipts/") [] (path_of h.target) id
+RouteAsks route.Manifest h asked = (id : Option (List ℕ)) × (asked ≡ Now (Manifest id))
+    × NamesBetween (codes "/packages/") (codes "/manifest") (path_of h.target) id
+RouteAsks route.Receipt h asked = (id : Option (List ℕ)) × (asked ≡ Now (Receipt id))
+    × NamesBetween (codes "/receipts/") [] (path_of h.target) id
 
 -- the same, by whether it has the route's method
 abbrev pub MethodAsks : Bool → Route → RequestHead → Asked → Type 0
@@ -99,7 +106,8 @@ abbrev pub PathAsks : Option Route → RequestHead → Asked → Type 0
 PathAsks None h asked = asked ≡ Now (Refused NoSuchPath)
 PathAsks (Some to) h asked = MethodAsks (bytes_eq h.method (method_of to)) to h asked
 
--- Whether the Origin fields of a request let it pass (RFC 6454, section 7): it has none, as that of a program that is no
+-- Whether the Origin fields of a request let it pass (RFC 6454, section 7): it has none, as that of a program that is
+-- no
 -- browser, or the only one is the desk's own address.
 abbrev pub origins_pass : List ℕ → List (List ℕ) → Bool
 origins_pass own [] = true
@@ -132,7 +140,8 @@ BodyAsks body (Receipt id) = ⊥
 -- what a head asks with the bytes after it: a body may be too short, and what follows it is not looked at
 abbrev pub RestAsks : Asked → List ℕ → Call → Type 0
 RestAsks (Now call) rest asked = asked ≡ call
-RestAsks (Body size) rest asked = ((length rest < size) × (asked ≡ Refused BadRequest)) ⊎ ((size ≤ length rest) × BodyAsks (take size rest) asked)
+RestAsks (Body size) rest asked = ((length rest < size) × (asked ≡ Refused BadRequest))
+    ⊎ ((size ≤ length rest) × BodyAsks (take size rest) asked)
 
 -- ---- all of it
 

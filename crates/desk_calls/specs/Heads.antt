@@ -1,4 +1,5 @@
--- The head of a request at the front of some bytes (RFC 9112, as `httparse` reads it), and the routes of its path (as `matchit` reads them). Limits and routes are profile.
+-- The head of a request at the front of some bytes (RFC 9112, as `httparse` reads it), and the routes of its path (as
+-- `matchit` reads them). Limits and routes are profile.
 use Rattle.std.specs.Prelude.{◌≡◌, ◌≢◌, ◌≤◌, ℕ, List, [], length, codes, Result, Ok, Err, Option, option_map, nat_eq}
 use Rattle.std.specs.List.{before_first}
 use Rattle.httparse.specs.Grammar.{RequestHead, ReadsRequest, HasNoRequest, print_request}
@@ -17,7 +18,8 @@ use Rattle.desk_calls.specs.declared.heads.Judged.TheVariants.{Whole, Part, Neve
 use Rattle.desk_calls.specs.declared.routes.Route.{Route}
 use Rattle.desk_calls.specs.declared.routes.Route.TheVariants.{Requests, Packages, Manifest, Receipt}
 
--- the bytes begin with a head that the desk takes: of 16,384 bytes at most with its empty line, and of 64 fields at most
+-- the bytes begin with a head that the desk takes: of 16,384 bytes at most with its empty line, and of 64 fields at
+-- most
 pub record HeadIs (xs : List ℕ) (h : RequestHead) (rest : List ℕ) : Type 0 where
   pub reads : ReadsRequest xs h rest
   pub short : length (print_request h) ≤ 16384
@@ -31,7 +33,8 @@ HasNoHead xs = (h : RequestHead) (rest : List ℕ) → ¬ (HeadIs xs h rest)
 abbrev pub Gathers : List ℕ → List ℕ → List HeaderSpan → Gathered → Type 0
 Gathers xs input headers Nothing = xs ≡ []
 Gathers xs input headers Bad = (xs ≢ []) × HasNoHead xs
-Gathers xs input headers (Head spans) = (h : RequestHead) × (rest : List ℕ) × HeadIs xs h rest × IsRequestAt input headers spans h
+Gathers xs input headers (Head spans) = (h : RequestHead) × (rest : List ℕ) × HeadIs xs h rest
+    × IsRequestAt input headers spans h
 
 -- the spans of a head lie in the input
 abbrev pub LiesWithin : List ℕ → List HeaderSpan → Gathered → Type 0

@@ -1,5 +1,6 @@
 //! The body of a request, gathered from a source, and what it asks.
-ghost use Rattle.std.specs.Prelude.{◌≡◌, ◌≢◌, ◌≤◌, ◌<◌, ◌+◌, ◌++◌, ℕ, List, true, false, drop, length, Ok, Err, IfOk, OnOk, IfSome};
+ghost use Rattle.std.specs.Prelude.{◌≡◌, ◌≢◌, ◌≤◌, ◌<◌, ◌+◌, ◌++◌, ℕ, List, true, false, drop, length, Ok, Err, IfOk};
+ghost use Rattle.std.specs.Prelude.{OnOk, IfSome};
 ghost use Rattle.std.specs.Io.KnownBytes.{Consumes, IsAtEnd};
 ghost use Rattle.desk_calls.specs.Calls.{BodyAsks, RestAsks};
 ghost use Rattle.desk_calls.specs.Bodies.{Grows};
@@ -20,7 +21,8 @@ pub fn gather_body<R: Source>(
     until: usize,
 ) -> Result<bool, CallFault>
     requires { until ≤ 4194304 }
-    ensures taken { OnOk result (Grows (R.remaining source.old) (R.remaining source.new) input.old.items input.new.items) }
+    ensures taken { OnOk result (Grows (R.remaining source.old) (R.remaining source.new) input.old.items
+        input.new.items) }
     ensures enough { result ≡ Ok true → until ≤ length input.new.items }
     ensures short { result ≡ Ok false → length input.new.items < until }
     ensures end { result ≡ Ok false → IsAtEnd (R.remaining source.new) }
@@ -60,7 +62,8 @@ pub fn read_body<R: Source>(
     requires head { start ≤ length input.old.items }
     requires short { start ≤ 16384 }
     requires small { size ≤ 2200000 }
-    ensures asks { IfOk result (λ call. IfSome (R.remaining source.old) (λ ys. RestAsks (Body size) (drop start input.old.items ++ ys) call)) }
+    ensures asks { IfOk result (λ call. IfSome (R.remaining source.old)
+        (λ ys. RestAsks (Body size) (drop start input.old.items ++ ys) call)) }
     ensures sound { R.never_fails source.old → result ≢ Err Failed }
 {
     if !gather_body(source, input, start + size)? {

@@ -1,5 +1,6 @@
 //! The head of a request, gathered from a source.
-ghost use Rattle.std.specs.Prelude.{◌≡◌, ◌≢◌, ◌≤◌, ◌<◌, ◌+◌, ◌++◌, ℕ, List, [], length, Err, IfOk, OnOk, OnErr, IfSome, IsSome, MatchOption};
+ghost use Rattle.std.specs.Prelude.{◌≡◌, ◌≢◌, ◌≤◌, ◌<◌, ◌+◌, ◌++◌, ℕ, List, [], length, Err, IfOk, OnOk, OnErr};
+ghost use Rattle.std.specs.Prelude.{IfSome, IsSome, MatchOption};
 ghost use Rattle.std.specs.Io.KnownBytes.{Consumes, IsAtEnd, Keeps};
 ghost use Rattle.desk_calls.specs.Heads.{Gathers, IsJudged, LiesWithin};
 ghost use Rattle.desk_calls.specs.declared.calls.CallFault.TheVariants.{Failed, Memory};
@@ -49,9 +50,12 @@ pub fn take_more<R: Source>(
     room: usize,
 ) -> Result<Option<usize>, CallFault>
     requires { 0 < room }
-    ensures took { IfOk result (λ o. MatchOption o ((input.new.items ≡ input.old.items) × Keeps (R.remaining source.old) (R.remaining source.new))
-        (λ n. (bs : List ℕ) × (input.new.items ≡ input.old.items ++ bs) × Consumes (R.remaining source.old) (R.remaining source.new) bs
-        × (n ≡ length bs) × (length input.new.items ≤ length input.old.items + room) × (n ≡ 0 → IsAtEnd (R.remaining source.new)))) }
+    ensures took { IfOk result (λ o. MatchOption o ((input.new.items ≡ input.old.items)
+        × Keeps (R.remaining source.old) (R.remaining source.new))
+        (λ n. (bs : List ℕ) × (input.new.items ≡ input.old.items ++ bs)
+        × Consumes (R.remaining source.old) (R.remaining source.new) bs
+        × (n ≡ length bs) × (length input.new.items ≤ length input.old.items + room)
+        × (n ≡ 0 → IsAtEnd (R.remaining source.new)))) }
     ensures sound { R.never_fails source.old → result ≢ Err Failed }
     ensures goes_on { R.never_fails source.old → IfOk result IsSome }
     ensures keeps { R.never_fails source.old → R.never_fails source.new }
@@ -70,7 +74,8 @@ pub fn take_more<R: Source>(
     }
 }
 
-/// Takes bytes until a head is there, or can't come any more. No byte is taken that a check does not need, but for those of the last piece.
+/// Takes bytes until a head is there, or can't come any more. No byte is taken that a check does
+/// not need, but for those of the last piece.
 pub fn gather_head<R: Source>(
     source: &mut R,
     input: &mut Vec<u8>,

@@ -38,7 +38,8 @@ fn method_of(route: Route) -> &'static [u8]
 /// What a head asks on its route.
 fn route_asks(input: &[u8], headers: &[HeaderSpan], route: Route, path: &str) -> Asked
     requires { All (IsHeaderWithin (length input.now)) headers.now }
-    ensures asks { (h : RequestHead) → path.now ≡ path_of h.target → map (header_bytes input.now) headers.now ≡ map name_and_value h.fields → RouteAsks route h result }
+    ensures asks { (h : RequestHead) → path.now ≡ path_of h.target
+        → map (header_bytes input.now) headers.now ≡ map name_and_value h.fields → RouteAsks route h result }
     ensures small { IsSmall result }
 {
     match route {
@@ -62,7 +63,9 @@ fn path_asks(
     path: &str,
 ) -> Result<Asked, OutOfMemory>
     requires { All (IsHeaderWithin (length input.now)) headers.now }
-    ensures asks { IfOk result (λ asked. (h : RequestHead) → method.now ≡ h.method → path.now ≡ path_of h.target → map (header_bytes input.now) headers.now ≡ map name_and_value h.fields → PathAsks (route_of (path_of h.target)) h asked) }
+    ensures asks { IfOk result (λ asked. (h : RequestHead) → method.now ≡ h.method → path.now ≡ path_of h.target
+        → map (header_bytes input.now) headers.now ≡ map name_and_value h.fields
+        → PathAsks (route_of (path_of h.target)) h asked) }
     ensures small { IfOk result IsSmall }
 {
     let Ok(routes) = desk_routes(alloc) else {
@@ -85,7 +88,8 @@ fn target_asks(
     head: RequestSpans,
 ) -> Result<Asked, OutOfMemory>
     requires { IsRequestWithin input.now headers.now head }
-    ensures asks { IfOk result (λ asked. (h : RequestHead) → IsRequestAt input.now headers.now head h → PathAsks (route_of (path_of h.target)) h asked) }
+    ensures asks { IfOk result (λ asked. (h : RequestHead) → IsRequestAt input.now headers.now head h
+        → PathAsks (route_of (path_of h.target)) h asked) }
     ensures small { IfOk result IsSmall }
 {
     let Ok(target) = str::from_utf8(head.path.of(input)) else {
@@ -100,7 +104,8 @@ fn target_asks(
     )
 }
 
-/// What a head asks that was found in the input. A page of another address than the desk's own is refused before anything else is looked at.
+/// What a head asks that was found in the input. A page of another address than the desk's own is
+/// refused before anything else is looked at.
 ///
 /// # Errors
 ///
@@ -113,7 +118,8 @@ pub fn head_asks(
     head: RequestSpans,
 ) -> Result<Asked, OutOfMemory>
     requires { IsRequestWithin input.now headers.now head }
-    ensures asks { IfOk result (λ asked. (h : RequestHead) → IsRequestAt input.now headers.now head h → HeadAsks own.now h asked) }
+    ensures asks { IfOk result (λ asked. (h : RequestHead) → IsRequestAt input.now headers.now head h
+        → HeadAsks own.now h asked) }
     ensures small { IfOk result IsSmall }
 {
     if !origins_pass(own, input, &headers[..head.headers]) {

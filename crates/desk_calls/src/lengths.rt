@@ -3,7 +3,8 @@ ghost use Rattle.std.specs.Prelude.{◌≡◌, ◌≤◌, ◌++◌, ◌∷◌, [
 ghost use Rattle.httparse.specs.Grammar.{AllPass};
 ghost use Rattle.std.specs.Char.{is_ascii_digit};
 ghost use Rattle.httparse.specs.Spans.{IsHeaderWithin, header_bytes};
-ghost use Rattle.desk_calls.specs.Calls.{AreValues, IsSmall, digits_ask, fields_ask, is_named, length_asks, lengths_ask, values_of};
+ghost use Rattle.desk_calls.specs.Calls.{AreValues, IsSmall, digits_ask, fields_ask, is_named, length_asks};
+ghost use Rattle.desk_calls.specs.Calls.{lengths_ask, values_of};
 
 use crate::calls::{Asked, Call, Flaw};
 use httparse::spans::HeaderSpan;
@@ -41,7 +42,8 @@ fn with_one_more<'a>(found: Values<'a>, value: &'a [u8]) -> Values<'a>
 /// The same values, and that of a field where it has this name.
 fn with_field<'a>(found: Values<'a>, input: &'a [u8], header: HeaderSpan, name: &[u8]) -> Values<'a>
     requires { IsHeaderWithin (length input.now) header }
-    ensures { (before : List (List ℕ)) → AreValues before found.entry → AreValues (before ++ values_of name.now (header_bytes input.now header ∷ [])) result }
+    ensures { (before : List (List ℕ)) → AreValues before found.entry
+        → AreValues (before ++ values_of name.now (header_bytes input.now header ∷ [])) result }
 {
     if is_named(input, header, name) {
         with_one_more(found, header.value.of(input))

@@ -1,4 +1,5 @@
-//! What the bytes of a connection ask of the desk: one request of HTTP/1.0 or 1.1 (RFC 9112), by the checks in their order. No world, no store.
+//! What the bytes of a connection ask of the desk: one request of HTTP/1.0 or 1.1 (RFC 9112), by
+//! the checks in their order. No world, no store.
 #![tactic(auto)]
 
 pub mod bodies;

@@ -25,7 +25,9 @@ fn call_of_head<R: Source>(
 ) -> Result<Call, CallFault>
     requires within { IsRequestWithin input.old.items headers.now head }
     requires short { head.len ≤ 16384 }
-    ensures asks { IfOk result (λ call. (h : RequestHead) → IsRequestAt input.old.items headers.now head h → IfSome (R.remaining source.old) (λ ys. (asked : Asked) × HeadAsks own.now h asked × RestAsks asked (drop head.len input.old.items ++ ys) call)) }
+    ensures asks { IfOk result (λ call. (h : RequestHead) → IsRequestAt input.old.items headers.now head h
+        → IfSome (R.remaining source.old) (λ ys. (asked : Asked) × HeadAsks own.now h asked
+        × RestAsks asked (drop head.len input.old.items ++ ys) call)) }
     ensures sound { R.never_fails source.old → result ≢ Err Failed }
 {
     match head_asks(alloc, own, input.as_slice(), headers, head)? {
@@ -34,7 +36,9 @@ fn call_of_head<R: Source>(
     }
 }
 
-/// What a connection asks of a desk whose address is `own`, as `http://127.0.0.1:8080`; none where there is no byte. No more is taken than the head and the body, but for the last piece of the head; nothing after a check that fails.
+/// What a connection asks of a desk whose address is `own`, as `http://127.0.0.1:8080`; none where
+/// there is no byte. No more is taken than the head and the body, but for the last piece of the
+/// head; nothing after a check that fails.
 ///
 /// # Errors
 ///
@@ -44,7 +48,8 @@ pub fn read_call<R: Source>(
     own: &[u8],
     source: &mut R,
 ) -> Result<Option<Call>, CallFault>
-    ensures asks { IfOk result (λ found. IfSome found (λ call. IfSome (R.remaining source.old) (λ xs. IsCall own.now xs call))) }
+    ensures asks { IfOk result (λ found. IfSome found (λ call. IfSome (R.remaining source.old)
+        (λ xs. IsCall own.now xs call))) }
     ensures nothing { result ≡ Ok None → IfSome (R.remaining source.old) (λ xs. xs ≡ []) }
     ensures sound { R.never_fails source.old → result ≢ Err Failed }
     ensures some { result ≡ Err Memory → IfSome (R.remaining source.old) (λ xs. xs ≢ []) }

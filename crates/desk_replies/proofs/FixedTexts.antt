@@ -3,7 +3,9 @@ use Rattle.std.specs.Prelude.{◌≡◌, refl, codes}
 use Rattle.std.specs.Fmt.{digits}
 use Rattle.serde_json.proofs.OnLiterals.{serde_json_on_literals}
 use Rattle.desk_replies.specs.Responses.{fixed_response}
-use Rattle.desk_replies.specs.declared.fixed.Fixed.TheVariants.{BadOrigin, BadRequest, NoSuchPath, NoSuchPackage, NoSuchReceipt, BadMethod, NoLength, TooLarge, StoreFault, OutOfMemory, AskAgain}
+use Rattle.desk_replies.specs.declared.fixed.Fixed.TheVariants.{BadOrigin, BadRequest, NoSuchPath, NoSuchPackage}
+use Rattle.desk_replies.specs.declared.fixed.Fixed.TheVariants.{NoSuchReceipt, BadMethod, NoLength, TooLarge}
+use Rattle.desk_replies.specs.declared.fixed.Fixed.TheVariants.{StoreFault, OutOfMemory, AskAgain}
 
 pub bad_request_is : codes "HTTP/1.1 400 Bad Request\r\ncontent-type: application/json\r\ncontent-length: 23\r\nconnection: close\r\n\r\n{\"fault\":\"bad request\"}" ≡ fixed_response BadRequest
 unfolding digits

@@ -22,10 +22,14 @@ count n = number (unsigned n)
 
 abbrev pub receipt_data : Receipt → Data
 receipt_data r =
-    object (member (codes "at") (string r.at) (member (codes "bytes") (count r.bytes) (member (codes "from") (string (optional_uuid_text r.source))
-    (member (codes "items") (count (length r.items)) (member (codes "line") (string r.line) (member (codes "links") (count r.links)
-    (member (codes "media") (count r.media) (member (codes "request") (string (uuid_text r.request)) (member (codes "rows") (count r.rows)
-    (member (codes "seq") (count r.seq) (member (codes "tiles") (count r.tiles) (member (codes "to") (string (optional_uuid_text r.target)) no_members))))))))))))
+    object (member (codes "at") (string r.at) (member (codes "bytes") (count r.bytes)
+    (member (codes "from") (string (optional_uuid_text r.source))
+    (member (codes "items") (count (length r.items)) (member (codes "line") (string r.line)
+    (member (codes "links") (count r.links)
+    (member (codes "media") (count r.media) (member (codes "request") (string (uuid_text r.request))
+    (member (codes "rows") (count r.rows)
+    (member (codes "seq") (count r.seq) (member (codes "tiles") (count r.tiles)
+    (member (codes "to") (string (optional_uuid_text r.target)) no_members))))))))))))
 
 -- the body of a receipt
 abbrev pub receipt_text : Receipt → List ℕ
@@ -47,7 +51,8 @@ with_detail None others = others
 with_detail (Some detail) others = member (codes "detail") (string detail) others
 
 abbrev pub refusal_data : Refusal → Data
-refusal_data why = object (with_detail (refusal_detail why) (member (codes "name") (string (refusal_name why)) (member (codes "refusal") (count (refusal_number why)) no_members)))
+refusal_data why = object (with_detail (refusal_detail why) (member (codes "name") (string (refusal_name why))
+    (member (codes "refusal") (count (refusal_number why)) no_members)))
 
 -- the body of a refusal
 abbrev pub refusal_text : Refusal → List ℕ
@@ -58,9 +63,12 @@ refusal_text why = compact_text (refusal_data why)
 -- what the list says of one package, by how many loans it has
 abbrev pub listed_data : Listed → ℕ → Data
 listed_data p loans =
-    object (member (codes "bytes") (count p.sums.bytes) (member (codes "depth") (count p.depth) (member (codes "links") (count p.sums.links)
-    (member (codes "loans") (count loans) (member (codes "media") (count p.sums.media) (member (codes "package") (string (uuid_text p.uuid))
-    (member (codes "parent") (string (optional_uuid_text p.parent)) (member (codes "rows") (count p.sums.rows) (member (codes "ticket") (count p.ticket)
+    object (member (codes "bytes") (count p.sums.bytes) (member (codes "depth") (count p.depth)
+    (member (codes "links") (count p.sums.links)
+    (member (codes "loans") (count loans) (member (codes "media") (count p.sums.media)
+    (member (codes "package") (string (uuid_text p.uuid))
+    (member (codes "parent") (string (optional_uuid_text p.parent))
+    (member (codes "rows") (count p.sums.rows) (member (codes "ticket") (count p.ticket)
     (member (codes "tiles") (count p.sums.tiles) no_members))))))))))
 
 -- how many of these packages are loans of one

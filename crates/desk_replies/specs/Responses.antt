@@ -1,4 +1,5 @@
--- The texts of responses: a status line, three fields, an empty line and a body (RFC 9112). Statuses, phrases and types are profile.
+-- The texts of responses: a status line, three fields, an empty line and a body (RFC 9112). Statuses, phrases and
+-- types are profile.
 use Rattle.std.specs.Prelude.{◌≡◌, ◌⊎◌, ℕ, List, ◌++◌, length, codes, decimal, Result, Ok, Err}
 use Rattle.sheet_types.specs.World.{World}
 use Rattle.sheet_types.specs.declared.receipt.Receipt.{Receipt}
@@ -6,7 +7,9 @@ use Rattle.sheet_types.specs.declared.refusal.Refusal.{Refusal}
 use Rattle.sheet_types.specs.declared.refusal.Refusal.TheVariants as refusal
 use Rattle.desk_replies.specs.Bodies.{list_text, packages_text, receipt_text, refusal_text}
 use Rattle.desk_replies.specs.declared.fixed.Fixed.{Fixed}
-use Rattle.desk_replies.specs.declared.fixed.Fixed.TheVariants.{BadOrigin, BadRequest, NoSuchPath, NoSuchPackage, NoSuchReceipt, BadMethod, NoLength, TooLarge, StoreFault, OutOfMemory, AskAgain}
+use Rattle.desk_replies.specs.declared.fixed.Fixed.TheVariants.{BadOrigin, BadRequest, NoSuchPath, NoSuchPackage}
+use Rattle.desk_replies.specs.declared.fixed.Fixed.TheVariants.{NoSuchReceipt, BadMethod, NoLength, TooLarge}
+use Rattle.desk_replies.specs.declared.fixed.Fixed.TheVariants.{StoreFault, OutOfMemory, AskAgain}
 use Rattle.desk_replies.specs.declared.packages.Listed.{Listed}
 use Rattle.desk_replies.specs.declared.replies.Outgoing.{Outgoing}
 use Rattle.desk_replies.specs.declared.replies.Outgoing.TheVariants as outgoing
@@ -15,7 +18,8 @@ use Rattle.desk_replies.specs.declared.replies.Outgoing.TheVariants as outgoing
 abbrev pub response_head : ℕ → List ℕ → List ℕ → ℕ → List ℕ
 response_head status phrase kind size =
     codes "HTTP/1.1 " ++ (decimal status ++ (codes " " ++ (phrase
-    ++ (codes "\r\ncontent-type: " ++ (kind ++ (codes "\r\ncontent-length: " ++ (decimal size ++ codes "\r\nconnection: close\r\n\r\n")))))))
+    ++ (codes "\r\ncontent-type: " ++ (kind ++ (codes "\r\ncontent-length: "
+    ++ (decimal size ++ codes "\r\nconnection: close\r\n\r\n")))))))
 
 abbrev pub response : ℕ → List ℕ → List ℕ → List ℕ → List ℕ
 response status phrase kind body = response_head status phrase kind (length body) ++ body
@@ -68,7 +72,8 @@ abbrev pub outgoing_bytes : Outgoing → List ℕ
 outgoing_bytes (outgoing.Made bytes) = bytes.items
 outgoing_bytes (outgoing.Fixed fixed) = fixed_response fixed
 
--- The response to the reply to a request. Memory may be wanting for it: of a receipt, which stands, that is said; a refusal is answered as want of memory is, with nothing changed either way.
+-- The response to the reply to a request. Memory may be wanting for it: of a receipt, which stands, that is said; a
+-- refusal is answered as want of memory is, with nothing changed either way.
 abbrev pub IsReply : Result Receipt Refusal → List ℕ → Type 0
 IsReply (Ok receipt) out = (out ≡ receipt_response receipt) ⊎ (out ≡ fixed_response AskAgain)
 IsReply (Err why) out = (out ≡ refusal_response why) ⊎ (out ≡ fixed_response OutOfMemory)

@@ -89,7 +89,8 @@ fn push_listed(
     listed: &Listed,
     loans: u64,
 ) -> Result<(), OutOfMemory>
-    ensures { OnOk result (body.new.items ≡ body.old.items ++ (comma_if is_later ++ compact_text (listed_data listed.now loans))) }
+    ensures { OnOk result (body.new.items ≡ body.old.items ++
+        (comma_if is_later ++ compact_text (listed_data listed.now loans))) }
 {
     if is_later {
         body.push(b',')?;
@@ -118,7 +119,8 @@ pub fn list_body(alloc: Global, packages: &[Listed]) -> Result<Vec<u8>, OutOfMem
 /// The response with a list of packages.
 pub fn list_response(alloc: Global, packages: &[Listed]) -> Result<Vec<u8>, OutOfMemory>
     ensures text { IfOk result (λ bytes. bytes.items ≡ list_response packages.now) }
-    ensures told { IfOk result (λ bytes. (w : World) → packages.now ≡ all_listed w → bytes.items ≡ packages_response w) }
+    ensures told { IfOk result (λ bytes. (w : World) → packages.now ≡ all_listed w
+        → bytes.items ≡ packages_response w) }
 {
     let body = list_body(alloc, packages)?;
     let bytes = good_response(alloc, body.as_slice())?;

@@ -1,6 +1,7 @@
 //! What goes out for the reply to a request, whatever memory there is for its text.
 ghost use Rattle.std.specs.Prelude.{◌≡◌, ◌⊎◌};
-ghost use Rattle.desk_replies.specs.Responses.{IsReply, fixed_response, outgoing_bytes, receipt_response, refusal_response};
+ghost use Rattle.desk_replies.specs.Responses.{IsReply, fixed_response, outgoing_bytes, receipt_response};
+ghost use Rattle.desk_replies.specs.Responses.{refusal_response};
 ghost use Rattle.desk_replies.specs.declared.fixed.Fixed.TheVariants as fixed;
 
 use crate::fixed::{Fixed, fixed_response};
@@ -32,7 +33,8 @@ impl Outgoing {
 
 /// What goes out for a receipt, which stands whatever memory its text finds.
 pub fn receipt_outgoing(alloc: Global, receipt: &Receipt) -> Outgoing
-    ensures { (outgoing_bytes result ≡ receipt_response receipt.now) ⊎ (outgoing_bytes result ≡ fixed_response fixed.AskAgain) }
+    ensures { (outgoing_bytes result ≡ receipt_response receipt.now)
+        ⊎ (outgoing_bytes result ≡ fixed_response fixed.AskAgain) }
 {
     match receipt_response(alloc, receipt) {
         Ok(bytes) => Outgoing::Made(bytes),
@@ -42,7 +44,8 @@ pub fn receipt_outgoing(alloc: Global, receipt: &Receipt) -> Outgoing
 
 /// What goes out for a refusal.
 pub fn refusal_outgoing(alloc: Global, why: &Refusal) -> Outgoing
-    ensures { (outgoing_bytes result ≡ refusal_response why.now) ⊎ (outgoing_bytes result ≡ fixed_response fixed.OutOfMemory) }
+    ensures { (outgoing_bytes result ≡ refusal_response why.now)
+        ⊎ (outgoing_bytes result ≡ fixed_response fixed.OutOfMemory) }
 {
     match why {
         Refusal::OutOfMemory => Outgoing::Fixed(Fixed::OutOfMemory),

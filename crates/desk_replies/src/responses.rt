@@ -1,6 +1,7 @@
 //! Responses with a body: a status line, three fields, an empty line, and the body (RFC 9112).
 ghost use Rattle.std.specs.Prelude.{◌≡◌, IfOk, string_bytes};
-ghost use Rattle.desk_replies.specs.Responses.{conflict_response, good_response, manifest_response, receipt_response, response, response_head};
+ghost use Rattle.desk_replies.specs.Responses.{conflict_response, good_response, manifest_response, receipt_response};
+ghost use Rattle.desk_replies.specs.Responses.{response, response_head};
 
 use crate::bodies::{receipt_body, refusal_body};
 use http::StatusCode;

@@ -24,7 +24,9 @@ same_key c d e = (bytes_eq-Decides (content_key c) (content_key d)).0 e
 
 -- equal contents have the same items, and as many
 pub alike_same : (c d : Content) (items : List Item) → same_content c d ≡ true → alike c items ≡ alike d items
-alike_same c d items e = ap (λ (k : List ℕ). identities (filter (λ i. bytes_eq k (content_key i.content)) items)) (same_key c d e)
+alike_same c d items e = ap (λ (k : List ℕ). identities (filter (λ i. bytes_eq k (content_key i.content)) items))
+    (same_key c d e)
 
-pub copies_same : {X : Type 0} (of : X → Content) (c d : Content) (xs : List X) → same_content c d ≡ true → copies of c xs ≡ copies of d xs
+pub copies_same : {X : Type 0} (of : X → Content) (c d : Content) (xs : List X) → same_content c d ≡ true
+    → copies of c xs ≡ copies of d xs
 copies_same of c d xs e = ap (λ (k : List ℕ). count_by (λ x. bytes_eq k (content_key (of x))) xs) (same_key c d e)

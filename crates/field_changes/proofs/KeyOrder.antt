@@ -35,15 +35,22 @@ then_same Equal x y h = h refl
 then_same Greater x y h = refl
 
 pub content_order : (a b : Content) → slice_cmp nat_cmp (content_key a) (content_key b)
-    ≡ ordering_then (slice_cmp nat_cmp (head_of a) (head_of b)) (ordering_then (slice_cmp nat_cmp (words_of a) (words_of b)) (slice_cmp nat_cmp (body_of a) (body_of b)))
+    ≡ ordering_then (slice_cmp nat_cmp (head_of a) (head_of b))
+    (ordering_then (slice_cmp nat_cmp (words_of a) (words_of b)) (slice_cmp nat_cmp (body_of a) (body_of b)))
 content_order a b =
-    slice_cmp_append (head_of a) (head_of b) (words_of a ++ body_of a) (words_of b ++ body_of b) (head_long a ∙ sym (head_long b))
-    ∙ then_same (slice_cmp nat_cmp (head_of a) (head_of b)) _ _ (λ tie. slice_cmp_append (words_of a) (words_of b) (body_of a) (body_of b) (words_long a b (exact_bytes (head_of a) (head_of b) tie)))
+    slice_cmp_append (head_of a) (head_of b) (words_of a ++ body_of a) (words_of b ++ body_of b)
+    (head_long a ∙ sym (head_long b))
+    ∙ then_same (slice_cmp nat_cmp (head_of a) (head_of b)) _ _
+    (λ tie. slice_cmp_append (words_of a) (words_of b) (body_of a) (body_of b)
+    (words_long a b (exact_bytes (head_of a) (head_of b) tie)))
 
 long_same : (m n : ℕ) (o : Ordering) → m ≡ n → ordering_then (nat_cmp m n) o ≡ o
 long_same m n o h = ap (λ x. ordering_then x o) (sym (nat_cmp_is m n Equal h))
 
 -- behind identities of one length the contents decide
 pub key_order : (s t : ℕ) (a b : List ℕ) (c d : Content) → length a ≡ length b
-    → slice_cmp nat_cmp (key_of s a c) (key_of t b d) ≡ ordering_then (nat_cmp s t) (ordering_then (slice_cmp nat_cmp a b) (slice_cmp nat_cmp (content_key c) (content_key d)))
-key_order s t a b c d h = ap (ordering_then (nat_cmp s t)) (long_same (length a) (length b) (slice_cmp nat_cmp (a ++ content_key c) (b ++ content_key d)) h ∙ slice_cmp_append a b (content_key c) (content_key d) h)
+    → slice_cmp nat_cmp (key_of s a c) (key_of t b d) ≡ ordering_then (nat_cmp s t)
+    (ordering_then (slice_cmp nat_cmp a b) (slice_cmp nat_cmp (content_key c) (content_key d)))
+key_order s t a b c d h = ap (ordering_then (nat_cmp s t)) (long_same (length a) (length b)
+    (slice_cmp nat_cmp (a ++ content_key c) (b ++ content_key d)) h
+    ∙ slice_cmp_append a b (content_key c) (content_key d) h)

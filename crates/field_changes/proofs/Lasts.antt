@@ -13,10 +13,12 @@ of_snoc : {X : Type 0} (ys : List X) (x : X) → last_of (ys ++ x ∷ []) ≡ So
 of_snoc [] x = refl
 of_snoc (y ∷ ys) x = ap Some (or_snoc y ys x)
 
-pub last_snoc : {X Y : Type 0} (f : X → Y) (p : X → Bool) (xs : List X) (x : X) → option_map f (last_where p (xs ++ x ∷ [])) ≡ cond (p x) (Some (f x)) (option_map f (last_where p xs))
+pub last_snoc : {X Y : Type 0} (f : X → Y) (p : X → Bool) (xs : List X) (x : X)
+    → option_map f (last_where p (xs ++ x ∷ [])) ≡ cond (p x) (Some (f x)) (option_map f (last_where p xs))
 last_snoc f p xs x =
     ap (λ l. option_map f (last_of l)) (filter-append p xs (x ∷ []))
-    ∙ elim (p x) as (λ b. option_map f (last_of (filter p xs ++ cond b (x ∷ []) [])) ≡ cond b (Some (f x)) (option_map f (last_where p xs))) [
+    ∙ elim (p x) as (λ b. option_map f (last_of (filter p xs ++ cond b (x ∷ []) []))
+    ≡ cond b (Some (f x)) (option_map f (last_where p xs))) [
       | true ↦ ap (option_map f) (of_snoc (filter p xs) x)
       | false ↦ ap (λ l. option_map f (last_of l)) (append-nil (filter p xs))
     ]

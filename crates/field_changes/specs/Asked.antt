@@ -1,5 +1,6 @@
 -- The requests that make a package hold what a file holds, in four parts, each in the register's order. Profile.
---     unlink   links of the package that are not in the file       delete   items of the package by which nothing in the file is called
+-- unlink links of the package that are not in the file delete items of the package by which nothing in the file is
+-- called
 --     add      items of the file whose names are new               link     links of the file that the package has not
 use Rattle.std.specs.Prelude.{◌≡◌, ℕ, Bool, List, [], ◌++◌, map, if◌then◌else◌, IsPermutation}
 use Rattle.std.specs.List.{AllZip}
@@ -32,10 +33,12 @@ linking p l = Link p l.mapping l.base l.other
 
 -- their commands in order
 abbrev pub commands : List ℕ → Parts → List Command
-commands p parts = map (unlinking p) parts.unlinks.items ++ map (deleting p) parts.deletes.items ++ map (adding p) parts.adds.items ++ map (linking p) parts.links.items
+commands p parts = map (unlinking p) parts.unlinks.items ++ map (deleting p) parts.deletes.items
+    ++ map (adding p) parts.adds.items ++ map (linking p) parts.links.items
 
 -- the parts for a package that holds these items and links at this ticket, and a file that has these
-pub record ArePartsFor (p : List ℕ) (ticket : ℕ) (items : List Item) (linked : List Relation) (more : Bool) (file : List HeldItem) (held : List HeldLink) (parts : Parts) : Type 0 where
+pub record ArePartsFor (p : List ℕ) (ticket : ℕ) (items : List Item) (linked : List Relation) (more : Bool)
+    (file : List HeldItem) (held : List HeldLink) (parts : Parts) : Type 0 where
   pub file_links : List Relation
   pub named : AllZip (IsLinkOf (names_of p ticket items file)) held file_links
   pub unlinks : parts.unlinks.items ≡ (if more then [] else beyond file_links linked)
@@ -46,7 +49,8 @@ pub record ArePartsFor (p : List ℕ) (ticket : ℕ) (items : List Item) (linked
   pub links_order : IsArranged link_key parts.links.items
 
 -- the requests, at this moment
-pub record AreChanges (p : List ℕ) (ticket : ℕ) (moment : List ℕ) (items : List Item) (linked : List Relation) (more : Bool) (file : List HeldItem) (held : List HeldLink) (requests : List Request) : Type 0 where
+pub record AreChanges (p : List ℕ) (ticket : ℕ) (moment : List ℕ) (items : List Item) (linked : List Relation)
+    (more : Bool) (file : List HeldItem) (held : List HeldLink) (requests : List Request) : Type 0 where
   pub parts : Parts
   pub for_file : ArePartsFor p ticket items linked more file held parts
   pub asked : requests ≡ map (request_of p ticket moment) (commands p parts)

@@ -10,4 +10,5 @@ use Rattle.field_changes.specs.declared.naming.Named.{Named}
 
 -- it has the identity of the item of each kind and number
 abbrev pub HoldsEnds : List Named → BTreeMap (List ℕ) (List ℕ) → Type 0
-HoldsEnds names ends = (kind : MovedKind) (number : ℤ) → get (slice_cmp nat_cmp) ends (number_key kind number) ≡ end_of names kind number
+HoldsEnds names ends = (kind : MovedKind) (number : ℤ) → get (slice_cmp nat_cmp) ends (number_key kind number)
+    ≡ end_of names kind number

@@ -1,5 +1,6 @@
 -- What the file has beyond the package, and the package beyond the file. Profile.
-use Rattle.std.specs.Prelude.{◌≡◌, ℕ, ℤ, not, List, [], ◌∷◌, ◌++◌, filter, Option, Some, option_map, if◌then◌else◌, bytes_eq}
+use Rattle.std.specs.Prelude.{◌≡◌, ℕ, ℤ, not, List, [], ◌∷◌, ◌++◌, filter, Option, Some, option_map, if◌then◌else◌}
+use Rattle.std.specs.Prelude.{bytes_eq}
 use Rattle.std.specs.Option.{option_and_then}
 use Rattle.sheet_types.specs.Ordered.{has, last_where}
 use Rattle.sheet_types.specs.Step.{relation}
@@ -28,11 +29,13 @@ new_items (n ∷ ns) (h ∷ hs) = new_item n h ++ new_items ns hs
 
 -- the identity of the item of this kind and number
 abbrev pub end_of : List Named → MovedKind → ℤ → Option (List ℕ)
-end_of names kind number = option_map (λ n. n.identity) (last_where (λ n. bytes_eq (number_key n.kind n.number) (number_key kind number)) names)
+end_of names kind number = option_map (λ n. n.identity) (last_where
+    (λ n. bytes_eq (number_key n.kind n.number) (number_key kind number)) names)
 
 -- a link of the file with its ends under their names, where both are there
 abbrev pub link_of : List Named → HeldLink → Option Relation
-link_of names l = option_and_then (λ base. option_map (λ other. relation l.mapping base other) (end_of names (other_kind l.mapping) l.other)) (end_of names (base_kind l.mapping) l.base)
+link_of names l = option_and_then (λ base. option_map (λ other. relation l.mapping base other)
+    (end_of names (other_kind l.mapping) l.other)) (end_of names (base_kind l.mapping) l.base)
 
 abbrev pub IsLinkOf : List Named → HeldLink → Relation → Type 0
 IsLinkOf names l r = link_of names l ≡ Some r

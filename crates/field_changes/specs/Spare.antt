@@ -22,7 +22,8 @@ HoldsCounts of xs m = (c : Content) → unwrap_or (get (slice_cmp nat_cmp) m (ra
 -- how many items there are of each content, and which stands at each place among them
 pub record HoldsSpare (left : List Item) (s : Spare) : Type 0 where
   pub counts : HoldsCounts (λ i. i.content) left s.counts
-  pub places : (c : Content) (place : ℕ) → get (slice_cmp nat_cmp) s.places (rank_key place c) ≡ slice_get (alike c left) place
+  pub places : (c : Content) (place : ℕ) → get (slice_cmp nat_cmp) s.places (rank_key place c)
+      ≡ slice_get (alike c left) place
 
 -- the items of a file have names, of which these stand before
 pub record IsWalk (items : List Item) (file before : List HeldItem) (w : Walk) : Type 0 where

@@ -26,7 +26,9 @@ fn ask_unlinks(
     requests: &mut Vec<Request>,
     links: &[Relation],
 ) -> Result<(), OutOfMemory>
-    ensures { IfOk result (λ _. requests.new.items ≡ requests.old.items ++ map (request_of asker.now.package asker.now.ticket asker.now.at.now) (map (unlinking asker.now.package) links.now)) }
+    ensures { IfOk result (λ _. requests.new.items ≡ requests.old.items
+        ++ map (request_of asker.now.package asker.now.ticket asker.now.at.now)
+        (map (unlinking asker.now.package) links.now)) }
 {
     for link in links {
         let request = asker.ask(
@@ -50,7 +52,9 @@ fn ask_deletes(
     requests: &mut Vec<Request>,
     ids: &[Uuid],
 ) -> Result<(), OutOfMemory>
-    ensures { IfOk result (λ _. requests.new.items ≡ requests.old.items ++ map (request_of asker.now.package asker.now.ticket asker.now.at.now) (map (deleting asker.now.package) ids.now)) }
+    ensures { IfOk result (λ _. requests.new.items ≡ requests.old.items
+        ++ map (request_of asker.now.package asker.now.ticket asker.now.at.now)
+        (map (deleting asker.now.package) ids.now)) }
 {
     for identity in ids {
         let request = asker.ask(
@@ -72,7 +76,9 @@ fn ask_adds(
     requests: &mut Vec<Request>,
     items: Vec<Item>,
 ) -> Result<(), OutOfMemory>
-    ensures { IfOk result (λ _. requests.new.items ≡ requests.old.items ++ map (request_of asker.now.package asker.now.ticket asker.now.at.now) (map (adding asker.now.package) items.items)) }
+    ensures { IfOk result (λ _. requests.new.items ≡ requests.old.items
+        ++ map (request_of asker.now.package asker.now.ticket asker.now.at.now)
+        (map (adding asker.now.package) items.items)) }
 {
     for item in items {
         let Item { identity, content } = item;
@@ -96,7 +102,9 @@ fn ask_links(
     requests: &mut Vec<Request>,
     links: &[Relation],
 ) -> Result<(), OutOfMemory>
-    ensures { IfOk result (λ _. requests.new.items ≡ requests.old.items ++ map (request_of asker.now.package asker.now.ticket asker.now.at.now) (map (linking asker.now.package) links.now)) }
+    ensures { IfOk result (λ _. requests.new.items ≡ requests.old.items
+        ++ map (request_of asker.now.package asker.now.ticket asker.now.at.now)
+        (map (linking asker.now.package) links.now)) }
 {
     for link in links {
         let request = asker.ask(
@@ -119,7 +127,8 @@ fn ask_links(
 ///
 /// Want of memory.
 pub fn requests(alloc: Global, asker: &Asker<'_>, parts: Parts) -> Result<Vec<Request>, OutOfMemory>
-    ensures { IfOk result (λ requests. requests.items ≡ map (request_of asker.now.package asker.now.ticket asker.now.at.now) (commands asker.now.package parts)) }
+    ensures { IfOk result (λ requests. requests.items ≡ map (request_of asker.now.package asker.now.ticket
+        asker.now.at.now) (commands asker.now.package parts)) }
 {
     let Parts {
         unlinks,

@@ -76,11 +76,13 @@ fn deletes(
     gone(alloc, names, items)
 }
 
-/// The four parts of the requests, for a package that holds this and a file of these items and links. With `more` nothing is taken away.
+/// The four parts of the requests, for a package that holds this and a file of these items and
+/// links. With `more` nothing is taken away.
 ///
 /// # Errors
 ///
-/// `List` where an end of a link is no item of the file or a link is there twice, `Identity` where two new items have one identity, and want of memory.
+/// `List` where an end of a link is no item of the file or a link is there twice, `Identity` where
+/// two new items have one identity, and want of memory.
 pub fn parts_for(
     alloc: Global,
     asker: &Asker<'_>,
@@ -89,7 +91,8 @@ pub fn parts_for(
     file: Vec<HeldItem>,
     held: &[HeldLink],
 ) -> Result<Parts, Unasked>
-    ensures { IfOk result (λ parts. ArePartsFor asker.now.package asker.now.ticket holdings.now.items.now holdings.now.links.now more file.items held.now parts) }
+    ensures { IfOk result (λ parts. ArePartsFor asker.now.package asker.now.ticket holdings.now.items.now
+        holdings.now.links.now more file.items held.now parts) }
 {
     let names = names(
         alloc,
@@ -120,9 +123,11 @@ pub fn parts_for(
     })
 }
 
-/// The requests that make a package hold what a file holds: of the package and the ticket that `asker` names, at its moment.
+/// The requests that make a package hold what a file holds: of the package and the ticket that
+/// `asker` names, at its moment.
 ///
-/// Whether an identity was used in the world, or a request is kept there, is left to the world, which refuses such a request.
+/// Whether an identity was used in the world, or a request is kept there, is left to the world,
+/// which refuses such a request.
 ///
 /// # Errors
 ///
@@ -135,7 +140,8 @@ pub fn changes(
     file: Vec<HeldItem>,
     held: &[HeldLink],
 ) -> Result<Vec<Request>, Unasked>
-    ensures { IfOk result (λ requests. AreChanges asker.now.package asker.now.ticket asker.now.at.now holdings.now.items.now holdings.now.links.now more file.items held.now requests.items) }
+    ensures { IfOk result (λ requests. AreChanges asker.now.package asker.now.ticket asker.now.at.now
+        holdings.now.items.now holdings.now.links.now more file.items held.now requests.items) }
 {
     let parts = parts_for(alloc, asker, holdings, more, file, held)?;
     Ok(requests(alloc, asker, parts)?)

@@ -61,8 +61,10 @@ pub fn links_of(
     names: &[Named],
     links: &[HeldLink],
 ) -> Result<Option<Vec<Relation>>, OutOfMemory>
-    ensures some { IfOk result (λ found. IfSome found (λ relations. AllZip (IsLinkOf names.now) links.now relations.items)) }
-    ensures none { IfOk result (λ found. IfNone found ((relations : List Relation) → ¬ AllZip (IsLinkOf names.now) links.now relations)) }
+    ensures some { IfOk result (λ found. IfSome found (λ relations. AllZip (IsLinkOf names.now) links.now
+        relations.items)) }
+    ensures none { IfOk result (λ found. IfNone found ((relations : List Relation)
+        → ¬ AllZip (IsLinkOf names.now) links.now relations)) }
 {
     let ends = ends_of(alloc, names)?;
     let mut relations = Vec::new(alloc);

@@ -11,7 +11,8 @@ pub struct Export {
     pub ticket: i64,
 }
 
-/// An item of a file, by its number among those of its kind. The identity that stands beside it may be missing, or that of another item.
+/// An item of a file, by its number among those of its kind. The identity that stands beside it may
+/// be missing, or that of another item.
 #[derive(Drop)]
 pub struct HeldItem {
     pub number: i64,
@@ -27,7 +28,8 @@ pub struct HeldLink {
     pub other: i64,
 }
 
-/// A record of a file that could not be listed, by its number, if it has one: its kind, a space, and a word that says why.
+/// A record of a file that could not be listed, by its number, if it has one: its kind, a space,
+/// and a word that says why.
 #[derive(Drop)]
 pub struct BadRecord {
     pub number: Option<i64>,

@@ -82,7 +82,8 @@ impl<'a> Asker<'a> {
     ///
     /// Want of memory.
     pub fn ask(&self, alloc: Global, command: Command) -> Result<Request, OutOfMemory>
-        ensures { IfOk result (λ request. request ≡ request_of self.now.package self.now.ticket self.now.at.now command) }
+        ensures { IfOk result (λ request. request ≡ request_of self.now.package self.now.ticket self.now.at.now
+            command) }
     {
         let words = line(alloc, &command)?;
         let text = request_text(alloc, self.package, self.ticket, words.as_str())?;

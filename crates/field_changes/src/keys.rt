@@ -2,10 +2,12 @@
 ghost use Rattle.std.specs.Prelude.{◌≡◌, Some, [], refl, length, nat_eq, ℤ};
 ghost use Rattle.std.specs.Ordering.{nat_cmp, ordering_then};
 ghost use Rattle.std.specs.Cmp.{partial_equiv_from_equiv};
-ghost use Rattle.std.specs.Cmp.Lexicographic.{pointwise, slice_cmp, nat_list_eq_equiv, nat_list_cmp_total, texts_ties, texts_po};
+ghost use Rattle.std.specs.Cmp.Lexicographic.{pointwise, slice_cmp, nat_list_eq_equiv, nat_list_cmp_total, texts_ties};
+ghost use Rattle.std.specs.Cmp.Lexicographic.{texts_po};
 ghost use Rattle.sheet_types.specs.World.{link_key};
 ghost use Rattle.field_changes.specs.Keys.{number_key};
-ghost use Rattle.field_changes.specs.Keys.{sign, numbered, head_of, words_of, body_of, content_key, key_of, item_mark, rank_key};
+ghost use Rattle.field_changes.specs.Keys.{sign, numbered, head_of, words_of, body_of, content_key, key_of, item_mark};
+ghost use Rattle.field_changes.specs.Keys.{rank_key};
 
 use sheet_types::command::{Content, Item, Relation};
 use sheet_types::receipt::MovedKind;
@@ -13,7 +15,8 @@ use std::cmp::Ordering;
 use std::marker::Model;
 use uuid::Uuid;
 
-/// A number, an identity and a content, as a key. To a contract it is the list of the number, the identity behind its length, and what tells contents apart.
+/// A number, an identity and a content, as a key. To a contract it is the list of the number, the
+/// identity behind its length, and what tells contents apart.
 #[derive(Drop)]
 pub(crate) struct Key<'a> {
     rank: u64,

@@ -1,5 +1,6 @@
 //! What the items of a file are called in the package.
-ghost use Rattle.std.specs.Prelude.{◌≡◌, ◌||◌, ◌+◌, ◌-◌, ◌<◌, ◌++◌, ◌^◌, ◌∷◌, [], true, false, not, ℕ, List, Some, MatchOption, bytes_eq, filter, if◌then◌else◌, unwrap_or, IfOk, length};
+ghost use Rattle.std.specs.Prelude.{◌≡◌, ◌||◌, ◌+◌, ◌-◌, ◌<◌, ◌++◌, ◌^◌, ◌∷◌, [], true, false, not, ℕ, List, Some};
+ghost use Rattle.std.specs.Prelude.{MatchOption, bytes_eq, filter, if◌then◌else◌, unwrap_or, IfOk, length};
 ghost use Rattle.std.specs.List.{list_any};
 ghost use Rattle.std.specs.Ordering.{nat_cmp};
 ghost use Rattle.std.specs.Cmp.Lexicographic.{slice_cmp};
@@ -44,7 +45,8 @@ fn marks_of<'a>(alloc: Global, items: &'a [Item]) -> Result<BTreeSet<Key<'a>>, O
 
 // Notes what an item of the file is marked as, and whether that is new.
 fn note_mark<'a>(marks: &mut BTreeSet<Key<'a>>, item: &'a HeldItem) -> Result<(), OutOfMemory>
-    ensures { IfOk result (λ _. (q : List ℕ) → contains (slice_cmp nat_cmp) marks.new q ≡ (contains (slice_cmp nat_cmp) marks.old q || is_marked q item.now)) }
+    ensures { IfOk result (λ _. (q : List ℕ) → contains (slice_cmp nat_cmp) marks.new q
+        ≡ (contains (slice_cmp nat_cmp) marks.old q || is_marked q item.now)) }
 {
     if let Some(identity) = item.identity {
         marks.insert(Key::of_mark(identity, &item.content))?;
@@ -54,7 +56,8 @@ fn note_mark<'a>(marks: &mut BTreeSet<Key<'a>>, item: &'a HeldItem) -> Result<()
 
 // The marks of the items of a file.
 fn marks_in<'a>(alloc: Global, file: &'a [HeldItem]) -> Result<BTreeSet<Key<'a>>, OutOfMemory>
-    ensures { IfOk result (λ marks. (q : List ℕ) → contains (slice_cmp nat_cmp) marks q ≡ list_any (is_marked q) file.now) }
+    ensures { IfOk result (λ marks. (q : List ℕ) → contains (slice_cmp nat_cmp) marks q
+        ≡ list_any (is_marked q) file.now) }
 {
     let mut marks = BTreeSet::new(alloc);
     for item in file {
@@ -88,14 +91,16 @@ fn count_up<'a>(
 ) -> Result<u64, OutOfMemory>
     requires { unwrap_or (get (slice_cmp nat_cmp) counts.old (rank_key 0 content.now)) 0 < 2 ^ 64 - 1 }
     ensures before { IfOk result (λ n. n ≡ unwrap_or (get (slice_cmp nat_cmp) counts.old (rank_key 0 content.now)) 0) }
-    ensures after { IfOk result (λ n. (q : List ℕ) → get (slice_cmp nat_cmp) counts.new q ≡ (if bytes_eq (rank_key 0 content.now) q then Some (n + 1) else get (slice_cmp nat_cmp) counts.old q)) }
+    ensures after { IfOk result (λ n. (q : List ℕ) → get (slice_cmp nat_cmp) counts.new q
+        ≡ (if bytes_eq (rank_key 0 content.now) q then Some (n + 1) else get (slice_cmp nat_cmp) counts.old q)) }
 {
     let count = count_of(counts, content);
     counts.insert(Key::of_rank(0, content), count + 1)?;
     Ok(count)
 }
 
-// The items of a package that nothing in the file is marked as: how many there are of each content, and which stands at each place among them.
+// The items of a package that nothing in the file is marked as: how many there are of each content,
+// and which stands at each place among them.
 #[derive(Drop)]
 pub(crate) struct Spare<'a> {
     pub(crate) counts: BTreeMap<Key<'a>, u64>,
@@ -116,7 +121,8 @@ impl<'a> Spare<'a> {
     // One more.
     fn add(&mut self, item: &'a Item) -> Result<(), OutOfMemory>
         requires { (left : List Item) × HoldsSpare left self.old × (length left < 2 ^ 64 - 1) }
-        ensures { IfOk result (λ _. (left : List Item) → HoldsSpare left self.old → HoldsSpare (left ++ item.now ∷ []) self.new) }
+        ensures { IfOk result (λ _. (left : List Item) → HoldsSpare left self.old
+            → HoldsSpare (left ++ item.now ∷ []) self.new) }
     {
         let place = count_up(&mut self.counts, &item.content)?;
         self.places
@@ -131,7 +137,9 @@ impl<'a> Spare<'a> {
         item: &'a Item,
     ) -> Result<(), OutOfMemory>
         requires { (left : List Item) × HoldsSpare left self.old × (length left < 2 ^ 64 - 1) }
-        ensures { IfOk result (λ _. (left : List Item) → HoldsSpare left self.old → HoldsSpare (left ++ filter (λ i. not (contains (slice_cmp nat_cmp) marked.now (item_mark i))) (item.now ∷ [])) self.new) }
+        ensures { IfOk result (λ _. (left : List Item) → HoldsSpare left self.old
+            → HoldsSpare (left ++ filter (λ i. not (contains (slice_cmp nat_cmp) marked.now (item_mark i)))
+            (item.now ∷ [])) self.new) }
     {
         if marked.contains(&Key::of_item(item)) {
             return Ok(());
@@ -160,7 +168,8 @@ fn spare_of<'a>(
     items: &'a [Item],
     marked: &BTreeSet<Key<'a>>,
 ) -> Result<Spare<'a>, OutOfMemory>
-    ensures { IfOk result (λ spare. HoldsSpare (filter (λ i. not (contains (slice_cmp nat_cmp) marked.now (item_mark i))) items.now) spare) }
+    ensures { IfOk result (λ spare. HoldsSpare (filter (λ i. not
+        (contains (slice_cmp nat_cmp) marked.now (item_mark i))) items.now) spare) }
 {
     let mut spare = Spare::new(alloc);
     for item in items {
@@ -186,7 +195,8 @@ impl<'a> Walk<'a> {
     // The identity that an item names, where it is its own.
     fn own(&self, item: &'a HeldItem) -> Option<Uuid>
         ensures { (items : List Item) (file before : List HeldItem) → IsWalk items file before self.now
-            → MatchOption result (is_own items before item.now ≡ false) (λ id. (is_own items before item.now ≡ true) × (item.now.identity ≡ Some id)) }
+            → MatchOption result (is_own items before item.now ≡ false)
+            (λ id. (is_own items before item.now ≡ true) × (item.now.identity ≡ Some id)) }
     {
         let identity = item.identity?;
         let mark = Key::of_mark(identity, &item.content);
@@ -199,9 +209,12 @@ impl<'a> Walk<'a> {
 
     // The name of the next item.
     fn next(&mut self, item: &'a HeldItem) -> Result<Name, OutOfMemory>
-        requires { (items : List Item) × (file : List HeldItem) × (before : List HeldItem) × IsWalk items file before self.old × (length before < 2 ^ 64 - 1) }
-        ensures name { IfOk result (λ name. (items : List Item) (file before : List HeldItem) → IsWalk items file before self.old → name ≡ name_of items file before item.now) }
-        ensures walk { IfOk result (λ _. (items : List Item) (file before : List HeldItem) → IsWalk items file before self.old → IsWalk items file (before ++ item.now ∷ []) self.new) }
+        requires { (items : List Item) × (file : List HeldItem) × (before : List HeldItem)
+            × IsWalk items file before self.old × (length before < 2 ^ 64 - 1) }
+        ensures name { IfOk result (λ name. (items : List Item) (file before : List HeldItem)
+            → IsWalk items file before self.old → name ≡ name_of items file before item.now) }
+        ensures walk { IfOk result (λ _. (items : List Item) (file before : List HeldItem)
+            → IsWalk items file before self.old → IsWalk items file (before ++ item.now ∷ []) self.new) }
     {
         let own = self.own(item);
         note_mark(&mut self.seen, item)?;
@@ -267,7 +280,8 @@ fn known_as(
     })
 }
 
-/// The items of a file under their names, in their order. Its time grows as the number of items times its logarithm, and no content is copied.
+/// The items of a file under their names, in their order. Its time grows as the number of items
+/// times its logarithm, and no content is copied.
 ///
 /// # Errors
 ///

@@ -1,5 +1,6 @@
 //! What the file has beyond the package, and the package beyond the file.
-ghost use Rattle.std.specs.Prelude.{◌≡◌, ◌++◌, ◌∷◌, [], not, ℕ, List, IfOk, IfErr, bytes_eq, filter, map, IsPermutation};
+ghost use Rattle.std.specs.Prelude.{◌≡◌, ◌++◌, ◌∷◌, [], not, ℕ, List, IfOk, IfErr, bytes_eq, filter, map};
+ghost use Rattle.std.specs.Prelude.{IsPermutation};
 ghost use Rattle.std.specs.List.{AllByRecursion, IsDistinct};
 ghost use Rattle.std.specs.Ordering.{nat_cmp};
 ghost use Rattle.std.specs.Cmp.Lexicographic.{slice_cmp};
@@ -41,7 +42,8 @@ fn push_beyond(
     keys: &BTreeSet<LinkKey>,
     link: &Relation,
 ) -> Result<(), OutOfMemory>
-    ensures { IfOk result (λ _. links.new.items ≡ links.old.items ++ filter (λ l. not (contains (slice_cmp nat_cmp) keys.now (link_key l))) (link.now ∷ [])) }
+    ensures { IfOk result (λ _. links.new.items ≡ links.old.items
+        ++ filter (λ l. not (contains (slice_cmp nat_cmp) keys.now (link_key l))) (link.now ∷ [])) }
 {
     if keys.contains(&LinkKey::of(link)) {
         return Ok(());
@@ -56,7 +58,8 @@ fn without_keys(
     keys: &BTreeSet<LinkKey>,
     links: &[Relation],
 ) -> Result<Vec<Relation>, OutOfMemory>
-    ensures { IfOk result (λ left. left.items ≡ filter (λ l. not (contains (slice_cmp nat_cmp) keys.now (link_key l))) links.now) }
+    ensures { IfOk result (λ left. left.items ≡ filter (λ l. not (contains (slice_cmp nat_cmp) keys.now (link_key l)))
+        links.now) }
 {
     let mut left = Vec::new(alloc);
     for link in links {
@@ -83,7 +86,8 @@ pub fn beyond(
 
 // The identities by which items of the file are called.
 fn names_of(alloc: Global, names: &[Named]) -> Result<BTreeSet<Uuid>, OutOfMemory>
-    ensures { IfOk result (λ known. (q : List ℕ) → contains (slice_cmp nat_cmp) known q ≡ has (λ n. n.identity) q names.now) }
+    ensures { IfOk result (λ known. (q : List ℕ) → contains (slice_cmp nat_cmp) known q
+        ≡ has (λ n. n.identity) q names.now) }
 {
     let mut known = BTreeSet::new(alloc);
     for name in names {
@@ -94,7 +98,8 @@ fn names_of(alloc: Global, names: &[Named]) -> Result<BTreeSet<Uuid>, OutOfMemor
 
 // Puts the identity of an item behind the others, where it is none of these.
 fn push_gone(ids: &mut Vec<Uuid>, known: &BTreeSet<Uuid>, item: &Item) -> Result<(), OutOfMemory>
-    ensures { IfOk result (λ _. ids.new.items ≡ ids.old.items ++ identities (filter (λ i. not (contains (slice_cmp nat_cmp) known.now i.identity)) (item.now ∷ []))) }
+    ensures { IfOk result (λ _. ids.new.items ≡ ids.old.items
+        ++ identities (filter (λ i. not (contains (slice_cmp nat_cmp) known.now i.identity)) (item.now ∷ []))) }
 {
     if known.contains(&item.identity) {
         return Ok(());
@@ -105,7 +110,8 @@ fn push_gone(ids: &mut Vec<Uuid>, known: &BTreeSet<Uuid>, item: &Item) -> Result
 
 // The identities of the items that are none of these.
 fn unknown(alloc: Global, known: &BTreeSet<Uuid>, items: &[Item]) -> Result<Vec<Uuid>, OutOfMemory>
-    ensures { IfOk result (λ ids. ids.items ≡ identities (filter (λ i. not (contains (slice_cmp nat_cmp) known.now i.identity)) items.now)) }
+    ensures { IfOk result (λ ids. ids.items ≡ identities (filter
+        (λ i. not (contains (slice_cmp nat_cmp) known.now i.identity)) items.now)) }
 {
     let mut ids = Vec::new(alloc);
     for item in items {
@@ -189,7 +195,8 @@ pub fn items_in_order(mut items: Vec<Item>) -> Result<Vec<Item>, Twice>
 pub fn links_in_order(mut links: Vec<Relation>) -> Result<Vec<Relation>, Twice>
     ensures same { IfOk result (λ sorted. IsPermutation links.items sorted.items) }
     ensures order { IfOk result (λ sorted. IsArranged link_key sorted.items) }
-    ensures twice { IfErr result (λ _. AllByRecursion (λ l. IsUuid l.base) links.items → IsDistinct bytes_eq (map link_key links.items) → ⊥) }
+    ensures twice { IfErr result (λ _. AllByRecursion (λ l. IsUuid l.base) links.items
+        → IsDistinct bytes_eq (map link_key links.items) → ⊥) }
 {
     links.sort_unstable_by_key(|link| (link.mapping.link_kind().number(), link.base, link.other));
     if links.is_sorted_by(|link, next| link_is_before(link, next)) {

@@ -1,5 +1,6 @@
 -- Entries that are no whole list.
-use Rattle.std.proofs.Common.{◌≡◌, ◌∙◌, ℕ, ◌<◌, List, [], ◌∷◌, map, length, true, false, true≢false, refl, ap, sym, Option, Some, None, Result, Ok, Err, IfOk, arith}
+use Rattle.std.proofs.Common.{◌≡◌, ◌∙◌, ℕ, ◌<◌, List, [], ◌∷◌, map, length, true, false, true≢false, refl, ap, sym}
+use Rattle.std.proofs.Common.{Option, Some, None, Result, Ok, Err, IfOk, arith}
 use Rattle.std.specs.Prelude.{◌↔◌, Bool, IsTrue, bytes_eq}
 use Rattle.std.specs.declared.cmp.Ordering.{Ordering}
 use Rattle.std.specs.declared.cmp.Ordering.TheVariants.{Less, Equal, Greater}
@@ -16,9 +17,11 @@ use Rattle.field_changes.specs.declared.held.Held.{Held}
 use Rattle.field_changes.specs.declared.held.HeldItem.{HeldItem}
 use Rattle.field_changes.specs.declared.held.HeldLink.{HeldLink}
 use Rattle.field_lists.specs.declared.entries.Listed.{Listed}
-use Rattle.field_faults.specs.Files.{bad_in, closes, export_in, frame_in, held_key, item_in, link_in, system_in, IsHeld, IsOnly, LeadUnlessBad}
+use Rattle.field_faults.specs.Files.{bad_in, closes, export_in, frame_in, held_key, item_in, link_in, system_in}
+use Rattle.field_faults.specs.Files.{IsHeld, IsOnly, LeadUnlessBad}
 
-apart_from : {X : Type 0} (key : X → List ℕ) (k : List ℕ) (xs : List X) → AllByRecursion (λ y. is_before k (key y) ≡ true) xs → AllByRecursion (λ k'. bytes_eq k k' ≡ false) (map key xs)
+apart_from : {X : Type 0} (key : X → List ℕ) (k : List ℕ) (xs : List X)
+    → AllByRecursion (λ y. is_before k (key y) ≡ true) xs → AllByRecursion (λ k'. bytes_eq k k' ≡ false) (map key xs)
 apart_from key k [] h = tt
 apart_from key k (y ∷ ys) h = (before-differs k (key y) h.0, apart_from key k ys h.1)
 
@@ -47,7 +50,8 @@ module _ (entries : List Listed) (h : Held) where
   pub two_frames : 1 < length (filter_map frame_in entries) → IsHeld entries h → ⊥
   two_frames less held = many (filter_map frame_in entries) h.frame less held.frame
 
-  pub none_lead : (bads : List BadRecord) (items : List HeldItem) (links : List HeldLink) (all : Bool) → bads ≡ filter_map bad_in entries → items ≡ filter_map item_in entries → links ≡ filter_map link_in entries
+  pub none_lead : (bads : List BadRecord) (items : List HeldItem) (links : List HeldLink) (all : Bool)
+      → bads ≡ filter_map bad_in entries → items ≡ filter_map item_in entries → links ≡ filter_map link_in entries
       → (IsTrue all ↔ LeadUnlessBad bads items links) → all ≡ false → IsHeld entries h → ⊥
   none_lead bads items links true b i l it none held = true≢false none
   none_lead bads items links false b i l it none held =
@@ -56,10 +60,13 @@ module _ (entries : List Listed) (h : Held) where
 
   pub one_twice : (IsDistinct bytes_eq (map held_key (filter_map item_in entries)) → ⊥) → IsHeld entries h → ⊥
   one_twice none held =
-      none (moved_apart held_key h.items.items (filter_map item_in entries) (IsPermutation-sym (filter_map item_in entries) h.items.items held.same_items) (set_apart held_key h.items.items held.order))
+      none (moved_apart held_key h.items.items (filter_map item_in entries)
+      (IsPermutation-sym (filter_map item_in entries) h.items.items held.same_items)
+      (set_apart held_key h.items.items held.order))
 
 -- what is asked only where nothing is in a list
-pub unless : {E : Type 0} (n : ℕ) (L : Type 0) (r : Result Bool E) → n ≡ 0 → IfOk r (λ all. IsTrue all ↔ L) → IfOk r (λ all. IsTrue all ↔ (n ≡ 0 → L))
+pub unless : {E : Type 0} (n : ℕ) (L : Type 0) (r : Result Bool E) → n ≡ 0 → IfOk r (λ all. IsTrue all ↔ L)
+    → IfOk r (λ all. IsTrue all ↔ (n ≡ 0 → L))
 unless n L (Ok all) none it = (λ t e. it.0 t, λ f. it.1 (f none))
 unless n L (Err e) none it = tt
 
@@ -69,6 +76,8 @@ then_equal Equal = refl
 then_equal Greater = refl
 
 -- the order of three numbers in turn is that of the list of them
-pub three_ordered : (m n s t u v : ℕ) → is_before (m ∷ s ∷ u ∷ []) (n ∷ t ∷ v ∷ []) ≡ is_lt (ordering_then (ordering_then (nat_cmp m n) (nat_cmp s t)) (nat_cmp u v))
+pub three_ordered : (m n s t u v : ℕ) → is_before (m ∷ s ∷ u ∷ []) (n ∷ t ∷ v ∷ [])
+    ≡ is_lt (ordering_then (ordering_then (nat_cmp m n) (nat_cmp s t)) (nat_cmp u v))
 three_ordered m n s t u v =
-    ap (λ o. is_lt (ordering_then (nat_cmp m n) (ordering_then (nat_cmp s t) o))) (then_equal (nat_cmp u v)) ∙ ap is_lt (then_assoc (nat_cmp m n) (nat_cmp s t) (nat_cmp u v))
+    ap (λ o. is_lt (ordering_then (nat_cmp m n) (ordering_then (nat_cmp s t) o))) (then_equal (nat_cmp u v))
+    ∙ ap is_lt (then_assoc (nat_cmp m n) (nat_cmp s t) (nat_cmp u v))

@@ -207,7 +207,8 @@ known_more false one two mine = elim (bytes_eq one two) as (λ b. bytes_eq one t
           → true ≡ (not b || not (bytes_eq two mine))) [
             | true ↦ λ f.
                 let same : one ≡ mine = (bytes_eq-Decides one mine).0 f in
-                let other : bytes_eq two mine ≡ false = not_same two mine (λ g. false≢true (sym e ∙ (bytes_eq-Decides one two).1 (same ∙ sym g))) in
+                let other : bytes_eq two mine ≡ false = not_same two mine
+                (λ g. false≢true (sym e ∙ (bytes_eq-Decides one two).1 (same ∙ sym g))) in
                 sym (ap not other)
             | false ↦ λ f. refl
           ] refl
@@ -226,17 +227,20 @@ known_more false one two mine = elim (bytes_eq one two) as (λ b. bytes_eq one t
 -- a tile more is put in
 pub tile_noted : (z c r : ℤ) (bytes : List ℕ) (i : Item) → i.content ≡ Tile z c r bytes
     → (s t : BTreeMap (List ℕ) Lying) (k : List ℕ) (lying : Lying) → k ≡ place_key z c r
-    → ((mine : List ℕ) → has_other (Some lying) mine ≡ (has_other (get (slice_cmp nat_cmp) s k) mine || not (bytes_eq bytes mine)))
+    → ((mine : List ℕ) → has_other (Some lying) mine ≡ (has_other (get (slice_cmp nat_cmp) s k) mine || not
+    (bytes_eq bytes mine)))
     → ((q : List ℕ) → get (slice_cmp nat_cmp) t q ≡ cond (bytes_eq k q) (Some lying) (get (slice_cmp nat_cmp) s q))
     → (zoom column row : ℤ) (mine : List ℕ)
     → has_other (get (slice_cmp nat_cmp) t (place_key zoom column row)) mine
     ≡ (has_other (get (slice_cmp nat_cmp) s (place_key zoom column row)) mine || is_other_at zoom column row mine i)
 tile_noted z c r bytes i is s t k lying key with step zoom column row mine =
     let q = place_key zoom column row in
-    let at : bytes_eq k q ≡ is_at zoom column row (Tile z c r bytes) = ap (λ l. bytes_eq l q) key ∙ same_place z c r zoom column row in
+    let at : bytes_eq k q ≡ is_at zoom column row (Tile z c r bytes) =
+    ap (λ l. bytes_eq l q) key ∙ same_place z c r zoom column row in
     ap (λ o. has_other o mine) (step q)
     ∙ elim (bytes_eq k q) as (λ b. bytes_eq k q ≡ b → has_other (cond b (Some lying) (get (slice_cmp nat_cmp) s q)) mine
-    ≡ (has_other (get (slice_cmp nat_cmp) s q) mine || (is_at zoom column row (Tile z c r bytes) && not (bytes_eq bytes mine)))) [
+    ≡ (has_other (get (slice_cmp nat_cmp) s q) mine || (is_at zoom column row (Tile z c r bytes) && not
+    (bytes_eq bytes mine)))) [
       | true ↦ λ e.
           let same : k ≡ q = (bytes_eq-Decides k q).0 e in
           with mine ∙ ap (λ l. has_other (get (slice_cmp nat_cmp) s l) mine || not (bytes_eq bytes mine)) same
@@ -245,13 +249,15 @@ tile_noted z c r bytes i is s t k lying key with step zoom column row mine =
           sym (or-false (has_other (get (slice_cmp nat_cmp) s q) mine))
           ∙ ap (λ b. has_other (get (slice_cmp nat_cmp) s q) mine || (b && not (bytes_eq bytes mine))) (sym e ∙ at)
     ] refl
-    ∙ ap (λ x. has_other (get (slice_cmp nat_cmp) s q) mine || (is_at zoom column row x && not (bytes_eq (bytes_of x) mine))) (sym is)
+    ∙ ap (λ x. has_other (get (slice_cmp nat_cmp) s q) mine ||
+    (is_at zoom column row x && not (bytes_eq (bytes_of x) mine))) (sym is)
 
 -- any other is not
 pub no_tile_noted : (i : Item) (x : Content) → i.content ≡ x → ((zoom column row : ℤ) → is_at zoom column row x ≡ false)
     → (b : Bool) (zoom column row : ℤ) (mine : List ℕ) → b ≡ (b || is_other_at zoom column row mine i)
 no_tile_noted i x is other b zoom column row mine = sym (or-false b)
-    ∙ ap (λ v. b || (v && not (bytes_eq (bytes_of i.content) mine))) (sym (ap (is_at zoom column row) is ∙ other zoom column row))
+    ∙ ap (λ v. b || (v && not (bytes_eq (bytes_of i.content) mine)))
+    (sym (ap (is_at zoom column row) is ∙ other zoom column row))
 
 -- the tiles so far, and one more
 pub tiles_more : (items : List Item) (n : ℕ) (i : Item) → n < length items → i ≡ get_or items n i

@@ -1,5 +1,6 @@
 -- What a file holds, of the entries of its list. Profile.
-use Rattle.std.specs.Prelude.{◌≡◌, ℕ, ◌-◌, ℤ, Bool, true, false, ◌&&◌, List, [], ◌∷◌, Option, Some, None, map, length, count_by, nat_eq, slice_get, IsPermutation}
+use Rattle.std.specs.Prelude.{◌≡◌, ℕ, ◌-◌, ℤ, Bool, true, false, ◌&&◌, List, [], ◌∷◌, Option, Some, None, map, length}
+use Rattle.std.specs.Prelude.{count_by, nat_eq, slice_get, IsPermutation}
 use Rattle.std.specs.List.{AllZip, filter_map}
 use Rattle.std.specs.Option.{option_map_or}
 use Rattle.uuid.specs.Parts.{zero_bytes}
@@ -58,7 +59,8 @@ ends_after count entry = false
 
 -- no entry but the last is an end, and that counts those before it
 abbrev pub closes : List Listed → Bool
-closes entries = option_map_or (λ last. nat_eq (count_by is_end entries) 1 && ends_after (length entries - 1) last) (slice_get entries (length entries - 1)) false
+closes entries = option_map_or (λ last. nat_eq (count_by is_end entries) 1 && ends_after (length entries - 1) last)
+    (slice_get entries (length entries - 1)) false
 
 -- it is there once at most
 abbrev pub IsOnly : {X : Type 0} → List X → Option X → Type 0
@@ -81,7 +83,8 @@ Lead items links = (ends : List Relation) × AllZip (IsLinkOf (map plain items))
 abbrev pub LeadUnlessBad : List BadRecord → List HeldItem → List HeldLink → Type 0
 LeadUnlessBad bad items links = length bad ≡ 0 → Lead items links
 
--- The entries are a whole list, and this is what the file holds: its items by kind and number, of which each is there once.
+-- The entries are a whole list, and this is what the file holds: its items by kind and number, of which each is there
+-- once.
 pub record IsHeld (entries : List Listed) (h : Held) : Type 0 where
   pub closed : closes entries ≡ true
   pub export : IsOnly (filter_map export_in entries) h.export

@@ -1,5 +1,6 @@
 -- Whether a file is one of this package as it is. Profile.
-use Rattle.std.specs.Prelude.{ℕ, ◌^◌, Bool, true, false, not, ◌&&◌, ◌||◌, List, [], ◌∷◌, Option, Some, None, ℤ, pos, ◌*ℤ◌, int_le, nat_eq, unsigned_abs, bytes_eq, codes, take}
+use Rattle.std.specs.Prelude.{ℕ, ◌^◌, Bool, true, false, not, ◌&&◌, ◌||◌, List, [], ◌∷◌, Option, Some, None, ℤ, pos}
+use Rattle.std.specs.Prelude.{◌*ℤ◌, int_le, nat_eq, unsigned_abs, bytes_eq, codes, take}
 use Rattle.std.specs.List.{list_any}
 use Rattle.sheet_types.specs.Matrix.{is_within, first_row, is_good_frame, tile_span_x, tile_span_y}
 use Rattle.sheet_types.specs.Texts.{kind_of}
@@ -50,16 +51,20 @@ height_at_zero f = tile_span_y f f.first_zoom *ℤ pos (2 ^ unsigned_abs f.first
 
 -- the corner from which columns and rows count, the system, and the pixels of a tile
 abbrev pub same_corner : Frame → Frame → Bool
-same_corner mine theirs = is_same mine.srs_id theirs.srs_id && is_same mine.min_x theirs.min_x && is_same mine.max_y theirs.max_y && is_same mine.tile_width theirs.tile_width && is_same mine.tile_height theirs.tile_height
+same_corner mine theirs = is_same mine.srs_id theirs.srs_id && is_same mine.min_x theirs.min_x && is_same mine.max_y
+    theirs.max_y && is_same mine.tile_width theirs.tile_width && is_same mine.tile_height theirs.tile_height
 
 abbrev pub same_spans : Frame → Frame → Bool
-same_spans mine theirs = is_same (width_at_zero mine) (width_at_zero theirs) && is_same (height_at_zero mine) (height_at_zero theirs)
+same_spans mine theirs = is_same (width_at_zero mine) (width_at_zero theirs) && is_same (height_at_zero mine)
+    (height_at_zero theirs)
 
--- a place of one is the same ground in the other, whatever zooms they have and how far they reach to the east and the south
+-- a place of one is the same ground in the other, whatever zooms they have and how far they reach to the east and the
+-- south
 abbrev pub same_grid : Frame → Frame → Bool
 same_grid mine theirs = same_corner mine theirs && (is_good_frame theirs && same_spans mine theirs)
 
--- its tiles have this grid; a file without tiles needs none, and where the frame could not be listed that is told as a record
+-- its tiles have this grid; a file without tiles needs none, and where the frame could not be listed that is told as
+-- a record
 abbrev pub has_grid : Frame → Option Frame → Bool → Bool
 has_grid mine None has_tiles = not has_tiles
 has_grid mine (Some theirs) has_tiles = same_grid mine theirs
@@ -74,5 +79,8 @@ head_fault p ticket frame more held = first_row
     ((not (is_of p more held.export), OtherPackage)
     ∷ (is_stale ticket held.export, Stale)
     ∷ (not (has_system frame.srs_id held.system (has_kind RowItem held.items.items)), OtherSystem)
-    ∷ (not (list_any tells_frame held.bad.items || has_grid frame held.frame (has_kind TileItem held.items.items)), OtherFrame)
+    ∷ (
+      not (list_any tells_frame held.bad.items || has_grid frame held.frame (has_kind TileItem held.items.items)),
+      OtherFrame,
+    )
     ∷ [])

@@ -1,5 +1,7 @@
 -- The records of a file that a package cannot hold, a line each. Profile.
-use Rattle.std.specs.Prelude.{◌≡◌, ℕ, ◌-◌, ◌==◌, Bool, true, false, not, ◌&&◌, ◌||◌, List, [], ◌∷◌, ◌++◌, filter, flat_map, Option, Some, None, ℤ, pos, int_lt, unsigned_abs, unwrap_or, is_none, if◌then◌else◌, bytes_eq, codes, slice_get}
+use Rattle.std.specs.Prelude.{◌≡◌, ℕ, ◌-◌, ◌==◌, Bool, true, false, not, ◌&&◌, ◌||◌, List, [], ◌∷◌, ◌++◌, filter}
+use Rattle.std.specs.Prelude.{flat_map, Option, Some, None, ℤ, pos, int_lt, unsigned_abs, unwrap_or, is_none}
+use Rattle.std.specs.Prelude.{if◌then◌else◌, bytes_eq, codes, slice_get}
 use Rattle.std.specs.List.{list_any, before_first, after_first}
 use Rattle.std.specs.Option.{option_map_or}
 use Rattle.std.specs.Fmt.{signed_decimal}
@@ -28,7 +30,8 @@ use Rattle.field_faults.specs.Reasons.{reason_of}
 use Rattle.field_faults.specs.declared.lines.Lying.{Lying}
 use Rattle.field_faults.specs.declared.lines.Numbered.{Numbered}
 use Rattle.field_faults.specs.declared.reasons.Reason.{Reason}
-use Rattle.field_faults.specs.declared.reasons.Reason.TheVariants.{BadData, BadPlace, BadText, BadCode, BadPoint, Renumbered, Twice, Taken}
+use Rattle.field_faults.specs.declared.reasons.Reason.TheVariants.{BadData, BadPlace, BadText, BadCode, BadPoint}
+use Rattle.field_faults.specs.declared.reasons.Reason.TheVariants.{Renumbered, Twice, Taken}
 
 -- ---- a tile
 
@@ -86,7 +89,8 @@ exported_as kind items number = at_number (ids_of kind items) number
 
 -- it names an item, and stands under the number of another
 abbrev pub is_renumbered : List Item → HeldItem → Bool
-is_renumbered items h = option_map_or (λ id. option_map_or (λ other. not (bytes_eq other id) && has (λ i. i.identity) id items) (exported_as (kind_of h.content) items h.number) false) h.identity false
+is_renumbered items h = option_map_or (λ id. option_map_or (λ other. not (bytes_eq other id) && has (λ i. i.identity)
+    id items) (exported_as (kind_of h.content) items h.number) false) h.identity false
 
 -- a set has the identities of these items, and no others
 abbrev pub IsKnownIn : List Item → BTreeSet (List ℕ) → Type 0
@@ -111,15 +115,18 @@ reason_among f items more exported before h (Tile zoom column row bytes) = first
     ((list_any (is_good_at f zoom column row) before, Twice)
     ∷ (more && list_any (is_other_at zoom column row bytes) items, Taken)
     ∷ [])
-reason_among f items more exported before h (Media content_type bytes) = first_row ((exported && is_renumbered items h, Renumbered) ∷ [])
-reason_among f items more exported before h (Row x y code label) = first_row ((exported && is_renumbered items h, Renumbered) ∷ [])
+reason_among f items more exported before h (Media content_type bytes) =
+    first_row ((exported && is_renumbered items h, Renumbered) ∷ [])
+reason_among f items more exported before h (Row x y code label) =
+    first_row ((exported && is_renumbered items h, Renumbered) ∷ [])
 
 abbrev pub reason_or : Option Reason → Option Reason → Option Reason
 reason_or (Some reason) other = Some reason
 reason_or None other = other
 
 abbrev pub reason_in : Frame → List Item → Bool → Bool → List HeldItem → HeldItem → Option Reason
-reason_in f items more exported before h = reason_or (reason_of f h.content) (reason_among f items more exported before h h.content)
+reason_in f items more exported before h = reason_or (reason_of f h.content)
+    (reason_among f items more exported before h h.content)
 
 -- ---- lines
 
@@ -139,7 +146,8 @@ record_line kind number word = kind ++ codes " " ++ signed_decimal number ++ cod
 
 -- a record that could not be listed: what its text has before the first space, and after it
 abbrev pub bad_line : BadRecord → List ℕ
-bad_line bad = record_line (before_first (λ c. c == 32) bad.text) (unwrap_or bad.number (pos 0)) (after_first (λ c. c == 32) bad.text)
+bad_line bad = record_line (before_first (λ c. c == 32) bad.text) (unwrap_or bad.number (pos 0))
+    (after_first (λ c. c == 32) bad.text)
 
 abbrev pub line_for : HeldItem → Option Reason → List ℕ
 line_for h None = []
@@ -147,8 +155,10 @@ line_for h (Some reason) = record_line (kind_word (kind_of h.content)) h.number 
 
 abbrev pub item_lines : Frame → List Item → Bool → Bool → List HeldItem → List HeldItem → List ℕ
 item_lines f items more exported before [] = []
-item_lines f items more exported before (h ∷ hs) = line_for h (reason_in f items more exported before h) ++ item_lines f items more exported (before ++ h ∷ []) hs
+item_lines f items more exported before (h ∷ hs) = line_for h (reason_in f items more exported before h)
+    ++ item_lines f items more exported (before ++ h ∷ []) hs
 
 -- of a package that holds these items
 abbrev pub fault_lines : Frame → List Item → Bool → Held → List ℕ
-fault_lines f items more held = flat_map bad_line held.bad.items ++ item_lines f items more (was_exported held.export) [] held.items.items
+fault_lines f items more held = flat_map bad_line held.bad.items
+    ++ item_lines f items more (was_exported held.export) [] held.items.items

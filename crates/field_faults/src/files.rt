@@ -1,10 +1,12 @@
 //! What a file holds, of the entries of its list.
-ghost use Rattle.std.specs.Prelude.{◌≡◌, ◌<◌, ◌↔◌, ◌++◌, [], ◌∷◌, map, bytes_eq, count_by, length, IfOk, IfErr, IfSome, IfNone, IsTrue, IsPermutation};
+ghost use Rattle.std.specs.Prelude.{◌≡◌, ◌<◌, ◌↔◌, ◌++◌, [], ◌∷◌, map, bytes_eq, count_by, length, IfOk, IfErr};
+ghost use Rattle.std.specs.Prelude.{IfSome, IfNone, IsTrue, IsPermutation};
 ghost use Rattle.std.specs.List.{filter_map, IsDistinct};
 ghost use Rattle.sheet_types.specs.Ordered.{is_before, IsArranged};
 ghost use Rattle.field_changes.specs.Keys.{number_key, sign};
 ghost use Rattle.field_changes.specs.declared.held.Held.{Held};
-ghost use Rattle.field_faults.specs.Files.{bad_in, closes, ends_after, export_in, frame_in, held_key, is_end, item_in, link_in, plain, system_in, IsHeld, IsOnly, Lead, LeadUnlessBad};
+ghost use Rattle.field_faults.specs.Files.{bad_in, closes, ends_after, export_in, frame_in, held_key, is_end, item_in};
+ghost use Rattle.field_faults.specs.Files.{link_in, plain, system_in, IsHeld, IsOnly, Lead, LeadUnlessBad};
 
 use crate::heads::is_number;
 use field_changes::ends::links_of as ends_of;

@@ -2,7 +2,9 @@
 ghost use Rattle.std.specs.Prelude.{◌≡◌, ◌^◌, ◌*ℤ◌, ◌≤ℤ◌, pos, unsigned_abs, bytes_eq, codes, take, IsTrue};
 ghost use Rattle.std.specs.List.{list_any};
 ghost use Rattle.sheet_types.specs.Matrix.{is_good_frame};
-ghost use Rattle.field_faults.specs.Heads.{is_number, is_of, is_same, is_stale, has_kind, has_system, width_at_zero, height_at_zero, same_corner, same_grid, same_spans, has_grid, tells_frame, head_fault};
+ghost use Rattle.field_faults.specs.Heads.{is_number, is_of, is_same, is_stale, has_kind, has_system, width_at_zero};
+ghost use Rattle.field_faults.specs.Heads.{height_at_zero, same_corner, same_grid, same_spans, has_grid, tells_frame};
+ghost use Rattle.field_faults.specs.Heads.{head_fault};
 
 use field_changes::held::{BadRecord, Export, Held, HeldItem};
 use matrix_rules::axis::axes_at;

@@ -288,7 +288,8 @@ fn known_of(alloc: Global, items: &[Item]) -> Result<BTreeSet<Uuid>, OutOfMemory
     Ok(known)
 }
 
-/// The identities of media and rows, in the order in which an export numbers them, all that are known, and tiles by their places.
+/// The identities of media and rows, in the order in which an export numbers them, all that are
+/// known, and tiles by their places.
 #[derive(Drop)]
 struct Numbered<'a> {
     media: Vec<Uuid>,
@@ -455,7 +456,8 @@ fn add_item_lines(
 ) -> Result<(), OutOfMemory>
     requires good { IsTrue (is_good_frame judge.now.frame.now) }
     requires numbers { AreNumbered judge.now.items.now judge.now.more numbered.now }
-    ensures { IfOk result (λ _. string_bytes text.new ≡ string_bytes text.old ++ item_lines judge.now.frame.now judge.now.items.now judge.now.more exported [] items.now) }
+    ensures { IfOk result (λ _. string_bytes text.new ≡ string_bytes text.old
+        ++ item_lines judge.now.frame.now judge.now.items.now judge.now.more exported [] items.now) }
 {
     let mut places = BTreeSet::new(alloc);
     for item in items {
@@ -474,7 +476,8 @@ fn was_exported(export: &Option<Export>) -> bool
     export.is_some()
 }
 
-/// A line for each record of a file that a package cannot hold: its kind, its number and a word. First those that could not be listed, in their order,
+/// A line for each record of a file that a package cannot hold: its kind, its number and a word.
+/// First those that could not be listed, in their order,
 /// then the items of the file in theirs.
 ///
 /// # Errors
@@ -482,7 +485,8 @@ fn was_exported(export: &Option<Export>) -> bool
 /// Want of memory.
 pub fn fault_lines(alloc: Global, judge: &Judge<'_>, held: &Held) -> Result<String, OutOfMemory>
     requires { IsTrue (is_good_frame judge.now.frame.now) }
-    ensures { IfOk result (λ text. string_bytes text ≡ fault_lines judge.now.frame.now judge.now.items.now judge.now.more held.now) }
+    ensures { IfOk result (λ text. string_bytes text ≡ fault_lines judge.now.frame.now judge.now.items.now
+        judge.now.more held.now) }
 {
     let mut text = bad_lines(alloc, held.bad.as_slice())?;
     let numbered = numbers_of(alloc, judge)?;

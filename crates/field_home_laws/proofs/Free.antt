@@ -1,5 +1,6 @@
 -- Requests that are free by themselves are free in their four parts, so a file comes home.
-use Rattle.std.specs.Prelude.{◌≡◌, ◌≤◌, ◌+◌, ◌-◌, ◌&&◌, ℕ, Bool, true, false, cond, not, nat_le, List, [], ◌∷◌, ◌++◌, map, filter, flat_map, length, bytes_eq, count_by, sum_by, if◌then◌else◌, refl}
+use Rattle.std.specs.Prelude.{◌≡◌, ◌≤◌, ◌+◌, ◌-◌, ◌&&◌, ℕ, Bool, true, false, cond, not, nat_le, List, [], ◌∷◌, ◌++◌}
+use Rattle.std.specs.Prelude.{map, filter, flat_map, length, bytes_eq, count_by, sum_by, if◌then◌else◌, refl}
 use Rattle.std.proofs.Common.{sym, ap, subst, ◌∙◌, inl, inr, arith, length-append}
 use Rattle.std.specs.List.{list_any, AllByRecursion}
 use Rattle.std.proofs.lemmas.Bool.{true≢false, and_parts, leb-true}
@@ -11,7 +12,8 @@ use Rattle.std.proofs.lemmas.Slice.Eq.{bytes_eq-Decides}
 use Rattle.sheet_types.specs.Cut.{identities}
 use Rattle.sheet_types.specs.Custody.{is_used}
 use Rattle.sheet_types.specs.Ordered.{has, is_among}
-use Rattle.sheet_types.specs.Refuse.{greatest_items, greatest_links, greatest_receipts, identity_used, is_overfull, too_many}
+use Rattle.sheet_types.specs.Refuse.{greatest_items, greatest_links, greatest_receipts, identity_used, is_overfull}
+use Rattle.sheet_types.specs.Refuse.{too_many}
 use Rattle.sheet_types.specs.Register.{IsRegister}
 use Rattle.sheet_types.specs.Step.{Run}
 use Rattle.sheet_types.specs.Texts.{kind_of}
@@ -36,13 +38,16 @@ use Rattle.field_run_laws.proofs.Lists.{of_filter}
 use Rattle.field_laws.specs.Making.{after_parts, items_left, links_left}
 use Rattle.field_laws.proofs.Makes.{changes_make, more_adds}
 use Rattle.field_laws.proofs.Turns.{Room, room_within}
-use Rattle.field_home_laws.specs.Free.{adds_kind, deleted, ids_added, ids_deleted, is_linking, is_unlinking, items_behind, keeps_limits, keeps_package, links_behind, stays, FreeFileComesHome, FreeListIsFree, IsEmptyOrFree, IsFreeList}
+use Rattle.field_home_laws.specs.Free.{adds_kind, deleted, ids_added, ids_deleted, is_linking, is_unlinking}
+use Rattle.field_home_laws.specs.Free.{items_behind, keeps_limits, keeps_package, links_behind, stays}
+use Rattle.field_home_laws.specs.Free.{FreeFileComesHome, FreeListIsFree, IsEmptyOrFree, IsFreeList}
 use Rattle.field_home_laws.specs.Laws.{ChangesOf, HoldsFile}
 use Rattle.field_home_laws.proofs.Home.{fit_file_comes_home}
 
 -- ---- lists in a row
 
-flat_over : {X Y Z : Type 0} (f : Y → List Z) (r : X → Y) (xs : List X) → flat_map f (map r xs) ≡ flat_map (λ x. f (r x)) xs
+flat_over : {X Y Z : Type 0} (f : Y → List Z) (r : X → Y) (xs : List X)
+    → flat_map f (map r xs) ≡ flat_map (λ x. f (r x)) xs
 flat_over f r [] = refl
 flat_over f r (x ∷ xs) =
     flat_map-cons f (r x) (map r xs) ∙ ap (λ l. f (r x) ++ l) (flat_over f r xs)

@@ -16,11 +16,16 @@ use Rattle.field_changes.specs.Ids.{request_of}
 use Rattle.field_run_laws.specs.Lists.{has_twice}
 use Rattle.field_laws.specs.Example.{archive, sheet, morning, town, asked, EmptyArchiveTakes}
 
-four : (a : List Relation) (b : List (List ℕ)) (c : List Item) (d : List Relation) → a ≡ [] → b ≡ [] → c ≡ town ∷ [] → d ≡ []
-    → asked ≡ map (request_of archive 0 morning) (map (unlinking archive) a ++ map (deleting archive) b ++ map (adding archive) c ++ map (linking archive) d)
+four : (a : List Relation) (b : List (List ℕ)) (c : List Item) (d : List Relation) → a ≡ [] → b ≡ [] → c ≡ town ∷ []
+    → d ≡ []
+    → asked ≡ map (request_of archive 0 morning) (map (unlinking archive) a ++ map (deleting archive) b
+    ++ map (adding archive) c ++ map (linking archive) d)
 four a b c d ea eb ec ed =
-    let to : List Relation → List (List ℕ) → List Item → List Relation → List _ = λ e f g h. map (request_of archive 0 morning) (map (unlinking archive) e ++ map (deleting archive) f ++ map (adding archive) g ++ map (linking archive) h) in
-    sym (ap (λ e. to e b c d) ea ∙ ap (λ f. to [] f c d) eb ∙ ap (λ g. to [] [] g d) ec ∙ ap (λ h. to [] [] (town ∷ []) h) ed)
+    let to : List Relation → List (List ℕ) → List Item → List Relation → List _ =
+    λ e f g h. map (request_of archive 0 morning) (map (unlinking archive) e ++ map (deleting archive) f
+    ++ map (adding archive) g ++ map (linking archive) h) in
+    sym (ap (λ e. to e b c d) ea ∙ ap (λ f. to [] f c d) eb ∙ ap (λ g. to [] [] g d) ec
+    ∙ ap (λ h. to [] [] (town ∷ []) h) ed)
 
 pub empty_archive_takes : EmptyArchiveTakes
 empty_archive_takes parts no_unlinks no_deletes one no_links = (
@@ -39,7 +44,8 @@ empty_archive_takes parts no_unlinks no_deletes one no_links = (
         links = subst (IsPermutation []) (sym no_links) (IsPermutation-refl []);
         links_order = subst (IsArranged link_key) (sym no_links) tt;
       };
-      asked = four parts.unlinks.items parts.deletes.items parts.adds.items parts.links.items no_unlinks no_deletes one no_links;
+      asked = four parts.unlinks.items parts.deletes.items parts.adds.items parts.links.items no_unlinks no_deletes
+          one no_links;
     },
     record {
       moment_fits = refl;
@@ -52,7 +58,12 @@ empty_archive_takes parts no_unlinks no_deletes one no_links = (
       within_limits = refl;
       ledger_within = omega arith;
       package_within =
-          ap (λ l. is_overfull (record no_package { uuid = archive; items = l ++ []; links = parts.links.items ++ [] })) one
+          ap (λ l. is_overfull (record no_package {
+            uuid = archive;
+            items = l ++ [];
+            links =
+                parts.links.items ++ [];
+          })) one
           ∙ ap (λ l. is_overfull (record no_package { uuid = archive; items = town ∷ []; links = l ++ [] })) no_links;
     },
   ),

@@ -21,29 +21,61 @@ use Rattle.field_laws.proofs.Turns.{room_within, filter_shorter}
 use Rattle.field_laws.proofs.Unrefused.{nothing_is_refused}
 
 -- where nothing is refused, and nothing fails, each reply is a receipt
-all_given : (replies : List Reply) → IsUnrefused replies → AllByRecursion (λ reply. IsFault reply → ⊥) replies → AreGiven replies
+all_given : (replies : List Reply) → IsUnrefused replies → AllByRecursion (λ reply. IsFault reply → ⊥) replies
+    → AreGiven replies
 all_given [] unrefused sound = tt
 all_given (Ok r ∷ replies) unrefused sound = (tt, all_given replies unrefused sound.1)
 all_given (Err why ∷ replies) unrefused sound = absurd (sound.0 unrefused)
 
 -- with `more` and without
-either : (more : Bool) (w : World) (p : List ℕ) (ticket : ℕ) (moment : List ℕ) (file : List HeldItem) (held : List HeldLink) (requests : List Request) (replies : List Reply) (next : World)
-    → IsRegister w → is_live w p ≡ true → (changes : Changes w p ticket moment more file held requests) → AreNew w requests → Run w requests replies next → AreGiven replies
-    → HoldsNow w next p (items_home more (names_in w p ticket file) file (holdings w p).items) (links_home more (holdings w p).links changes.for_file.file_links) (length requests)
+either : (more : Bool) (w : World) (p : List ℕ) (ticket : ℕ) (moment : List ℕ) (file : List HeldItem)
+    (held : List HeldLink) (requests : List Request) (replies : List Reply) (next : World)
+    → IsRegister w → is_live w p ≡ true → (changes : Changes w p ticket moment more file held requests)
+    → AreNew w requests → Run w requests replies next → AreGiven replies
+    → HoldsNow w next p (items_home more (names_in w p ticket file) file (holdings w p).items)
+    (links_home more (holdings w p).links changes.for_file.file_links) (length requests)
 either true = more_adds
 either false = changes_make
 
 pub changes_come_home : ChangesComeHome
 changes_come_home w p ticket moment more file held requests replies next register live changes can run sound =
-    let given : AreGiven replies = all_given replies (nothing_is_refused w p ticket moment more file held requests replies next register live changes can run) sound in
-    (given, either more w p ticket moment file held requests replies next register live changes can.requests_new run given)
+    let given : AreGiven replies = all_given replies (nothing_is_refused w p ticket moment more file held requests
+    replies next register live changes can run) sound in (
+      given,
+      either more w p ticket moment file held requests replies next register live changes can.requests_new run
+          given,
+    )
 
 pub room_for_both : RoomForBoth
 room_for_both parts x tiles media rows joins =
     let left : List Item = items_left parts x.items in
     room_within (parts.adds.items ++ left) (parts.links.items ++ links_left parts x.links) (record {
-      tiles = omega (arith, tiles, sum_by-append (λ i. cond (is_tile i) 1 0) parts.adds.items left, filter_less (λ i. cond (is_tile i) 1 0) (λ i. not (is_among parts.deletes.items i.identity)) x.items);
-      media = omega (arith, media, sum_by-append (λ i. cond (is_medium i) 1 0) parts.adds.items left, filter_less (λ i. cond (is_medium i) 1 0) (λ i. not (is_among parts.deletes.items i.identity)) x.items);
-      rows = omega (arith, rows, sum_by-append (λ i. cond (is_row i) 1 0) parts.adds.items left, filter_less (λ i. cond (is_row i) 1 0) (λ i. not (is_among parts.deletes.items i.identity)) x.items);
-      joins = omega (arith, joins, length-append parts.links.items (links_left parts x.links), filter_shorter (λ l. not (is_among (map link_key parts.unlinks.items) (link_key l))) x.links);
+      tiles = omega (
+        arith,
+        tiles,
+        sum_by-append (λ i. cond (is_tile i) 1 0) parts.adds.items left,
+        filter_less
+            (λ i. cond (is_tile i) 1 0) (λ i. not (is_among parts.deletes.items i.identity)) x.items,
+      );
+      media = omega (
+        arith,
+        media,
+        sum_by-append (λ i. cond (is_medium i) 1 0) parts.adds.items left,
+        filter_less
+            (λ i. cond (is_medium i) 1 0) (λ i. not (is_among parts.deletes.items i.identity)) x.items,
+      );
+      rows = omega (
+        arith,
+        rows,
+        sum_by-append (λ i. cond (is_row i) 1 0) parts.adds.items left,
+        filter_less
+            (λ i. cond (is_row i) 1 0) (λ i. not (is_among parts.deletes.items i.identity)) x.items,
+      );
+      joins = omega (
+        arith,
+        joins,
+        length-append parts.links.items (links_left parts x.links),
+        filter_shorter
+            (λ l. not (is_among (map link_key parts.unlinks.items) (link_key l))) x.links,
+      );
     })

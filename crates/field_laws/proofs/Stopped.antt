@@ -25,18 +25,23 @@ abbrev IsKept : World → Reply → Request → Type 0
 IsKept m reply q = (r : Receipt) × (reply ≡ Ok r) × (kept m q.id ≡ Some r) × (r.line ≡ line q.command)
 
 -- what got its receipt is kept behind the others
-all_kept : (w : World) (qs : List Request) (replies : List Reply) (m : World) → HaveTypes qs → IsRegister w → Run w qs replies m → AreGiven replies → AllZip (IsKept m) replies qs
+all_kept : (w : World) (qs : List Request) (replies : List Reply) (m : World) → HaveTypes qs → IsRegister w
+    → Run w qs replies m → AreGiven replies → AllZip (IsKept m) replies qs
 all_kept w [] [] m types register run given = tt
 all_kept w [] (reply ∷ replies) m types register run given = absurd run
 all_kept w (q ∷ qs) [] m types register run given = absurd run
 all_kept w (q ∷ qs) (Err why ∷ replies) m types register run given = absurd given.0
 all_kept w (q ∷ qs) (Ok r ∷ replies) m types register run given =
     let one = accepted_is_kept w q r run.0 run.1 in
-    let there : IsRegister run.0 = step_keeps_register w q (Ok r) run.0 types.0 register run.1 in
-    ((r, refl, run_keeps_kept run.0 qs replies m q.id r types.1 there run.2 one.0, one.1), all_kept run.0 qs replies m types.1 there run.2 given.1)
+    let there : IsRegister run.0 = step_keeps_register w q (Ok r) run.0 types.0 register run.1 in (
+      (r, refl, run_keeps_kept run.0 qs replies m q.id r types.1 there run.2 one.0, one.1),
+      all_kept run.0 qs replies m
+          types.1 there run.2 given.1,
+    )
 
 -- it gets that receipt again, and changes nothing
-stays : (m : World) (qs : List Request) (first replies : List Reply) (next : World) → AllZip (IsKept m) first qs → Run m qs replies next → (next ≡ m) × AllZip IsAgain first replies
+stays : (m : World) (qs : List Request) (first replies : List Reply) (next : World) → AllZip (IsKept m) first qs
+    → Run m qs replies next → (next ≡ m) × AllZip IsAgain first replies
 stays m [] [] [] next all run = (run, tt)
 stays m [] (reply ∷ first) replies next all run = absurd all
 stays m [] [] (reply ∷ replies) next all run = absurd run
@@ -59,7 +64,15 @@ stopped_list_comes_again w xs ys first mid again next types register run given m
       parts.2,
       parts.3,
       it.1,
-      (run_of_both w xs ys (first ++ parts.2) next).1 (mid, first, parts.2, refl, run, subst (λ v. Run v ys parts.2 next) it.0 parts.5),
+      (run_of_both w xs ys (first ++ parts.2) next).1 (
+        mid,
+        first,
+        parts.2,
+        refl,
+        run,
+        subst
+            (λ v. Run v ys parts.2 next) it.0 parts.5,
+      ),
     )
 
 -- a receipt is no fault
@@ -71,10 +84,15 @@ given_sound (Ok r) given fault = elim fault [ inl memory ↦ no_error _ memory |
 given_sound (Err why) given fault = absurd given
 
 pub stopped_changes_come_home : StoppedChangesComeHome
-stopped_changes_come_home w p ticket moment more file held xs ys first mid again next register live changes can run given whole sound =
+stopped_changes_come_home w p ticket moment more file held xs ys first mid again next register live changes can run
+    given whole sound =
     let requests : List Request = xs ++ ys in
     let all = within w p ticket moment more file held requests register live changes in
-    let types : HaveTypes xs = All-left (λ q. HasTypes q.command) xs ys (All-weaker (λ q. HasTypes q.command × IsWithin p q.command) (λ q. HasTypes q.command) (λ q both. both.0) requests all) in
+    let types : HaveTypes xs = All-left (λ q. HasTypes q.command) xs ys
+    (All-weaker (λ q. HasTypes q.command × IsWithin p q.command) (λ q. HasTypes q.command) (λ q both. both.0)
+    requests all) in
     let it = stopped_list_comes_again w xs ys first mid again next types register run given whole in
-    let behind : AllByRecursion IsSound it.1 = All-right IsSound it.0 it.1 (subst (AllByRecursion IsSound) it.2 sound) in
-    (changes_come_home w p ticket moment more file held requests (first ++ it.1) next register live changes can it.4 (All-append IsSound first it.1 (All-weaker IsGiven IsSound given_sound first given) behind)).1
+    let behind : AllByRecursion IsSound it.1 = All-right IsSound it.0 it.1
+    (subst (AllByRecursion IsSound) it.2 sound) in
+    (changes_come_home w p ticket moment more file held requests (first ++ it.1) next register live changes can it.4
+    (All-append IsSound first it.1 (All-weaker IsGiven IsSound given_sound first given) behind)).1

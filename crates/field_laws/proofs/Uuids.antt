@@ -22,7 +22,8 @@ word_bytes n = (omega arith, (omega arith, (omega arith, (omega arith, tt))))
 digest_small : (h : List ℕ) (n : ℕ) → AreBytes (digest_bytes h n)
 unfolding digest_bytes
 digest_small h zero = tt
-digest_small h (suc n) = All-append (λ b. b < 256) (digest_bytes h n) (to_be_bytes w32 (slice_index h n)) (digest_small h n) (word_bytes (slice_index h n))
+digest_small h (suc n) = All-append (λ b. b < 256) (digest_bytes h n) (to_be_bytes w32 (slice_index h n))
+    (digest_small h n) (word_bytes (slice_index h n))
 
 sha_small : (m : List ℕ) → AreBytes (sha256 m)
 unfolding sha256
@@ -47,4 +48,6 @@ derived_is_uuid text =
     let varied : List ℕ = with_variant front RFC4122 in
     bytes_fit 16 (derived text)
     (length-set varied 6 (slice_index varied 6 % 16 + 128) ∙ length-set front 8 (slice_index front 8 % 64 + 128) ∙ long)
-    (small_set varied 6 (slice_index varied 6 % 16 + 128) (omega arith) (small_set front 8 (slice_index front 8 % 64 + 128) (omega arith) (small_take 16 (sha256 text) (sha_small text))))
+    (small_set varied 6 (slice_index varied 6 % 16 + 128) (omega arith)
+    (small_set front 8 (slice_index front 8 % 64 + 128) (omega arith)
+    (small_take 16 (sha256 text) (sha_small text))))

@@ -1,5 +1,6 @@
 -- Laws of the changes for a file: what they ask for, and what they make when a register carries them out. Profile.
-use Rattle.std.specs.Prelude.{◌≡◌, ◌⊎◌, ◌≤◌, ◌+◌, ◌-◌, ◌&&◌, ℕ, Bool, true, false, List, [], ◌++◌, length, map, filter, not, unwrap_or, is_some, bytes_eq, count_by, IsPermutation}
+use Rattle.std.specs.Prelude.{◌≡◌, ◌⊎◌, ◌≤◌, ◌+◌, ◌-◌, ◌&&◌, ℕ, Bool, true, false, List, [], ◌++◌, length, map}
+use Rattle.std.specs.Prelude.{filter, not, unwrap_or, is_some, bytes_eq, count_by, IsPermutation}
 use Rattle.std.specs.List.{list_any, AllByRecursion, AllZip, IsDistinct}
 use Rattle.sheet_types.specs.Cut.{identities}
 use Rattle.sheet_types.specs.Ordered.{has, arranged}

@@ -4,7 +4,8 @@ use Rattle.std.specs.List.{list_all, list_any}
 use Rattle.sheet_types.specs.Custody.{is_used}
 use Rattle.sheet_types.specs.Cut.{identities}
 use Rattle.sheet_types.specs.Matrix.{has_place, in_frame}
-use Rattle.sheet_types.specs.Refuse.{bad_text, has_good_size, takes_place, place_of, is_overfull, too_many, greatest_receipts}
+use Rattle.sheet_types.specs.Refuse.{bad_text, has_good_size, takes_place, place_of, is_overfull, too_many}
+use Rattle.sheet_types.specs.Refuse.{greatest_receipts}
 use Rattle.sheet_types.specs.Texts.{is_moment, kind_of}
 use Rattle.sheet_types.specs.World.{World, holdings, receipts_of, kind_is}
 use Rattle.sheet_types.specs.declared.command.Command.TheVariants.{Add}

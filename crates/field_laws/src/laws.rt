@@ -1,5 +1,7 @@
 //! Laws of what an edited file comes home as, each the contract of a function that does nothing.
-ghost use Rattle.field_laws.specs.Changing.{NothingToDo, OldNamesDiffer, OnlyWhatDiffers, ChangesMake, MoreAdds, NothingIsRefused, ChangesComeHome, RoomForBoth, StoppedListComesAgain, StoppedChangesComeHome};
+ghost use Rattle.field_laws.specs.Changing.{NothingToDo, OldNamesDiffer, OnlyWhatDiffers, ChangesMake, MoreAdds};
+ghost use Rattle.field_laws.specs.Changing.{NothingIsRefused, ChangesComeHome, RoomForBoth, StoppedListComesAgain};
+ghost use Rattle.field_laws.specs.Changing.{StoppedChangesComeHome};
 ghost use Rattle.field_laws.specs.Example.{EmptyArchiveTakes};
 ghost use Rattle.field_laws.specs.Laws.{SameKeyIsSameContent, OldNamesHold};
 

@@ -23,16 +23,20 @@ abbrev pub NoFrame : List (List ℕ) → Type 0
 NoFrame fields = (frame : Frame) → ¬ IsListed fields (Framed frame)
 
 abbrev pub NoTile : List (List ℕ) → Type 0
-NoTile fields = (number zoom column line : ℤ) (id : Option (List ℕ)) (bytes : List ℕ) → ¬ IsListed fields (Item (record { number = number; identity = id; content = Tile zoom column line bytes }))
+NoTile fields = (number zoom column line : ℤ) (id : Option (List ℕ)) (bytes : List ℕ)
+    → ¬ IsListed fields (Item (record { number = number; identity = id; content = Tile zoom column line bytes }))
 
 abbrev pub NoMedium : List (List ℕ) → Type 0
-NoMedium fields = (number : ℤ) (id : Option (List ℕ)) (content_type bytes : List ℕ) → ¬ IsListed fields (Item (record { number = number; identity = id; content = Media content_type bytes }))
+NoMedium fields = (number : ℤ) (id : Option (List ℕ)) (content_type bytes : List ℕ)
+    → ¬ IsListed fields (Item (record { number = number; identity = id; content = Media content_type bytes }))
 
 abbrev pub NoRow : List (List ℕ) → Type 0
-NoRow fields = (number x y code : ℤ) (id : Option (List ℕ)) (label : List ℕ) → ¬ IsListed fields (Item (record { number = number; identity = id; content = Row x y code label }))
+NoRow fields = (number x y code : ℤ) (id : Option (List ℕ)) (label : List ℕ)
+    → ¬ IsListed fields (Item (record { number = number; identity = id; content = Row x y code label }))
 
 abbrev pub NoLink : List (List ℕ) → Mapping → Type 0
-NoLink fields mapping = (base other : ℤ) → ¬ IsListed fields (Link (record { mapping = mapping; base = base; other = other }))
+NoLink fields mapping = (base other : ℤ) → ¬ IsListed fields
+    (Link (record { mapping = mapping; base = base; other = other }))
 
 abbrev pub NoBad : List (List ℕ) → Type 0
 NoBad fields = (bad : BadRecord) → ¬ IsListed fields (Bad bad)
@@ -54,20 +58,29 @@ pub no_entry : (fields : List (List ℕ)) (word : List ℕ) → IsTextAt fields 
     → (word ≡ codes "bad" → NoBad fields)
     → (word ≡ codes "end" → NoEnd fields)
     → (entry : Listed) → ¬ IsListed fields entry
-no_entry fields word there export system frame tile medium row tiles_media rows_media rows_tiles bad end (Exported e) is = export (some_once _ _ _ there is.0) e is
-no_entry fields word there export system frame tile medium row tiles_media rows_media rows_tiles bad end (System n) is = system (some_once _ _ _ there is.0) n is
-no_entry fields word there export system frame tile medium row tiles_media rows_media rows_tiles bad end (Framed r) is = frame (some_once _ _ _ there is.0) r is
-no_entry fields word there export system frame tile medium row tiles_media rows_media rows_tiles bad end (Item i) is = of_item i.number i.identity i.content is
+no_entry fields word there export system frame tile medium row tiles_media rows_media rows_tiles bad end (Exported e)
+    is = export (some_once _ _ _ there is.0) e is
+no_entry fields word there export system frame tile medium row tiles_media rows_media rows_tiles bad end (System n)
+    is = system (some_once _ _ _ there is.0) n is
+no_entry fields word there export system frame tile medium row tiles_media rows_media rows_tiles bad end (Framed r)
+    is = frame (some_once _ _ _ there is.0) r is
+no_entry fields word there export system frame tile medium row tiles_media rows_media rows_tiles bad end (Item i) is =
+    of_item i.number i.identity i.content is
   where
-    of_item : (number : ℤ) (id : Option (List ℕ)) (content : Content) → ¬ IsListed fields (Item (record { number = number; identity = id; content = content }))
+    of_item : (number : ℤ) (id : Option (List ℕ)) (content : Content)
+        → ¬ IsListed fields (Item (record { number = number; identity = id; content = content }))
     of_item number id (Tile z c r b) is = tile (some_once _ _ _ there is.0) number z c r id b is
     of_item number id (Media t b) is = medium (some_once _ _ _ there is.0) number id t b is
     of_item number id (Row x y k l) is = row (some_once _ _ _ there is.0) number x y k id l is
-no_entry fields word there export system frame tile medium row tiles_media rows_media rows_tiles bad end (Link l) is = of_link l.mapping l.base l.other is
+no_entry fields word there export system frame tile medium row tiles_media rows_media rows_tiles bad end (Link l) is =
+    of_link l.mapping l.base l.other is
   where
-    of_link : (mapping : Mapping) (base other : ℤ) → ¬ IsListed fields (Link (record { mapping = mapping; base = base; other = other }))
+    of_link : (mapping : Mapping) (base other : ℤ) → ¬ IsListed fields
+        (Link (record { mapping = mapping; base = base; other = other }))
     of_link TilesMedia base other is = tiles_media (some_once _ _ _ there is.0) base other is
     of_link RowsMedia base other is = rows_media (some_once _ _ _ there is.0) base other is
     of_link RowsTiles base other is = rows_tiles (some_once _ _ _ there is.0) base other is
-no_entry fields word there export system frame tile medium row tiles_media rows_media rows_tiles bad end (Bad b) is = bad (some_once _ _ _ there is.0) b is
-no_entry fields word there export system frame tile medium row tiles_media rows_media rows_tiles bad end (End n) is = end (some_once _ _ _ there is.0) n is
+no_entry fields word there export system frame tile medium row tiles_media rows_media rows_tiles bad end (Bad b) is =
+    bad (some_once _ _ _ there is.0) b is
+no_entry fields word there export system frame tile medium row tiles_media rows_media rows_tiles bad end (End n) is =
+    end (some_once _ _ _ there is.0) n is

@@ -11,7 +11,8 @@ use Rattle.field_lists.specs.declared.entries.Listed.TheVariants.{Exported, Syst
 
 -- the names of the columns, in their order
 abbrev pub header : List (List ℕ)
-header = codes "kind" ∷ codes "number" ∷ codes "other" ∷ codes "identity" ∷ codes "zoom" ∷ codes "column" ∷ codes "row" ∷ codes "x" ∷ codes "y" ∷ codes "code" ∷ codes "text" ∷ codes "data" ∷ []
+header = codes "kind" ∷ codes "number" ∷ codes "other" ∷ codes "identity" ∷ codes "zoom" ∷ codes "column"
+    ∷ codes "row" ∷ codes "x" ∷ codes "y" ∷ codes "code" ∷ codes "text" ∷ codes "data" ∷ []
 
 -- a UUID, or nothing
 abbrev pub IsOptionalUuidAt : List (List ℕ) → ℕ → Option (List ℕ) → Type 0
@@ -27,13 +28,17 @@ IsOptionalNumberAt fields column (Some number) = IsNumberAt fields column number
 abbrev pub IsFrameAt : List (List ℕ) → ℕ → Frame → Type 0
 IsFrameAt fields column frame = IsInRange frame × IsTextAt fields column (frame_text frame)
 
--- the fields of an item beside its kind and its number, and that those which it does not use are empty. The place of a tile is in its content, and it needs no identity
+-- the fields of an item beside its kind and its number, and that those which it does not use are empty. The place of
+-- a tile is in its content, and it needs no identity
 abbrev pub HasContent : List (List ℕ) → Option (List ℕ) → Content → Type 0
-HasContent fields identity (Tile zoom column row bytes) = (identity ≡ None) × IsNumberAt fields 4 zoom × IsNumberAt fields 5 column × IsNumberAt fields 6 row × IsHexAt fields 11 bytes
+HasContent fields identity (Tile zoom column row bytes) = (identity ≡ None) × IsNumberAt fields 4 zoom
+    × IsNumberAt fields 5 column × IsNumberAt fields 6 row × IsHexAt fields 11 bytes
     × AreEmpty fields (2 ∷ 3 ∷ 7 ∷ 8 ∷ 9 ∷ 10 ∷ [])
-HasContent fields identity (Media content_type bytes) = IsOptionalUuidAt fields 3 identity × IsTextAt fields 10 content_type × IsHexAt fields 11 bytes
+HasContent fields identity (Media content_type bytes) = IsOptionalUuidAt fields 3 identity
+    × IsTextAt fields 10 content_type × IsHexAt fields 11 bytes
     × AreEmpty fields (2 ∷ 4 ∷ 5 ∷ 6 ∷ 7 ∷ 8 ∷ 9 ∷ [])
-HasContent fields identity (Row x y code label) = IsOptionalUuidAt fields 3 identity × IsNumberAt fields 7 x × IsNumberAt fields 8 y × IsNumberAt fields 9 code × IsTextAt fields 10 label
+HasContent fields identity (Row x y code label) = IsOptionalUuidAt fields 3 identity × IsNumberAt fields 7 x
+    × IsNumberAt fields 8 y × IsNumberAt fields 9 code × IsTextAt fields 10 label
     × AreEmpty fields (2 ∷ 4 ∷ 5 ∷ 6 ∷ 11 ∷ [])
 
 -- the word of an entry
@@ -48,12 +53,17 @@ entry_word (End count) = codes "end"
 
 -- the fields of an entry beside its word, and that those which it does not use are empty
 abbrev pub HasEntry : List (List ℕ) → Listed → Type 0
-HasEntry fields (Exported export) = IsNumberAt fields 1 export.ticket × IsUuidAt fields 3 export.«package» × AreEmpty fields (2 ∷ 4 ∷ 5 ∷ 6 ∷ 7 ∷ 8 ∷ 9 ∷ 10 ∷ 11 ∷ [])
-HasEntry fields (System number) = IsNumberAt fields 1 number × AreEmpty fields (2 ∷ 3 ∷ 4 ∷ 5 ∷ 6 ∷ 7 ∷ 8 ∷ 9 ∷ 10 ∷ 11 ∷ [])
-HasEntry fields (Framed frame) = IsFrameAt fields 10 frame × AreEmpty fields (1 ∷ 2 ∷ 3 ∷ 4 ∷ 5 ∷ 6 ∷ 7 ∷ 8 ∷ 9 ∷ 11 ∷ [])
+HasEntry fields (Exported export) = IsNumberAt fields 1 export.ticket × IsUuidAt fields 3 export.«package»
+    × AreEmpty fields (2 ∷ 4 ∷ 5 ∷ 6 ∷ 7 ∷ 8 ∷ 9 ∷ 10 ∷ 11 ∷ [])
+HasEntry fields (System number) = IsNumberAt fields 1 number
+    × AreEmpty fields (2 ∷ 3 ∷ 4 ∷ 5 ∷ 6 ∷ 7 ∷ 8 ∷ 9 ∷ 10 ∷ 11 ∷ [])
+HasEntry fields (Framed frame) = IsFrameAt fields 10 frame × AreEmpty fields
+    (1 ∷ 2 ∷ 3 ∷ 4 ∷ 5 ∷ 6 ∷ 7 ∷ 8 ∷ 9 ∷ 11 ∷ [])
 HasEntry fields (Item item) = IsNumberAt fields 1 item.number × HasContent fields item.identity item.content
-HasEntry fields (Link link) = IsNumberAt fields 1 link.base × IsNumberAt fields 2 link.other × AreEmpty fields (3 ∷ 4 ∷ 5 ∷ 6 ∷ 7 ∷ 8 ∷ 9 ∷ 10 ∷ 11 ∷ [])
-HasEntry fields (Bad bad) = IsOptionalNumberAt fields 1 bad.number × IsTextAt fields 10 bad.text × AreEmpty fields (2 ∷ 3 ∷ 4 ∷ 5 ∷ 6 ∷ 7 ∷ 8 ∷ 9 ∷ 11 ∷ [])
+HasEntry fields (Link link) = IsNumberAt fields 1 link.base × IsNumberAt fields 2 link.other
+    × AreEmpty fields (3 ∷ 4 ∷ 5 ∷ 6 ∷ 7 ∷ 8 ∷ 9 ∷ 10 ∷ 11 ∷ [])
+HasEntry fields (Bad bad) = IsOptionalNumberAt fields 1 bad.number × IsTextAt fields 10 bad.text
+    × AreEmpty fields (2 ∷ 3 ∷ 4 ∷ 5 ∷ 6 ∷ 7 ∷ 8 ∷ 9 ∷ 11 ∷ [])
 HasEntry fields (End count) = IsNumberAt fields 1 count × AreEmpty fields (2 ∷ 3 ∷ 4 ∷ 5 ∷ 6 ∷ 7 ∷ 8 ∷ 9 ∷ 10 ∷ 11 ∷ [])
 
 -- a record that is this entry

@@ -1,4 +1,5 @@
-//! Bytes in hexadecimal, by a table: of digits as they come, a branch for each is guessed wrong, and takes ten times as long.
+//! Bytes in hexadecimal, by a table: of digits as they come, a branch for each is guessed wrong,
+//! and takes ten times as long.
 ghost use Rattle.std.specs.Prelude.{◌≡◌, ◌≢◌, ◌*◌, ◌<◌, ℕ, List, length, Ok, Err, IfOk, IfSome, IfNone, true, false};
 ghost use Rattle.hex.specs.Hex.{decode_of, decode_pairs, pair_value};
 ghost use Rattle.hex.specs.declared.error.FromHexError.{FromHexError};

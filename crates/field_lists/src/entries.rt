@@ -103,7 +103,9 @@ fn frame_of(row: &StringRecord) -> Option<Listed>
 fn tile_of(alloc: Global, row: &StringRecord) -> Result<Option<Listed>, OutOfMemory>
     requires word { IsTextAt (fields_of row.now) 0 (kind_word TileItem) }
     ensures some { IfOk result (λ found. IfSome found (λ entry. IsListed (fields_of row.now) entry)) }
-    ensures none { IfOk result (λ found. IfNone found ((number zoom column line : ℤ) (id : Option (List ℕ)) (bytes : List ℕ) → ¬ IsListed (fields_of row.now) (listed.Item (record { number = number; identity = id; content = content.Tile zoom column line bytes })))) }
+    ensures none { IfOk result (λ found. IfNone found ((number zoom column line : ℤ) (id : Option (List ℕ))
+        (bytes : List ℕ) → ¬ IsListed (fields_of row.now) (listed.Item
+        (record { number = number; identity = id; content = content.Tile zoom column line bytes })))) }
 {
     if !are_empty(row, &NOT_OF_TILE) {
         return Ok(None);
@@ -140,7 +142,9 @@ fn tile_of(alloc: Global, row: &StringRecord) -> Result<Option<Listed>, OutOfMem
 fn media_of(alloc: Global, row: &StringRecord) -> Result<Option<Listed>, OutOfMemory>
     requires word { IsTextAt (fields_of row.now) 0 (kind_word MediaItem) }
     ensures some { IfOk result (λ found. IfSome found (λ entry. IsListed (fields_of row.now) entry)) }
-    ensures none { IfOk result (λ found. IfNone found ((number : ℤ) (id : Option (List ℕ)) (content_type bytes : List ℕ) → ¬ IsListed (fields_of row.now) (listed.Item (record { number = number; identity = id; content = content.Media content_type bytes })))) }
+    ensures none { IfOk result (λ found. IfNone found ((number : ℤ) (id : Option (List ℕ))
+        (content_type bytes : List ℕ) → ¬ IsListed (fields_of row.now)
+        (listed.Item (record { number = number; identity = id; content = content.Media content_type bytes })))) }
 {
     if !are_empty(row, &NOT_OF_MEDIA) {
         return Ok(None);
@@ -172,7 +176,9 @@ fn media_of(alloc: Global, row: &StringRecord) -> Result<Option<Listed>, OutOfMe
 fn row_of(alloc: Global, row: &StringRecord) -> Result<Option<Listed>, OutOfMemory>
     requires word { IsTextAt (fields_of row.now) 0 (kind_word RowItem) }
     ensures some { IfOk result (λ found. IfSome found (λ entry. IsListed (fields_of row.now) entry)) }
-    ensures none { IfOk result (λ found. IfNone found ((number x y code : ℤ) (id : Option (List ℕ)) (label : List ℕ) → ¬ IsListed (fields_of row.now) (listed.Item (record { number = number; identity = id; content = content.Row x y code label })))) }
+    ensures none { IfOk result (λ found. IfNone found ((number x y code : ℤ) (id : Option (List ℕ)) (label : List ℕ)
+        → ¬ IsListed (fields_of row.now) (listed.Item (record
+        { number = number; identity = id; content = content.Row x y code label })))) }
 {
     if !are_empty(row, &NOT_OF_ROW) {
         return Ok(None);
@@ -207,7 +213,8 @@ fn row_of(alloc: Global, row: &StringRecord) -> Result<Option<Listed>, OutOfMemo
 fn link_of(row: &StringRecord, mapping: Mapping) -> Option<Listed>
     requires word { IsTextAt (fields_of row.now) 0 (mapping_word mapping) }
     ensures some { IfSome result (λ entry. IsListed (fields_of row.now) entry) }
-    ensures none { IfNone result ((base other : ℤ) → ¬ IsListed (fields_of row.now) (listed.Link (record { mapping = mapping; base = base; other = other }))) }
+    ensures none { IfNone result ((base other : ℤ) → ¬ IsListed (fields_of row.now)
+        (listed.Link (record { mapping = mapping; base = base; other = other }))) }
 {
     if !are_empty(row, &NOT_OF_LINK) {
         return None;
@@ -225,7 +232,8 @@ fn link_of(row: &StringRecord, mapping: Mapping) -> Option<Listed>
 fn bad_of(alloc: Global, row: &StringRecord) -> Result<Option<Listed>, OutOfMemory>
     requires word { IsTextAt (fields_of row.now) 0 (codes "bad") }
     ensures some { IfOk result (λ found. IfSome found (λ entry. IsListed (fields_of row.now) entry)) }
-    ensures none { IfOk result (λ found. IfNone found ((bad : BadRecord) → ¬ IsListed (fields_of row.now) (listed.Bad bad))) }
+    ensures none { IfOk result (λ found. IfNone found ((bad : BadRecord)
+        → ¬ IsListed (fields_of row.now) (listed.Bad bad))) }
 {
     if !are_empty(row, &NOT_OF_BAD) {
         return Ok(None);

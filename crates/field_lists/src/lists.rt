@@ -2,7 +2,8 @@
 ghost use Rattle.std.specs.Prelude.{◌≡◌, ◌⊎◌, ◌↔◌, ℕ, List, [], ◌∷◌, ◌++◌, map, IsTrue, IfOk, IfErr, IfSome};
 ghost use Rattle.csv.specs.Records.{fields_of};
 ghost use Rattle.field_lists.specs.Listed.{header};
-ghost use Rattle.field_lists.specs.HoldsLists.{AreAllRecords, AreBegun, AreFirstRecords, AreList, Lists, IsFaultFrom, IsFaultOf, IsList, IsOfReader, MeetsFirst};
+ghost use Rattle.field_lists.specs.HoldsLists.{AreAllRecords, AreBegun, AreFirstRecords, AreList, Lists, IsFaultFrom};
+ghost use Rattle.field_lists.specs.HoldsLists.{IsFaultOf, IsList, IsOfReader, MeetsFirst};
 ghost use Rattle.field_lists.specs.declared.lists.ListFault.TheVariants as fault;
 
 use crate::columns::COUNT;
@@ -71,7 +72,8 @@ fn entry_in(alloc: Global, number: u64, row: ByteRecord) -> Result<Listed, ListF
     let Ok(text) = StringRecord::from_byte_record(row) else {
         return Err(ListFault::Read);
     };
-    // `entry_of` looks again, and finds no entry: only here is a record of another length told from one that asks nothing.
+    // `entry_of` looks again, and finds no entry: only here is a record of another length told from
+    // one that asks nothing.
     if text.len() != COUNT {
         return Err(ListFault::Read);
     }
@@ -151,7 +153,8 @@ fn read_records<R: ListSource + Drop>(
     ensures list { IfOk result (λ read. IfSome (R.remaining reader) (λ text. (rows : List (List (List ℕ)))
         × AreAllRecords text rows × AreBegun read.0 rows read.1.items)) }
     ensures fault { IfErr result (λ met. IsOfReader R.never_fails met
-        ⊎ IfSome (R.remaining reader) (λ text. (rows : List (List (List ℕ))) × AreFirstRecords text rows × IsFaultOf rows met)) }
+        ⊎ IfSome (R.remaining reader) (λ text. (rows : List (List (List ℕ))) × AreFirstRecords text rows
+        × IsFaultOf rows met)) }
 {
     let source = ReaderBuilder::new()
         .has_headers(false)
@@ -171,14 +174,20 @@ fn read_records<R: ListSource + Drop>(
     Ok((has_header, entries))
 }
 
-/// The entries of a list: a record of the names of the columns, and after it one record for each entry. A byte order mark at the start and blank lines are passed over; CR, LF and CR LF end records (RFC 4180, section 2, and beyond it as `csv` reads). A reader that fails is Read, unless a record before it is a fault. Of a text in memory Read is told of nothing but a record that cannot be read.
+/// The entries of a list: a record of the names of the columns, and after it one record for each
+/// entry. A byte order mark at the start and blank lines are passed over; CR, LF and CR LF end
+/// records (RFC 4180, section 2, and beyond it as `csv` reads). A reader that fails is Read, unless
+/// a record before it is a fault. Of a text in memory Read is told of nothing but a record that
+/// cannot be read.
 pub fn read_entries<R: ListSource + Drop>(
     alloc: Global,
     reader: R,
 ) -> Result<Vec<Listed>, ListFault>
     ensures list { IfOk result (λ entries. IfSome (R.remaining reader) (λ text. IsList text entries.items)) }
-    ensures fault { IfErr result (λ met. (met ≡ fault.Read) ⊎ (met ≡ fault.Memory) ⊎ IfSome (R.remaining reader) (λ text. MeetsFirst text met)) }
-    ensures cause { R.never_fails → IfErr result (λ met. (met ≡ fault.Memory) ⊎ IfSome (R.remaining reader) (λ text. MeetsFirst text met)) }
+    ensures fault { IfErr result (λ met. (met ≡ fault.Read) ⊎ (met ≡ fault.Memory)
+        ⊎ IfSome (R.remaining reader) (λ text. MeetsFirst text met)) }
+    ensures cause { R.never_fails → IfErr result (λ met. (met ≡ fault.Memory)
+        ⊎ IfSome (R.remaining reader) (λ text. MeetsFirst text met)) }
 {
     let (has_header, entries) = read_records(alloc, reader)?;
     if has_header {

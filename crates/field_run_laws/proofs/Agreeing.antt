@@ -8,10 +8,15 @@ use Rattle.field_run_laws.specs.Lists.{Reply, IsGiven}
 use Rattle.field_run_laws.specs.Laws.{GivenRunsAgree}
 
 -- such a step is the outcome
-pub is_outcome : (m : World) (q : Request) (reply : Reply) (next : World) → Step m q reply next → IsGiven reply → next ≡ (outcome m q).1
+pub is_outcome : (m : World) (q : Request) (reply : Reply) (next : World) → Step m q reply next → IsGiven reply
+    → next ≡ (outcome m q).1
 is_outcome m q reply next step given = elim step [
   | inl done ↦ done.1
-  | inr fault ↦ absurd (elim fault.0 [ inl memory ↦ subst IsGiven memory given | inr store ↦ subst IsGiven store given ])
+  | inr fault ↦ absurd (elim fault.0 [
+    | inl memory ↦ subst IsGiven memory given
+    | inr store
+        ↦ subst IsGiven store given
+  ])
 ]
 
 pub given_runs_agree : GivenRunsAgree

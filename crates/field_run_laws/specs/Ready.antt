@@ -4,11 +4,13 @@ use Rattle.std.specs.List.{list_any}
 use Rattle.sheet_types.specs.Custody.{is_used}
 use Rattle.sheet_types.specs.Cut.{has_end}
 use Rattle.sheet_types.specs.Ordered.{has, is_among}
-use Rattle.sheet_types.specs.Refuse.{bad_text, has_good_size, bad_place, out_of_frame, takes_place, is_overfull, too_many, greatest_receipts}
+use Rattle.sheet_types.specs.Refuse.{bad_text, has_good_size, bad_place, out_of_frame, takes_place, is_overfull}
+use Rattle.sheet_types.specs.Refuse.{too_many, greatest_receipts}
 use Rattle.sheet_types.specs.Register.{IsRegister}
 use Rattle.sheet_types.specs.Step.{Run, relation}
 use Rattle.sheet_types.specs.Texts.{is_moment}
-use Rattle.sheet_types.specs.World.{World, Package, no_package, is_live, holdings, receipts_of, item_key, link_key, kind_number, base_kind, other_kind}
+use Rattle.sheet_types.specs.World.{World, Package, no_package, is_live, holdings, receipts_of, item_key, link_key}
+use Rattle.sheet_types.specs.World.{kind_number, base_kind, other_kind}
 use Rattle.sheet_types.specs.declared.command.Command.{Command}
 use Rattle.sheet_types.specs.declared.command.Command.TheVariants.{Add, Delete, Link, Unlink}
 use Rattle.sheet_types.specs.declared.command.Item.{Item}

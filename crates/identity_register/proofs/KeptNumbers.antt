@@ -20,7 +20,8 @@ use Rattle.package_tables.specs.declared.rows.MappingRow.{MappingRow}
 use Rattle.package_tables.specs.declared.rows.MovedRow.{MovedRow}
 use Rattle.package_tables.specs.declared.rows.ReceiptRow.{ReceiptRow}
 use Rattle.identity_register.specs.Calls.{Becomes}
-use Rattle.identity_register.specs.Numbering.{Numbered, tile_rows, media_rows, attribute_rows, identity_row, puts, with_item, without_content, without_identity, with_link, without_link}
+use Rattle.identity_register.specs.Numbering.{Numbered, tile_rows, media_rows, attribute_rows, identity_row, puts}
+use Rattle.identity_register.specs.Numbering.{with_item, without_content, without_identity, with_link, without_link}
 use Rattle.identity_register.specs.LocalNumbers.{StandIn, KeepRows, KeepsNumbers, Grows, Shrinks}
 use Rattle.identity_register.proofs.Finding.{contained}
 
@@ -31,7 +32,8 @@ stand : {R : Type 0} (xs ys : List R) → ((r : R) → In r xs → In r ys) → 
 stand xs ys f r c = Contains-In r ys (f r (contained xs r c))
 
 in_put : {R : Type 0} (key : R → List ℕ) (x : R) (xs : List R) (r : R) → In r xs → In r (put key x xs)
-in_put key x xs r i = All-In (λ y. In y (put key x xs)) r xs (All-of_put key (λ y. In y (put key x xs)) x xs (In-all (put key x xs))).1 i
+in_put key x xs r i = All-In (λ y. In y (put key x xs)) r xs
+    (All-of_put key (λ y. In y (put key x xs)) x xs (In-all (put key x xs))).1 i
 
 in_puts : {R : Type 0} (key : R → List ℕ) (new xs : List R) (r : R) → In r xs → In r (puts key new xs)
 in_puts key [] xs r i = i
@@ -57,7 +59,16 @@ stand_if false t xs = λ r c. c
 -- ---- all tables
 
 rows_same : (t : Tables) → KeepRows t t
-rows_same t = record { tiles = λ r c. c; media = λ r c. c; rows = λ r c. c; identities = λ r c. c; tiles_media = λ r c. c; rows_media = λ r c. c; rows_tiles = λ r c. c }
+rows_same t = record {
+  tiles = λ r c. c;
+  media = λ r c. c;
+  rows = λ r c. c;
+  identities = λ r c. c;
+  tiles_media =
+      λ r c. c;
+  rows_media = λ r c. c;
+  rows_tiles = λ r c. c;
+}
 
 pub kept_same : (db : Database) → KeepsNumbers db db
 kept_same db = rows_same (tables_of db)
@@ -89,7 +100,8 @@ item_beside n t = record {
   rows_tiles = λ r c. c;
 }
 
-pub others_left : (kind number : ℤ) (t : Tables) → KeepRows (without_identity kind number (without_content kind number t)) t
+pub others_left : (kind number : ℤ) (t : Tables) → KeepRows (without_identity kind number
+    (without_content kind number t)) t
 others_left kind number t = record {
   tiles = stand_if (int_eq kind _) _ t.tiles;
   media = stand_if (int_eq kind _) _ t.media;
@@ -101,23 +113,92 @@ others_left kind number t = record {
 }
 
 pub link_beside : (m : Mapping) (row : MappingRow) (t : Tables) → KeepRows t (with_link m row t)
-link_beside TilesMedia row t = record { tiles = λ r c. c; media = λ r c. c; rows = λ r c. c; identities = λ r c. c; tiles_media = stand_put (pair_shape TilesMedia).key row t.tiles_media; rows_media = λ r c. c; rows_tiles = λ r c. c }
-link_beside RowsMedia row t = record { tiles = λ r c. c; media = λ r c. c; rows = λ r c. c; identities = λ r c. c; tiles_media = λ r c. c; rows_media = stand_put (pair_shape RowsMedia).key row t.rows_media; rows_tiles = λ r c. c }
-link_beside RowsTiles row t = record { tiles = λ r c. c; media = λ r c. c; rows = λ r c. c; identities = λ r c. c; tiles_media = λ r c. c; rows_media = λ r c. c; rows_tiles = stand_put (pair_shape RowsTiles).key row t.rows_tiles }
+link_beside TilesMedia row t = record {
+  tiles = λ r c. c;
+  media = λ r c. c;
+  rows = λ r c. c;
+  identities =
+      λ r c. c;
+  tiles_media = stand_put (pair_shape TilesMedia).key row t.tiles_media;
+  rows_media =
+      λ r c. c;
+  rows_tiles = λ r c. c;
+}
+link_beside RowsMedia row t = record {
+  tiles = λ r c. c;
+  media = λ r c. c;
+  rows = λ r c. c;
+  identities =
+      λ r c. c;
+  tiles_media = λ r c. c;
+  rows_media = stand_put (pair_shape RowsMedia).key row t.rows_media;
+  rows_tiles =
+      λ r c. c;
+}
+link_beside RowsTiles row t = record {
+  tiles = λ r c. c;
+  media = λ r c. c;
+  rows = λ r c. c;
+  identities =
+      λ r c. c;
+  tiles_media = λ r c. c;
+  rows_media = λ r c. c;
+  rows_tiles =
+      stand_put (pair_shape RowsTiles).key row t.rows_tiles;
+}
 
 pub links_left : (m : Mapping) (row : MappingRow) (t : Tables) → KeepRows (without_link m row t) t
-links_left TilesMedia row t = record { tiles = λ r c. c; media = λ r c. c; rows = λ r c. c; identities = λ r c. c; tiles_media = stand_left _ t.tiles_media; rows_media = λ r c. c; rows_tiles = λ r c. c }
-links_left RowsMedia row t = record { tiles = λ r c. c; media = λ r c. c; rows = λ r c. c; identities = λ r c. c; tiles_media = λ r c. c; rows_media = stand_left _ t.rows_media; rows_tiles = λ r c. c }
-links_left RowsTiles row t = record { tiles = λ r c. c; media = λ r c. c; rows = λ r c. c; identities = λ r c. c; tiles_media = λ r c. c; rows_media = λ r c. c; rows_tiles = stand_left _ t.rows_tiles }
+links_left TilesMedia row t = record {
+  tiles = λ r c. c;
+  media = λ r c. c;
+  rows = λ r c. c;
+  identities =
+      λ r c. c;
+  tiles_media = stand_left _ t.tiles_media;
+  rows_media = λ r c. c;
+  rows_tiles = λ r c. c;
+}
+links_left RowsMedia row t = record {
+  tiles = λ r c. c;
+  media = λ r c. c;
+  rows = λ r c. c;
+  identities =
+      λ r c. c;
+  tiles_media = λ r c. c;
+  rows_media = stand_left _ t.rows_media;
+  rows_tiles = λ r c. c;
+}
+links_left RowsTiles row t = record {
+  tiles = λ r c. c;
+  media = λ r c. c;
+  rows = λ r c. c;
+  identities =
+      λ r c. c;
+  tiles_media = λ r c. c;
+  rows_media = λ r c. c;
+  rows_tiles = stand_left _ t.rows_tiles;
+}
 
 -- other receipts change none of them
-pub entries_beside : (receipts : List ReceiptRow) (moved : List MovedRow) (t : Tables) → KeepRows t (record t { receipts = receipts; moved = moved })
-entries_beside receipts moved t = record { tiles = λ r c. c; media = λ r c. c; rows = λ r c. c; identities = λ r c. c; tiles_media = λ r c. c; rows_media = λ r c. c; rows_tiles = λ r c. c }
+pub entries_beside : (receipts : List ReceiptRow) (moved : List MovedRow) (t : Tables)
+    → KeepRows t (record t { receipts = receipts; moved = moved })
+entries_beside receipts moved t = record {
+  tiles = λ r c. c;
+  media = λ r c. c;
+  rows = λ r c. c;
+  identities =
+      λ r c. c;
+  tiles_media = λ r c. c;
+  rows_media = λ r c. c;
+  rows_tiles = λ r c. c;
+}
 
 -- ---- the change alone
 
-pub grown : {E : Type 0} {Fits : Package → Type 0} {after : Package → Package} {old new : State} {r : Result (Unit {0}) E} → Steps (λ _. Grows Fits after) old new r → Steps (λ _. Becomes Fits after) old new r
+pub grown : {E : Type 0} {Fits : Package → Type 0} {after : Package → Package} {old new : State}
+    {r : Result (Unit {0}) E} → Steps (λ _. Grows Fits after) old new r → Steps (λ _. Becomes Fits after) old new r
 grown {E} {Fits} {after} = steps_weaker (λ _. Becomes Fits after) (λ _ it f p reads fits. (it f p reads fits).0)
 
-pub shrunk : {E : Type 0} {Fits : Package → Type 0} {after : Package → Package} {old new : State} {r : Result (Unit {0}) E} → Steps (λ _. Shrinks Fits after) old new r → Steps (λ _. Becomes Fits after) old new r
+pub shrunk : {E : Type 0} {Fits : Package → Type 0} {after : Package → Package} {old new : State}
+    {r : Result (Unit {0}) E} → Steps (λ _. Shrinks Fits after) old new r → Steps (λ _. Becomes Fits after) old new r
 shrunk {E} {Fits} {after} = steps_weaker (λ _. Becomes Fits after) (λ _ it f p reads fits. (it f p reads fits).0)

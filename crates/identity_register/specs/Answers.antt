@@ -3,7 +3,8 @@ use Rattle.std.specs.Prelude.{◌≡◌, ℤ, pos, Bool, Contains, not, if◌the
 use Rattle.std.specs.List.{list_any}
 use Rattle.std.specs.Ordering.{int_eq}
 use Rattle.sheet_types.specs.Ordered.{has}
-use Rattle.sheet_types.specs.World.{Package, has_item, has_kind, link_key, kind_number, base_kind, other_kind, all_mappings}
+use Rattle.sheet_types.specs.World.{Package, has_item, has_kind, link_key, kind_number, base_kind, other_kind}
+use Rattle.sheet_types.specs.World.{all_mappings}
 use Rattle.sheet_types.specs.declared.command.Content.{Content}
 use Rattle.sheet_types.specs.declared.command.Content.TheVariants.{Tile, Media, Row}
 use Rattle.sheet_types.specs.declared.command.Mapping.{Mapping}
@@ -36,7 +37,8 @@ AreMappingsOf kind one another = (m : Mapping) → is_end m kind ≡ (mapping_is
 abbrev pub are_ends : Mapping → ℤ → ℤ → Bool
 are_ends m base other = int_eq (pos (kind_number (base_kind m))) base && int_eq (pos (kind_number (other_kind m))) other
 
--- How a link that is to come in stands in a package: the first of these in the order in which a link is judged, first whether its ends are known, then their kinds, then the link itself. Profile.
+-- How a link that is to come in stands in a package: the first of these in the order in which a link is judged, first
+-- whether its ends are known, then their kinds, then the link itself. Profile.
 abbrev pub link_state : Package → Relation → LinkState
 link_state p l =
     if not (has_item p l.base && has_item p l.other) then UnknownEnd
@@ -46,6 +48,16 @@ link_state p l =
 
 -- the row of this kind and number has this content
 abbrev pub IsContentOf : ℤ → ℤ → Tables → Content → Type 0
-IsContentOf kind number t (Tile zoom column row bytes) = (kind ≡ pos 1) × Contains t.tiles (record { id = number; zoom_level = zoom; tile_column = column; tile_row = row; tile_data = bytes })
-IsContentOf kind number t (Media content_type bytes) = (kind ≡ pos 2) × Contains t.media (record { id = number; «data» = bytes; content_type = content_type })
-IsContentOf kind number t (Row x y code label) = (kind ≡ pos 3) × Contains t.rows (record { id = number; x = x; y = y; code = code; label = label })
+IsContentOf kind number t (Tile zoom column row bytes) = (kind ≡ pos 1)
+    × Contains t.tiles (record {
+      id = number;
+      zoom_level = zoom;
+      tile_column = column;
+      tile_row = row;
+      tile_data =
+          bytes;
+    })
+IsContentOf kind number t (Media content_type bytes) = (kind ≡ pos 2)
+    × Contains t.media (record { id = number; «data» = bytes; content_type = content_type })
+IsContentOf kind number t (Row x y code label) = (kind ≡ pos 3)
+    × Contains t.rows (record { id = number; x = x; y = y; code = code; label = label })

@@ -65,7 +65,8 @@ pub record IsLinkOf (m : Mapping) (rows : List IdentityRow) (r : MappingRow) (l 
 
 -- the links of all rows of the table of a mapping
 abbrev pub AreLinksIn : Mapping → List IdentityRow → Tables → List Relation → Type 0
-AreLinksIn m rows t links = (stored : List MappingRow) × IsPermutation (mapping_rows m t) stored × AllZip (IsLinkOf m rows) stored links
+AreLinksIn m rows t links = (stored : List MappingRow) × IsPermutation (mapping_rows m t) stored
+    × AllZip (IsLinkOf m rows) stored links
 
 -- all links of the package that the tables say, where these are all identity rows
 abbrev pub AreLinksBy : List IdentityRow → Tables → List Relation → Type 0

@@ -14,5 +14,7 @@ ReadsAlone = (f g : Frame) (p q : Package) (db : Database) → Reads f p db → 
 
 -- So do trees, by any schema that they list.
 abbrev pub TreesReadAlone : Type 0
-TreesReadAlone = (f g : Frame) (p q : Package) (one two : Schema) (trees : Trees) → IsSound one trees → IsSound two trees
-    → Reads f p (record { schema = one; trees = trees }) → Reads g q (record { schema = two; trees = trees }) → (f ≡ g) × (p ≡ q)
+TreesReadAlone = (f g : Frame) (p q : Package) (one two : Schema) (trees : Trees) → IsSound one trees
+    → IsSound two trees
+    → Reads f p (record { schema = one; trees = trees }) → Reads g q (record { schema = two; trees = trees })
+    → (f ≡ g) × (p ≡ q)

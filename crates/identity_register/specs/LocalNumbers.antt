@@ -29,7 +29,8 @@ abbrev pub Grows : (Package → Type 0) → (Package → Package) → Database �
 Grows Fits after old new =
     (f : Frame) (p : Package) → Reads f p old → Fits p → Reads f (after p) new × KeepsNumbers old new
 
--- A store that reads as a package which fits reads as the changed one afterwards, and what stands still has the number that it had.
+-- A store that reads as a package which fits reads as the changed one afterwards, and what stands still has the
+-- number that it had.
 abbrev pub Shrinks : (Package → Type 0) → (Package → Package) → Database → Database → Type 0
 Shrinks Fits after old new =
     (f : Frame) (p : Package) → Reads f p old → Fits p → Reads f (after p) new × KeepsNumbers new old

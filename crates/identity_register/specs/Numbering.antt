@@ -1,5 +1,8 @@
--- How the rows of a package's tables stand for items under lasting identities. Items are rows of user data tables (OGC GeoPackage 1.3, 2.2.8 and 2.4.2; OGC 18-000, media), links rows of user-defined mapping tables (OGC 18-000); local numbers and `sheet_identity` are profile.
-use Rattle.std.specs.Prelude.{◌≡◌, ℕ, ℤ, pos, Bool, true, false, not, Contains, Option, Some, None, ◌+ℤ◌, ◌&&◌, if◌then◌else◌, List, [], ◌∷◌, map, filter, find, bytes_eq, unsigned_abs}
+-- How the rows of a package's tables stand for items under lasting identities. Items are rows of user data tables
+-- (OGC GeoPackage 1.3, 2.2.8 and 2.4.2; OGC 18-000, media), links rows of user-defined mapping tables (OGC 18-000);
+-- local numbers and `sheet_identity` are profile.
+use Rattle.std.specs.Prelude.{◌≡◌, ℕ, ℤ, pos, Bool, true, false, not, Contains, Option, Some, None, ◌+ℤ◌, ◌&&◌}
+use Rattle.std.specs.Prelude.{if◌then◌else◌, List, [], ◌∷◌, map, filter, find, bytes_eq, unsigned_abs}
 use Rattle.std.specs.Ordering.{int_eq}
 use Rattle.std.specs.List.{AllByRecursion, IsDistinct, list_any}
 use Rattle.std.specs.Option.{option_map_or}
@@ -47,7 +50,14 @@ pub record IsNumbering (numbered : List Numbered) : Type 0 where
 -- ---- the rows of an item
 
 abbrev pub tile_rows : ℤ → Content → List TileRow
-tile_rows number (Tile zoom column row bytes) = record { id = number; zoom_level = zoom; tile_column = column; tile_row = row; tile_data = bytes } ∷ []
+tile_rows number (Tile zoom column row bytes) = record {
+  id = number;
+  zoom_level = zoom;
+  tile_column =
+      column;
+  tile_row = row;
+  tile_data = bytes;
+} ∷ []
 tile_rows number (Media content_type bytes) = []
 tile_rows number (Row x y code label) = []
 
@@ -62,7 +72,12 @@ attribute_rows number (Media content_type bytes) = []
 attribute_rows number (Row x y code label) = record { id = number; x = x; y = y; code = code; label = label } ∷ []
 
 abbrev pub identity_row : Numbered → IdentityRow
-identity_row n = record { kind = pos (kind_number (kind_of n.item.content)); local_id = n.number; uuid = uuid_text n.item.identity }
+identity_row n = record {
+  kind = pos (kind_number (kind_of n.item.content));
+  local_id = n.number;
+  uuid =
+      uuid_text n.item.identity;
+}
 
 -- ---- the rows of a link
 
@@ -109,7 +124,10 @@ without_content kind number t = record t {
 
 -- the tables without the identity row of this kind and number
 abbrev pub without_identity : ℤ → ℤ → Tables → Tables
-without_identity kind number t = record t { identities = filter (λ r. not (int_eq r.kind kind && int_eq r.local_id number)) t.identities }
+without_identity kind number t = record t {
+  identities = filter
+      (λ r. not (int_eq r.kind kind && int_eq r.local_id number)) t.identities;
+}
 
 abbrev pub DropsContent : ℤ → ℤ → Tables → Tables → Type 0
 DropsContent kind number before after = after ≡ without_content kind number before
@@ -167,6 +185,10 @@ FindsGap kind t None = AreTaken kind t
 
 -- the row of a content comes in, where its number is free
 abbrev pub AddsContent : ℤ → Content → Tables → Tables → Type 0
-AddsContent number (Tile zoom column row bytes) before after = Adds tiles (record { id = number; zoom_level = zoom; tile_column = column; tile_row = row; tile_data = bytes }) before after
-AddsContent number (Media content_type bytes) before after = Adds media (record { id = number; «data» = bytes; content_type = content_type }) before after
-AddsContent number (Row x y code label) before after = Adds attributes (record { id = number; x = x; y = y; code = code; label = label }) before after
+AddsContent number (Tile zoom column row bytes) before after =
+    Adds tiles (record { id = number; zoom_level = zoom; tile_column = column; tile_row = row; tile_data = bytes })
+    before after
+AddsContent number (Media content_type bytes) before after =
+    Adds media (record { id = number; «data» = bytes; content_type = content_type }) before after
+AddsContent number (Row x y code label) before after = Adds attributes
+    (record { id = number; x = x; y = y; code = code; label = label }) before after

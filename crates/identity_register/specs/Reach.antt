@@ -45,8 +45,10 @@ links_of p id = filter (has_end id) p.links
 
 -- ---- asking
 
--- Questions to a reach, of which it says when it can be asked, what has stayed since, and which package it shows: it can be asked again, what had stayed has stayed, what it shows it showed before, and the answer is of that package.
-pub record Asks {R X E : Type 0} (CanAsk : R → Type 0) (Stays : R → R → Type 0) (Shows : R → Package → Type 0) (Answer : Package → X → Type 0) (old new : R) (r : Result X E) : Type 0 where
+-- Questions to a reach, of which it says when it can be asked, what has stayed since, and which package it shows: it
+-- can be asked again, what had stayed has stayed, what it shows it showed before, and the answer is of that package.
+pub record Asks {R X E : Type 0} (CanAsk : R → Type 0) (Stays : R → R → Type 0) (Shows : R → Package → Type 0)
+    (Answer : Package → X → Type 0) (old new : R) (r : Result X E) : Type 0 where
   pub again : CanAsk new
   pub stays : (was : R) → Stays was old → Stays was new
   pub showed : (p : Package) → Shows new p → Shows old p
@@ -67,4 +69,6 @@ number_at m kind r = if int_eq (pos (kind_number (base_kind m))) kind then r.bas
 
 -- the links of the rows that have a number at their ends of a kind, where that is the row of this identity
 abbrev pub AreLinksAt : Mapping → ℤ → ℤ → List ℕ → Tables → List Relation → Type 0
-AreLinksAt m kind number id t links = IsNamed t.identities kind number id → (stored : List MappingRow) × AreThose (λ r. int_eq (number_at m kind r) number) (mapping_rows m t) stored × AllZip (IsLinkOf m t.identities) stored links
+AreLinksAt m kind number id t links = IsNamed t.identities kind number id → (stored : List MappingRow)
+    × AreThose (λ r. int_eq (number_at m kind r) number) (mapping_rows m t) stored
+    × AllZip (IsLinkOf m t.identities) stored links

@@ -1,4 +1,5 @@
--- When the tables of a store read as a package. OGC GeoPackage 1.3 and OGC 18-000 for the tables; identities, receipts and the head are profile.
+-- When the tables of a store read as a package. OGC GeoPackage 1.3 and OGC 18-000 for the tables; identities,
+-- receipts and the head are profile.
 use Rattle.std.specs.Prelude.{◌≡◌, ℕ, pos, Bool, true, ◌&&◌, bytes_eq, List, [], ◌∷◌, map, flat_map, Option}
 use Rattle.std.specs.List.{AllByRecursion, IsDistinct, enumerate_from}
 use Rattle.std.specs.Option.{option_map_or}
@@ -19,7 +20,8 @@ use Rattle.sheet_types.specs.declared.frame.Frame.{Frame}
 use Rattle.sheet_types.specs.declared.receipt.Moved.{Moved}
 use Rattle.sheet_types.specs.declared.receipt.Receipt.{Receipt}
 use Rattle.package_tables.specs.Mappings.{pair_shape}
-use Rattle.package_tables.specs.Shapes.{tile_shape, medium_shape, attribute_shape, identity_shape, receipt_shape, moved_shape}
+use Rattle.package_tables.specs.Shapes.{tile_shape, medium_shape, attribute_shape, identity_shape, receipt_shape}
+use Rattle.package_tables.specs.Shapes.{moved_shape}
 use Rattle.package_tables.specs.Creation.{head_of}
 use Rattle.package_tables.specs.Package.{Tables, tables_of, AreFormed}
 use Rattle.package_tables.specs.Fixed.{HasFixed}
@@ -32,7 +34,8 @@ use Rattle.package_tables.specs.declared.rows.MediaRow.{MediaRow}
 use Rattle.package_tables.specs.declared.rows.MovedRow.{MovedRow}
 use Rattle.package_tables.specs.declared.rows.ReceiptRow.{ReceiptRow}
 use Rattle.package_tables.specs.declared.rows.TileRow.{TileRow}
-use Rattle.identity_register.specs.Numbering.{Numbered, IsNumbering, tile_rows, media_rows, attribute_rows, identity_row, rows_in}
+use Rattle.identity_register.specs.Numbering.{Numbered, IsNumbering, tile_rows, media_rows, attribute_rows}
+use Rattle.identity_register.specs.Numbering.{identity_row, rows_in}
 
 -- the head of a package, made at a moment
 abbrev pub head_row : Package → List ℕ → HeadRow
@@ -68,7 +71,8 @@ moved_row seq position m = record {
 abbrev pub moved_rows : Receipt → List MovedRow
 moved_rows r = map (λ m. moved_row r.seq m.0 m.1) (enumerate_from 0 r.items)
 
--- the UUIDs and digests of a receipt are such (RFC 9562, section 4; FIPS 180-4, section 6.2), so that their texts can be read back
+-- the UUIDs and digests of a receipt are such (RFC 9562, section 4; FIPS 180-4, section 6.2), so that their texts can
+-- be read back
 abbrev pub is_fit_end : Option (List ℕ) → Bool
 is_fit_end end = option_map_or is_uuid end true
 
@@ -89,7 +93,8 @@ pub record IsFitHead (own : List ℕ) (above : Option (List ℕ)) : Type 0 where
 -- A part of what tables say speaks of its own lists alone, so that it holds as it stands where others change.
 
 -- The numbered items are the package's; their rows and those of their identities are all that these tables hold.
-pub record SaysItems (numbered : List Numbered) (of_package : List Item) (tile_table : List TileRow) (medium_table : List MediaRow) (row_table : List AttributeRow) (identity_table : List IdentityRow) : Type 0 where
+pub record SaysItems (numbered : List Numbered) (of_package : List Item) (tile_table : List TileRow)
+    (medium_table : List MediaRow) (row_table : List AttributeRow) (identity_table : List IdentityRow) : Type 0 where
   pub numbers : IsNumbering numbered
   pub items : of_package ≡ arranged item_key (map (λ n. n.item) numbered)
   pub tiles : tile_table ≡ arranged tile_shape.key (flat_map (λ n. tile_rows n.number n.item.content) numbered)
@@ -102,15 +107,18 @@ abbrev pub SaysPairs : Mapping → List Numbered → List Relation → List Mapp
 SaysPairs m numbered linked table = table ≡ arranged (pair_shape m).key (flat_map (rows_in m numbered) linked)
 
 -- The links are the package's, each once; their rows are all that the mapping tables hold.
-pub record SaysLinks (numbered : List Numbered) (linked of_package : List Relation) (tiles_media_table rows_media_table rows_tiles_table : List MappingRow) : Type 0 where
+pub record SaysLinks (numbered : List Numbered) (linked of_package : List Relation)
+    (tiles_media_table rows_media_table rows_tiles_table : List MappingRow) : Type 0 where
   pub distinct_links : IsDistinct bytes_eq (map link_key linked)
   pub links : of_package ≡ arranged link_key linked
   pub tiles_media : SaysPairs TilesMedia numbered linked tiles_media_table
   pub rows_media : SaysPairs RowsMedia numbered linked rows_media_table
   pub rows_tiles : SaysPairs RowsTiles numbered linked rows_tiles_table
 
--- The receipts are the package's, each once and fit to be read back; their rows and those of what they moved are all that these tables hold.
-pub record SaysReceipts (entered of_package : List Receipt) (receipt_table : List ReceiptRow) (moved_table : List MovedRow) : Type 0 where
+-- The receipts are the package's, each once and fit to be read back; their rows and those of what they moved are all
+-- that these tables hold.
+pub record SaysReceipts (entered of_package : List Receipt) (receipt_table : List ReceiptRow)
+    (moved_table : List MovedRow) : Type 0 where
   pub distinct_receipts : IsDistinct bytes_eq (map receipt_key entered)
   pub fit : AllByRecursion IsFitReceipt entered
   pub kept : of_package ≡ arranged receipt_key entered
@@ -121,7 +129,8 @@ pub record SaysReceipts (entered of_package : List Receipt) (receipt_table : Lis
 abbrev pub SayMoments : List ContentsRow → Type 0
 SayMoments listed = AllByRecursion (λ c. is_moment c.last_change ≡ true) listed
 
--- The tables say this package: its items under some numbers, its links and its receipts, in whatever order they came, are all that the tables hold.
+-- The tables say this package: its items under some numbers, its links and its receipts, in whatever order they came,
+-- are all that the tables hold.
 pub record Says (f : Frame) (p : Package) (t : Tables) : Type 0 where
   pub good : is_good_frame f ≡ true
   pub fixed : HasFixed f t

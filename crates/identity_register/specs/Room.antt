@@ -13,7 +13,8 @@ use Rattle.identity_register.specs.LocalNumbers.{Grows}
 
 -- the package of a store has as many items of this kind as may be
 abbrev pub IsFull : MovedKind → Database → Type 0
-IsFull kind db = (f : Frame) (p : Package) → Reads f p db → greatest_items ≤ count_by (λ i. kind_is kind (kind_of i.content)) p.items
+IsFull kind db = (f : Frame) (p : Package) → Reads f p db → greatest_items ≤ count_by
+    (λ i. kind_is kind (kind_of i.content)) p.items
 
 -- the item comes in, or there is no room for it and nothing is changed
 abbrev pub ComesIn : Item → Bool → Database → Database → Type 0

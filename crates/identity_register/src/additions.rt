@@ -41,7 +41,8 @@ fn number_after(greatest: Option<i64>) -> Option<i64>
 /// Whether an item of the kind has this number.
 fn is_taken<S: Alter>(tx: &mut Transaction<'_, S>, kind: i64, number: i64) -> Result<bool, Fault>
     ensures same_reference { tx.new.conn.ghost_name ≡ tx.old.conn.ghost_name }
-    ensures steps { Steps (Answers (IsTaken kind number)) (state S.Store tx.old.conn.now) (state S.Store tx.new.conn.now) result }
+    ensures steps { Steps (Answers (IsTaken kind number)) (state S.Store tx.old.conn.now)
+        (state S.Store tx.new.conn.now) result }
 {
     let found = identity_by_key_inside(tx, kind, number)?;
     Ok(found.is_some())
@@ -50,7 +51,8 @@ fn is_taken<S: Alter>(tx: &mut Transaction<'_, S>, kind: i64, number: i64) -> Re
 /// The first number that no item of the kind has; none where each is taken.
 fn first_gap<S: Alter>(tx: &mut Transaction<'_, S>, kind: i64) -> Result<Option<i64>, Fault>
     ensures same_reference { tx.new.conn.ghost_name ≡ tx.old.conn.ghost_name }
-    ensures steps { Steps (Answers (FindsGap kind)) (state S.Store tx.old.conn.now) (state S.Store tx.new.conn.now) result }
+    ensures steps { Steps (Answers (FindsGap kind)) (state S.Store tx.old.conn.now) (state S.Store tx.new.conn.now)
+        result }
 {
     for number in 1..=GREATEST_NUMBER {
         let taken = is_taken(tx, kind, number)?;
@@ -61,13 +63,15 @@ fn first_gap<S: Alter>(tx: &mut Transaction<'_, S>, kind: i64) -> Result<Option<
     Ok(None)
 }
 
-/// A number that no item of the kind has: the one after the greatest, and where none that may be comes after it, the first. None where each is taken.
+/// A number that no item of the kind has: the one after the greatest, and where none that may be
+/// comes after it, the first. None where each is taken.
 fn free_number<S: Alter>(
     tx: &mut Transaction<'_, S>,
     content: &Content,
 ) -> Result<Option<i64>, Fault>
     ensures same_reference { tx.new.conn.ghost_name ≡ tx.old.conn.ghost_name }
-    ensures steps { Steps (Answers (FindsGap (pos (kind_number (kind_of content.now))))) (state S.Store tx.old.conn.now) (state S.Store tx.new.conn.now) result }
+    ensures steps { Steps (Answers (FindsGap (pos (kind_number (kind_of content.now)))))
+        (state S.Store tx.old.conn.now) (state S.Store tx.new.conn.now) result }
 {
     let kind = stored_kind(content);
     let greatest = greatest_local_id(tx, kind)?;
@@ -84,7 +88,8 @@ fn put_content<S: Alter>(
     content: &Content,
 ) -> Result<(), Fault>
     ensures same_reference { tx.new.conn.ghost_name ≡ tx.old.conn.ghost_name }
-    ensures steps { Steps (λ _. OnTables (AddsContent number content.now)) (state S.Store tx.old.conn.now) (state S.Store tx.new.conn.now) result }
+    ensures steps { Steps (λ _. OnTables (AddsContent number content.now)) (state S.Store tx.old.conn.now)
+        (state S.Store tx.new.conn.now) result }
 {
     match content {
         Content::Tile {
@@ -103,7 +108,8 @@ fn put_content<S: Alter>(
     }
 }
 
-/// Takes an item in under a new identity and a local number of its own. Tells whether there was a number for it: where all 1,000,000 of its kind are taken, nothing is changed.
+/// Takes an item in under a new identity and a local number of its own. Tells whether there was a
+/// number for it: where all 1,000,000 of its kind are taken, nothing is changed.
 ///
 /// # Errors
 ///
@@ -114,7 +120,8 @@ pub fn add_if_room<S: Alter>(
     content: &Content,
 ) -> Result<bool, Fault>
     ensures same_reference { tx.new.conn.ghost_name ≡ tx.old.conn.ghost_name }
-    ensures steps { Steps (ComesIn (record { identity = identity; content = content.now })) (state S.Store tx.old.conn.now) (state S.Store tx.new.conn.now) result }
+    ensures steps { Steps (ComesIn (record { identity = identity; content = content.now }))
+        (state S.Store tx.old.conn.now) (state S.Store tx.new.conn.now) result }
 {
     let Some(number) = free_number(tx, content)? else {
         return Ok(false);
@@ -130,14 +137,17 @@ pub fn add_if_room<S: Alter>(
 ///
 /// # Errors
 ///
-/// Want of memory, a store that failed, or a kind of which all 1,000,000 numbers are taken. Nothing is committed; the transaction has to be dropped.
+/// Want of memory, a store that failed, or a kind of which all 1,000,000 numbers are taken. Nothing
+/// is committed; the transaction has to be dropped.
 pub fn add<S: Alter>(
     tx: &mut Transaction<'_, S>,
     identity: Uuid,
     content: &Content,
 ) -> Result<(), Fault>
     ensures same_reference { tx.new.conn.ghost_name ≡ tx.old.conn.ghost_name }
-    ensures steps { Steps (λ _. Grows (IsNewItem identity) (item_added (record { identity = identity; content = content.now }))) (state S.Store tx.old.conn.now) (state S.Store tx.new.conn.now) result }
+    ensures steps { Steps (λ _. Grows (IsNewItem identity) (item_added
+        (record { identity = identity; content = content.now }))) (state S.Store tx.old.conn.now)
+        (state S.Store tx.new.conn.now) result }
 {
     let came = add_if_room(tx, identity, content)?;
     if came { Ok(()) } else { Err(Fault::StoreFault) }

@@ -3,7 +3,8 @@ ghost use Rattle.std.specs.Prelude.{◌≡◌};
 ghost use Rattle.sqlite.specs.Held.{state};
 ghost use Rattle.store_sql.specs.Transactions.{Steps};
 ghost use Rattle.package_tables.specs.Calls.{OnTables, Answers};
-ghost use Rattle.identity_register.specs.Changes.{IsLooseItem, item_deleted, IsNewLink, link_added, IsLink, link_removed};
+ghost use Rattle.identity_register.specs.Changes.{IsLooseItem, item_deleted, IsNewLink, link_added, IsLink};
+ghost use Rattle.identity_register.specs.Changes.{link_removed};
 ghost use Rattle.identity_register.specs.Numbering.{IsRowOf, AreRowsOfEnds, DropsContent, DropsRows};
 ghost use Rattle.identity_register.specs.LocalNumbers.{Grows, Shrinks};
 
@@ -22,7 +23,8 @@ use uuid::Uuid;
 /// The row that stands for an item: its kind and local number.
 fn row_of_item<S: Alter>(tx: &mut Transaction<'_, S>, identity: Uuid) -> Result<IdentityRow, Fault>
     ensures same_reference { tx.new.conn.ghost_name ≡ tx.old.conn.ghost_name }
-    ensures steps { Steps (Answers (IsRowOf identity)) (state S.Store tx.old.conn.now) (state S.Store tx.new.conn.now) result }
+    ensures steps { Steps (Answers (IsRowOf identity)) (state S.Store tx.old.conn.now) (state S.Store tx.new.conn.now)
+        result }
 {
     let mut buffer = Uuid::encode_buffer();
     let text = identity.hyphenated().encode_lower(&mut buffer);
@@ -44,7 +46,8 @@ fn rows_of_ends<S: Alter>(
     other: Uuid,
 ) -> Result<EndRows, Fault>
     ensures same_reference { tx.new.conn.ghost_name ≡ tx.old.conn.ghost_name }
-    ensures steps { Steps (Answers (AreRowsOfEnds base other)) (state S.Store tx.old.conn.now) (state S.Store tx.new.conn.now) result }
+    ensures steps { Steps (Answers (AreRowsOfEnds base other)) (state S.Store tx.old.conn.now)
+        (state S.Store tx.new.conn.now) result }
 {
     let base = row_of_item(tx, base)?;
     let other = row_of_item(tx, other)?;
@@ -54,7 +57,8 @@ fn rows_of_ends<S: Alter>(
 /// Takes out the row of a user table, by its kind and number.
 fn drop_content<S: Alter>(tx: &mut Transaction<'_, S>, kind: i64, number: i64) -> Result<(), Fault>
     ensures same_reference { tx.new.conn.ghost_name ≡ tx.old.conn.ghost_name }
-    ensures steps { Steps (λ _. OnTables (DropsContent kind number)) (state S.Store tx.old.conn.now) (state S.Store tx.new.conn.now) result }
+    ensures steps { Steps (λ _. OnTables (DropsContent kind number)) (state S.Store tx.old.conn.now)
+        (state S.Store tx.new.conn.now) result }
 {
     if kind == TILE {
         return delete_tile(tx, number);
@@ -71,7 +75,8 @@ fn drop_content<S: Alter>(tx: &mut Transaction<'_, S>, kind: i64, number: i64) -
 /// Takes out the row of a user table and its identity.
 fn drop_rows<S: Alter>(tx: &mut Transaction<'_, S>, kind: i64, number: i64) -> Result<(), Fault>
     ensures same_reference { tx.new.conn.ghost_name ≡ tx.old.conn.ghost_name }
-    ensures steps { Steps (λ _. OnTables (DropsRows kind number)) (state S.Store tx.old.conn.now) (state S.Store tx.new.conn.now) result }
+    ensures steps { Steps (λ _. OnTables (DropsRows kind number)) (state S.Store tx.old.conn.now)
+        (state S.Store tx.new.conn.now) result }
 {
     drop_content(tx, kind, number)?;
     delete_identity(tx, kind, number)
@@ -84,20 +89,23 @@ fn drop_rows<S: Alter>(tx: &mut Transaction<'_, S>, kind: i64, number: i64) -> R
 /// Want of memory, a store that failed, or no such item. Nothing is committed; the transaction has to be dropped.
 pub fn delete<S: Alter>(tx: &mut Transaction<'_, S>, identity: Uuid) -> Result<(), Fault>
     ensures same_reference { tx.new.conn.ghost_name ≡ tx.old.conn.ghost_name }
-    ensures steps { Steps (λ _. Shrinks (IsLooseItem identity) (item_deleted identity)) (state S.Store tx.old.conn.now) (state S.Store tx.new.conn.now) result }
+    ensures steps { Steps (λ _. Shrinks (IsLooseItem identity) (item_deleted identity))
+        (state S.Store tx.old.conn.now) (state S.Store tx.new.conn.now) result }
 {
     let row = row_of_item(tx, identity)?;
     drop_rows(tx, row.kind, row.local_id)
 }
 
-/// Links two items of the kinds that the mapping joins, which are not linked by it (OGC 18-000, user-defined mapping tables).
+/// Links two items of the kinds that the mapping joins, which are not linked by it (OGC 18-000,
+/// user-defined mapping tables).
 ///
 /// # Errors
 ///
 /// Want of memory, a store that failed, or no such item. Nothing is committed; the transaction has to be dropped.
 pub fn link<S: Alter>(tx: &mut Transaction<'_, S>, relation: Relation) -> Result<(), Fault>
     ensures same_reference { tx.new.conn.ghost_name ≡ tx.old.conn.ghost_name }
-    ensures steps { Steps (λ _. Grows (IsNewLink relation) (link_added relation)) (state S.Store tx.old.conn.now) (state S.Store tx.new.conn.now) result }
+    ensures steps { Steps (λ _. Grows (IsNewLink relation) (link_added relation)) (state S.Store tx.old.conn.now)
+        (state S.Store tx.new.conn.now) result }
 {
     let EndRows { base, other } = rows_of_ends(tx, relation.base, relation.other)?;
     insert_pair(tx, relation.mapping, base.local_id, other.local_id)
@@ -110,7 +118,8 @@ pub fn link<S: Alter>(tx: &mut Transaction<'_, S>, relation: Relation) -> Result
 /// Want of memory, a store that failed, or no such item. Nothing is committed; the transaction has to be dropped.
 pub fn unlink<S: Alter>(tx: &mut Transaction<'_, S>, relation: Relation) -> Result<(), Fault>
     ensures same_reference { tx.new.conn.ghost_name ≡ tx.old.conn.ghost_name }
-    ensures steps { Steps (λ _. Shrinks (IsLink relation) (link_removed relation)) (state S.Store tx.old.conn.now) (state S.Store tx.new.conn.now) result }
+    ensures steps { Steps (λ _. Shrinks (IsLink relation) (link_removed relation)) (state S.Store tx.old.conn.now)
+        (state S.Store tx.new.conn.now) result }
 {
     let EndRows { base, other } = rows_of_ends(tx, relation.base, relation.other)?;
     delete_pair(tx, relation.mapping, base.local_id, other.local_id)

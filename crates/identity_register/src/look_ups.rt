@@ -1,4 +1,5 @@
-//! What is asked of a package at rest, each by a key or an index. An error is want of memory, a store that failed, or rows that
+//! What is asked of a package at rest, each by a key or an index. An error is want of memory, a
+//! store that failed, or rows that
 //! no package has; the store holds what it held.
 ghost use Rattle.std.specs.Prelude.{◌≡◌, true, bytes_eq, IfOk};
 ghost use Rattle.std.specs.Bool.{then_some};
@@ -12,7 +13,8 @@ ghost use Rattle.sheet_types.specs.Refuse.{is_at};
 ghost use Rattle.sheet_types.specs.Texts.{uuid_text};
 ghost use Rattle.sheet_types.specs.World.{has_item, item_of, link_key};
 ghost use Rattle.package_tables.specs.Calls.{LooksUp, IsOneOf};
-ghost use Rattle.identity_register.specs.Answers.{is_named_by, is_linked_row, is_end, AreMappingsOf, are_ends, link_state, IsContentOf};
+ghost use Rattle.identity_register.specs.Answers.{is_named_by, is_linked_row, is_end, AreMappingsOf, are_ends};
+ghost use Rattle.identity_register.specs.Answers.{link_state, IsContentOf};
 ghost use Rattle.identity_register.specs.Calls.{Sees};
 
 use crate::kinds::{MEDIUM, ROW, TILE, number_of_kind};
@@ -34,7 +36,8 @@ pub(crate) fn row_of<S: Alter>(
     identity: Uuid,
 ) -> Result<Option<IdentityRow>, Fault>
     requires { Rests (state S.Store conn.old) }
-    ensures looked { LooksUp (λ t. IsOneOf (λ x. bytes_eq x.uuid (uuid_text identity)) t.identities) (state S.Store conn.old) (state S.Store conn.new) result }
+    ensures looked { LooksUp (λ t. IsOneOf (λ x. bytes_eq x.uuid (uuid_text identity)) t.identities)
+        (state S.Store conn.old) (state S.Store conn.new) result }
     ensures fit { IsUuid identity }
 {
     let mut buffer = Uuid::encode_buffer();
@@ -50,7 +53,8 @@ pub fn has_tile_at<S: Alter>(
     row: i64,
 ) -> Result<bool, Fault>
     requires { Rests (state S.Store conn.old) }
-    ensures { Looks (Sees (λ f p found. found ≡ list_any (λ i. is_at zoom column row i.content) p.items)) (state S.Store conn.old) (state S.Store conn.new) result }
+    ensures { Looks (Sees (λ f p found. found ≡ list_any (λ i. is_at zoom column row i.content) p.items))
+        (state S.Store conn.old) (state S.Store conn.new) result }
 {
     let found = has_row_at(conn, zoom, column, row)?;
     Ok(found)
@@ -76,13 +80,15 @@ pub enum LinkState {
     There,
 }
 
-/// How a link stands in the package: the rows of its ends are looked up, and their pair where they are of the right kinds.
+/// How a link stands in the package: the rows of its ends are looked up, and their pair where they
+/// are of the right kinds.
 pub fn link_state<S: Alter>(
     conn: &mut Connection<S>,
     relation: Relation,
 ) -> Result<LinkState, Fault>
     requires { Rests (state S.Store conn.old) }
-    ensures told { Looks (Sees (λ f p found. found ≡ link_state p relation)) (state S.Store conn.old) (state S.Store conn.new) result }
+    ensures told { Looks (Sees (λ f p found. found ≡ link_state p relation)) (state S.Store conn.old)
+        (state S.Store conn.new) result }
     ensures fit { IsUuid relation.base }
 {
     let Some(base) = row_of(conn, relation.base)? else {
@@ -106,7 +112,8 @@ pub fn link_state<S: Alter>(
 /// Whether the package has this link.
 pub fn has_link<S: Alter>(conn: &mut Connection<S>, relation: Relation) -> Result<bool, Fault>
     requires { Rests (state S.Store conn.old) }
-    ensures { Looks (Sees (λ f p found. found ≡ has link_key (link_key relation) p.links)) (state S.Store conn.old) (state S.Store conn.new) result }
+    ensures { Looks (Sees (λ f p found. found ≡ has link_key (link_key relation) p.links)) (state S.Store conn.old)
+        (state S.Store conn.new) result }
 {
     match link_state(conn, relation)? {
         LinkState::There => Ok(true),
@@ -135,7 +142,8 @@ fn is_named_by<S: Alter>(
 ) -> Result<bool, Fault>
     requires rests { Rests (state S.Store conn.old) }
     requires end { is_end mapping kind ≡ true }
-    ensures { LooksUp (λ t found. found ≡ is_named_by mapping kind number t) (state S.Store conn.old) (state S.Store conn.new) result }
+    ensures { LooksUp (λ t found. found ≡ is_named_by mapping kind number t) (state S.Store conn.old)
+        (state S.Store conn.new) result }
 {
     if kind == number_of_kind(mapping.base_kind()) {
         let found = pair_of_base(conn, mapping, number)?;
@@ -148,7 +156,8 @@ fn is_named_by<S: Alter>(
 /// Whether a mapping table names the row of this kind and number.
 fn row_is_linked<S: Alter>(conn: &mut Connection<S>, kind: i64, number: i64) -> Result<bool, Fault>
     requires { Rests (state S.Store conn.old) }
-    ensures { LooksUp (λ t found. found ≡ is_linked_row kind number t) (state S.Store conn.old) (state S.Store conn.new) result }
+    ensures { LooksUp (λ t found. found ≡ is_linked_row kind number t) (state S.Store conn.old)
+        (state S.Store conn.new) result }
 {
     let (one, another) = mappings_of(kind)?;
     let by_one = is_named_by(conn, one, kind, number)?;
@@ -159,7 +168,8 @@ fn row_is_linked<S: Alter>(conn: &mut Connection<S>, kind: i64, number: i64) -> 
 /// Whether a link of the package names the item; `None` where the package has no such item.
 pub fn is_linked<S: Alter>(conn: &mut Connection<S>, identity: Uuid) -> Result<Option<bool>, Fault>
     requires { Rests (state S.Store conn.old) }
-    ensures { Looks (Sees (λ f p found. found ≡ then_some (has_item p identity) (list_any (has_end identity) p.links))) (state S.Store conn.old) (state S.Store conn.new) result }
+    ensures { Looks (Sees (λ f p found. found ≡ then_some (has_item p identity)
+        (list_any (has_end identity) p.links))) (state S.Store conn.old) (state S.Store conn.new) result }
 {
     match row_of(conn, identity)? {
         None => Ok(None),
@@ -199,7 +209,8 @@ pub(crate) fn content_of<S: Alter>(
 /// The item of this identity, with its content.
 pub fn find<S: Alter>(conn: &mut Connection<S>, identity: Uuid) -> Result<Option<Item>, Fault>
     requires { Rests (state S.Store conn.old) }
-    ensures { Looks (Sees (λ f p found. found ≡ item_of p identity)) (state S.Store conn.old) (state S.Store conn.new) result }
+    ensures { Looks (Sees (λ f p found. found ≡ item_of p identity)) (state S.Store conn.old) (state S.Store conn.new)
+        result }
 {
     match row_of(conn, identity)? {
         None => Ok(None),

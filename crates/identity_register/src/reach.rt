@@ -1,4 +1,5 @@
-//! What is asked of a package for a cut: its tiles by place, its rows by ground, its links by their ends, each by a key or an index. An
+//! What is asked of a package for a cut: its tiles by place, its rows by ground, its links by their
+//! ends, each by a key or an index. An
 //! error is want of memory, a store that failed, or rows that no package has; the store holds what it held.
 ghost use Rattle.std.specs.Prelude.{◌≡◌, pos, true, map, IfOk, IsTrue, IsPermutation};
 ghost use Rattle.std.specs.List.{AllZip};
@@ -46,9 +47,11 @@ pub trait Reach {
     /// The tiles of a zoom whose places belong to the block.
     fn tiles_in(&mut self, zoom: i64, span: &Span, alloc: Global) -> Result<Vec<Uuid>, Fault>
         requires { can_ask self.old }
-        ensures { Asks can_ask stays shows (λ p found. found.items ≡ tiles_in p zoom span.now) self.old self.new result };
+        ensures { Asks can_ask stays shows (λ p found. found.items ≡ tiles_in p zoom span.now) self.old self.new
+            result };
 
-    /// The rows whose points lie on the ground: on its west and north edges they do, on its east and south edges they don't.
+    /// The rows whose points lie on the ground: on its west and north edges they do, on its east
+    /// and south edges they don't.
     fn rows_in(&mut self, ground: &Ground, alloc: Global) -> Result<Vec<Uuid>, Fault>
         requires { can_ask self.old }
         ensures { Asks can_ask stays shows (λ p found. found.items ≡ rows_in p ground.now) self.old self.new result };
@@ -76,7 +79,8 @@ fn other_numbers(pairs: &[MappingRow], alloc: Global) -> Result<Vec<i64>, Fault>
 /// The identity of the row of this kind and number.
 fn name_at<S: Alter>(conn: &mut Connection<S>, kind: i64, number: i64) -> Result<Uuid, Fault>
     requires { Rests (state S.Store conn.old) }
-    ensures { LooksUp (λ t id. IsNamed t.identities kind number id) (state S.Store conn.old) (state S.Store conn.new) result }
+    ensures { LooksUp (λ t id. IsNamed t.identities kind number id) (state S.Store conn.old) (state S.Store conn.new)
+        result }
 {
     let row = identity_by_key(conn, kind, number)?.ok_or(Fault::StoreFault)?;
     stored_uuid(row.uuid.as_str())
@@ -91,7 +95,10 @@ fn names_of<S: Alter>(
 ) -> Result<Vec<Uuid>, Fault>
     requires { Rests (state S.Store conn.old) }
     ensures stays { Stays (state S.Store conn.old) (state S.Store conn.new) }
-    ensures told { HasCleanDisk (state S.Store conn.new) → IsTrue (state S.Store conn.old).is_open → IfOk result (λ names. IsTrue (state S.Store conn.new).is_open × Answers (λ t names. AllZip (IsNamed t.identities kind) numbers.now names.items) names (state S.Store conn.old).now (state S.Store conn.new).now) }
+    ensures told { HasCleanDisk (state S.Store conn.new) → IsTrue (state S.Store conn.old).is_open
+        → IfOk result (λ names. IsTrue (state S.Store conn.new).is_open
+        × Answers (λ t names. AllZip (IsNamed t.identities kind) numbers.now names.items) names
+        (state S.Store conn.old).now (state S.Store conn.new).now) }
 {
     let mut names = Vec::new(alloc);
     for number in numbers {
@@ -121,7 +128,8 @@ pub fn tiles_in<S: Alter>(
     alloc: Global,
 ) -> Result<Vec<Uuid>, Fault>
     requires { Rests (state S.Store conn.old) }
-    ensures { Looks (Sees (λ f p found. found.items ≡ tiles_in p zoom span.now)) (state S.Store conn.old) (state S.Store conn.new) result }
+    ensures { Looks (Sees (λ f p found. found.items ≡ tiles_in p zoom span.now)) (state S.Store conn.old)
+        (state S.Store conn.new) result }
 {
     let Span {
         column,
@@ -141,7 +149,8 @@ pub fn rows_in<S: Alter>(
     alloc: Global,
 ) -> Result<Vec<Uuid>, Fault>
     requires { Rests (state S.Store conn.old) }
-    ensures { Looks (Sees (λ f p found. found.items ≡ rows_in p ground.now)) (state S.Store conn.old) (state S.Store conn.new) result }
+    ensures { Looks (Sees (λ f p found. found.items ≡ rows_in p ground.now)) (state S.Store conn.old)
+        (state S.Store conn.new) result }
 {
     let Ground {
         west,
@@ -161,7 +170,8 @@ fn links_from(
     others: &[Uuid],
     alloc: Global,
 ) -> Result<Vec<Relation>, Fault>
-    ensures { IfOk result (λ links. links.items ≡ map (λ other. record { mapping = mapping; base = base; other = other }) others.now) }
+    ensures { IfOk result (λ links. links.items ≡ map (λ other. record
+        { mapping = mapping; base = base; other = other }) others.now) }
 {
     let links = others.iter().map(|other| Relation {
         mapping,
@@ -178,7 +188,8 @@ fn links_to(
     bases: &[Uuid],
     alloc: Global,
 ) -> Result<Vec<Relation>, Fault>
-    ensures { IfOk result (λ links. links.items ≡ map (λ base. record { mapping = mapping; base = base; other = other }) bases.now) }
+    ensures { IfOk result (λ links. links.items ≡ map (λ base. record
+        { mapping = mapping; base = base; other = other }) bases.now) }
 {
     let links = bases.iter().map(|base| Relation {
         mapping,
@@ -197,7 +208,8 @@ fn links_at_base<S: Alter>(
     alloc: Global,
 ) -> Result<Vec<Relation>, Fault>
     requires { Rests (state S.Store conn.old) }
-    ensures { LooksUp (λ t links. AreLinksAt mapping (pos (kind_number (base_kind mapping))) number identity t links.items) (state S.Store conn.old) (state S.Store conn.new) result }
+    ensures { LooksUp (λ t links. AreLinksAt mapping (pos (kind_number (base_kind mapping))) number identity t
+        links.items) (state S.Store conn.old) (state S.Store conn.new) result }
 {
     let pairs = pairs_of_base(conn, alloc, mapping, number)?;
     let numbers = other_numbers(&pairs, alloc)?;
@@ -215,7 +227,8 @@ fn links_at_other<S: Alter>(
     alloc: Global,
 ) -> Result<Vec<Relation>, Fault>
     requires { Rests (state S.Store conn.old) }
-    ensures { LooksUp (λ t links. AreLinksAt mapping (pos (kind_number (other_kind mapping))) number identity t links.items) (state S.Store conn.old) (state S.Store conn.new) result }
+    ensures { LooksUp (λ t links. AreLinksAt mapping (pos (kind_number (other_kind mapping))) number identity t
+        links.items) (state S.Store conn.old) (state S.Store conn.new) result }
 {
     let pairs = pairs_of_related(conn, alloc, mapping, number)?;
     let numbers = base_numbers(&pairs, alloc)?;
@@ -224,7 +237,8 @@ fn links_at_other<S: Alter>(
     links_to(mapping, identity, &bases, alloc)
 }
 
-/// The links of a mapping at the row of this kind and number, which is that of the identity; the mapping relates items of that kind.
+/// The links of a mapping at the row of this kind and number, which is that of the identity; the
+/// mapping relates items of that kind.
 fn links_at<S: Alter>(
     conn: &mut Connection<S>,
     mapping: Mapping,
@@ -235,7 +249,8 @@ fn links_at<S: Alter>(
 ) -> Result<Vec<Relation>, Fault>
     requires rests { Rests (state S.Store conn.old) }
     requires end { is_end mapping kind ≡ true }
-    ensures { LooksUp (λ t links. AreLinksAt mapping kind number identity t links.items) (state S.Store conn.old) (state S.Store conn.new) result }
+    ensures { LooksUp (λ t links. AreLinksAt mapping kind number identity t links.items) (state S.Store conn.old)
+        (state S.Store conn.new) result }
 {
     if kind == number_of_kind(mapping.base_kind()) {
         return links_at_base(conn, mapping, number, identity, alloc);
@@ -250,7 +265,8 @@ pub fn links_of<S: Alter>(
     alloc: Global,
 ) -> Result<Vec<Relation>, Fault>
     requires { Rests (state S.Store conn.old) }
-    ensures { Looks (Sees (λ f p found. found.items ≡ links_of p identity)) (state S.Store conn.old) (state S.Store conn.new) result }
+    ensures { Looks (Sees (λ f p found. found.items ≡ links_of p identity)) (state S.Store conn.old)
+        (state S.Store conn.new) result }
 {
     let Some(row) = row_of(conn, identity)? else {
         return Ok(Vec::new(alloc));

@@ -1,4 +1,5 @@
-//! What a whole package holds, told as receipts tell it: an item by its size and its digest. One content is in memory at a time.
+//! What a whole package holds, told as receipts tell it: an item by its size and its digest. One
+//! content is in memory at a time.
 //! An error is want of memory, a store that failed, or rows that no package has; the store holds what it held.
 ghost use Rattle.std.specs.Prelude.{◌≡◌, map, IfOk, IsTrue, IsPermutation};
 ghost use Rattle.std.specs.List.{AllZip};
@@ -42,7 +43,10 @@ fn told_of<S: Alter>(
 ) -> Result<Vec<Moved>, Fault>
     requires { Rests (state S.Store conn.old) }
     ensures stays { Stays (state S.Store conn.old) (state S.Store conn.new) }
-    ensures told { HasCleanDisk (state S.Store conn.new) → IsTrue (state S.Store conn.old).is_open → IfOk result (λ told. IsTrue (state S.Store conn.new).is_open × Answers (λ t told. AllZip (λ r. IsToldOf r t) rows.now told.items) told (state S.Store conn.old).now (state S.Store conn.new).now) }
+    ensures told { HasCleanDisk (state S.Store conn.new) → IsTrue (state S.Store conn.old).is_open
+        → IfOk result (λ told. IsTrue (state S.Store conn.new).is_open
+        × Answers (λ t told. AllZip (λ r. IsToldOf r t) rows.now told.items) told (state S.Store conn.old).now
+        (state S.Store conn.new).now) }
 {
     let mut told = Vec::new(alloc);
     for row in rows {
@@ -71,13 +75,16 @@ fn links_told(links: &[Relation], alloc: Global) -> Result<Vec<Moved>, AllocErro
     links.iter().map(|link| Moved::of_link(link)).collect(alloc)
 }
 
-/// All items of the package, by kind and identity, and all its links, by mapping, base and other end, both as receipts tell them. The identity rows are read once for both, and each content by its number.
+/// All items of the package, by kind and identity, and all its links, by mapping, base and other
+/// end, both as receipts tell them. The identity rows are read once for both, and each content by
+/// its number.
 pub fn told<S: Alter>(
     conn: &mut Connection<S>,
     alloc: Global,
 ) -> Result<(Vec<Moved>, Vec<Moved>), Fault>
     requires { Rests (state S.Store conn.old) }
-    ensures { Looks (Sees (λ f p told. (told.0.items ≡ map item_moved p.items) × (told.1.items ≡ map link_moved p.links))) (state S.Store conn.old) (state S.Store conn.new) result }
+    ensures { Looks (Sees (λ f p told. (told.0.items ≡ map item_moved p.items)
+        × (told.1.items ≡ map link_moved p.links))) (state S.Store conn.old) (state S.Store conn.new) result }
 {
     let rows = all_identities(conn, alloc)?;
     let items = told_of(conn, &rows, alloc)?;

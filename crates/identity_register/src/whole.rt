@@ -1,5 +1,7 @@
-//! What a whole package holds, read by one statement a table. Identity rows and the rows of the user tables are both read
-//! in the order of kind and number, so that each identity meets its content without a look-up. An error is want of memory, a
+//! What a whole package holds, read by one statement a table. Identity rows and the rows of the
+//! user tables are both read
+//! in the order of kind and number, so that each identity meets its content without a look-up. An
+//! error is want of memory, a
 //! store that failed, or rows that no package has; the store holds what it held.
 ghost use Rattle.std.specs.Prelude.{◌≡◌, ◌++◌, map, bytes_eq, IfOk, IfErr, IsTrue, IsPermutation};
 ghost use Rattle.std.specs.List.{AllByRecursion, AllZip, IsDistinct};
@@ -11,7 +13,8 @@ ghost use Rattle.sheet_types.specs.Texts.{uuid_text};
 ghost use Rattle.sheet_types.specs.World.{item_key, link_key};
 ghost use Rattle.package_tables.specs.Calls.{LooksUp};
 ghost use Rattle.identity_register.specs.Calls.{Sees};
-ghost use Rattle.identity_register.specs.Gathered.{tile_placed, medium_placed, attributes_placed, IsPlaced, IsItemOf, AreItemsBy, IsNamed, IsLinkOf, AreLinksIn, AreLinksBy};
+ghost use Rattle.identity_register.specs.Gathered.{tile_placed, medium_placed, attributes_placed, IsPlaced, IsItemOf};
+ghost use Rattle.identity_register.specs.Gathered.{AreItemsBy, IsNamed, IsLinkOf, AreLinksIn, AreLinksBy};
 
 use crate::kinds::{MEDIUM, ROW, TILE, number_of_kind};
 use crate::row_contents::{of_attributes, of_medium, of_tile};
@@ -44,7 +47,8 @@ fn contents_of(
     rows: Vec<AttributeRow>,
     alloc: Global,
 ) -> Result<Vec<Placed>, Fault>
-    ensures { IfOk result (λ placed. placed.items ≡ map tile_placed tiles.items ++ map medium_placed media.items ++ map attributes_placed rows.items) }
+    ensures { IfOk result (λ placed. placed.items ≡ map tile_placed tiles.items ++ map medium_placed media.items
+        ++ map attributes_placed rows.items) }
 {
     let tiles = tiles.into_iter().map(|tile| Placed {
         kind: TILE,
@@ -67,7 +71,8 @@ fn contents_of(
 /// What the user tables hold, by kind and number.
 fn all_contents<S: Alter>(conn: &mut Connection<S>, alloc: Global) -> Result<Vec<Placed>, Fault>
     requires { Rests (state S.Store conn.old) }
-    ensures { LooksUp (λ t placed. AllByRecursion (IsPlaced t) placed.items) (state S.Store conn.old) (state S.Store conn.new) result }
+    ensures { LooksUp (λ t placed. AllByRecursion (IsPlaced t) placed.items) (state S.Store conn.old)
+        (state S.Store conn.new) result }
 {
     let tiles = all_tiles(conn, alloc)?;
     let media = all_media(conn, alloc)?;
@@ -79,7 +84,12 @@ fn all_contents<S: Alter>(conn: &mut Connection<S>, alloc: Global) -> Result<Vec
 fn item_at(row: &IdentityRow, placed: Placed) -> Result<Item, Fault>
     ensures identity { IfOk result (λ i. row.now.uuid ≡ uuid_text i.identity) }
     ensures fit { IfOk result (λ i. IsUuid i.identity) }
-    ensures content { IfOk result (λ i. placed ≡ record { kind = row.now.kind; number = row.now.local_id; content = i.content }) }
+    ensures content { IfOk result (λ i. placed ≡ record {
+      kind = row.now.kind;
+      number = row.now.local_id;
+      content =
+          i.content;
+    }) }
 {
     if row.kind != placed.kind || row.local_id != placed.number {
         return Err(Fault::StoreFault);
@@ -127,7 +137,8 @@ fn items_by<S: Alter>(
     alloc: Global,
 ) -> Result<Vec<Item>, Fault>
     requires { Rests (state S.Store conn.old) }
-    ensures { LooksUp (λ t found. AreItemsBy rows.now t found.items) (state S.Store conn.old) (state S.Store conn.new) result }
+    ensures { LooksUp (λ t found. AreItemsBy rows.now t found.items) (state S.Store conn.old) (state S.Store conn.new)
+        result }
 {
     let placed = all_contents(conn, alloc)?;
     let items = items_of(rows, placed, alloc)?;
@@ -186,7 +197,8 @@ fn links_in<S: Alter>(
     alloc: Global,
 ) -> Result<Vec<Relation>, Fault>
     requires { Rests (state S.Store conn.old) }
-    ensures { LooksUp (λ t links. AreLinksIn mapping rows.now t links.items) (state S.Store conn.old) (state S.Store conn.new) result }
+    ensures { LooksUp (λ t links. AreLinksIn mapping rows.now t links.items) (state S.Store conn.old)
+        (state S.Store conn.new) result }
 {
     let pairs = all_pairs(conn, mapping, alloc)?;
     links_of(mapping, rows, &pairs, alloc)
@@ -196,7 +208,8 @@ fn links_in<S: Alter>(
 pub(crate) fn links_in_order(mut links: Vec<Relation>) -> Result<Vec<Relation>, Fault>
     ensures same { IfOk result (λ sorted. IsPermutation links.items sorted.items) }
     ensures order { IfOk result (λ sorted. IsArranged link_key sorted.items) }
-    ensures twice { IfErr result (λ _. AllByRecursion (λ l. IsUuid l.base) links.items → IsDistinct bytes_eq (map link_key links.items) → ⊥) }
+    ensures twice { IfErr result (λ _. AllByRecursion (λ l. IsUuid l.base) links.items
+        → IsDistinct bytes_eq (map link_key links.items) → ⊥) }
 {
     links.sort_unstable_by_key(|link| (link.mapping.link_kind().number(), link.base, link.other));
     if links.is_sorted_by(|link, next| link_is_before(link, next)) {
@@ -213,7 +226,8 @@ pub(crate) fn links_by<S: Alter>(
     alloc: Global,
 ) -> Result<Vec<Relation>, Fault>
     requires { Rests (state S.Store conn.old) }
-    ensures { LooksUp (λ t found. AreLinksBy rows.now t found.items) (state S.Store conn.old) (state S.Store conn.new) result }
+    ensures { LooksUp (λ t found. AreLinksBy rows.now t found.items) (state S.Store conn.old) (state S.Store conn.new)
+        result }
 {
     let mut links = links_in(conn, Mapping::TilesMedia, rows, alloc)?;
     let rows_media = links_in(conn, Mapping::RowsMedia, rows, alloc)?;
@@ -223,13 +237,15 @@ pub(crate) fn links_by<S: Alter>(
     links_in_order(links)
 }
 
-/// All items of the package, by kind and identity, and all its links, by mapping, base and other end. The identity rows are read once for both.
+/// All items of the package, by kind and identity, and all its links, by mapping, base and other
+/// end. The identity rows are read once for both.
 pub fn holdings<S: Alter>(
     conn: &mut Connection<S>,
     alloc: Global,
 ) -> Result<(Vec<Item>, Vec<Relation>), Fault>
     requires { Rests (state S.Store conn.old) }
-    ensures { Looks (Sees (λ f p held. (held.0.items ≡ p.items) × (held.1.items ≡ p.links))) (state S.Store conn.old) (state S.Store conn.new) result }
+    ensures { Looks (Sees (λ f p held. (held.0.items ≡ p.items) × (held.1.items ≡ p.links))) (state S.Store conn.old)
+        (state S.Store conn.new) result }
 {
     let rows = all_identities(conn, alloc)?;
     let items = items_by(conn, &rows, alloc)?;

@@ -11,9 +11,12 @@ some_last first second some = rw (length-append first second) (omega (arith, som
 
 some_row : (fields : List (List ℕ)) → 0 < length (row_text default_writer fields)
 some_row fields =
-    let blank : List ℕ = if is_blank default_writer fields then default_writer.quote ∷ default_writer.quote ∷ [] else [] in
+    let blank : List ℕ = if is_blank default_writer fields then default_writer.quote ∷ default_writer.quote
+    ∷ [] else [] in
     let one : length (end_text default_writer.terminator) ≡ 1 = refl in
-    some_last (row_body default_writer fields) (blank ++ end_text default_writer.terminator) (some_last blank (end_text default_writer.terminator) (omega (arith, one)))
+    some_last (row_body default_writer fields) (blank ++ end_text default_writer.terminator)
+    (some_last blank (end_text default_writer.terminator) (omega (arith, one)))
 
 pub some_manifest : (items : List Item) (links : List Relation) → 0 < length (manifest_of items links)
-some_manifest items links = some_first (row_text default_writer manifest_header) (records_text item_fields items ++ records_text link_fields links) (some_row manifest_header)
+some_manifest items links = some_first (row_text default_writer manifest_header)
+    (records_text item_fields items ++ records_text link_fields links) (some_row manifest_header)

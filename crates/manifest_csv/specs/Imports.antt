@@ -1,5 +1,6 @@
 -- What an import makes of a world, and what it writes. Profile.
-use Rattle.std.specs.Prelude.{◌≡◌, ◌⊎◌, ◌≤◌, ◌-◌, ℕ, List, [], ◌∷◌, ◌++◌, Option, Some, None, Result, Ok, Err, IfSome, length, take}
+use Rattle.std.specs.Prelude.{◌≡◌, ◌⊎◌, ◌≤◌, ◌-◌, ℕ, List, [], ◌∷◌, ◌++◌, Option, Some, None, Result, Ok, Err, IfSome}
+use Rattle.std.specs.Prelude.{length, take}
 use Rattle.std.specs.List.{AllByRecursion}
 use Rattle.std.specs.Io.KnownBytes.{Appends}
 use Rattle.sqlite.specs.Store.{Ghosts}
@@ -30,7 +31,8 @@ IsEndOf reply (Some fault) = reply ≡ Err (fault_refusal fault)
 
 -- the replies of an import that was stopped by this fault, which the last of them tells
 abbrev pub AreStopped : List (Result Receipt Refusal) → Fault → Type 0
-AreStopped replies fault = (before : List (Result Receipt Refusal)) × (replies ≡ before ++ Err (fault_refusal fault) ∷ []) × AllByRecursion GoesOn before
+AreStopped replies fault = (before : List (Result Receipt Refusal))
+    × (replies ≡ before ++ Err (fault_refusal fault) ∷ []) × AllByRecursion GoesOn before
 
 -- the lines of all replies but the last
 abbrev pub lines_before : List Request → List (Result Receipt Refusal) → List ℕ
@@ -41,10 +43,14 @@ abbrev pub report_before : List Request → List (Result Receipt Refusal) → Li
 report_before requests [] = []
 report_before requests (reply ∷ replies) = report_header ++ lines_before requests (reply ∷ replies)
 
--- What was written for these replies to a list of requests. text is the whole that was due: all lines so far; sent is what had gone out before the last of them.
-abbrev pub IsWritten : List Request → List (Result Receipt Refusal) → List ℕ → List ℕ → Option (List ℕ) → Option (List ℕ) → Result (Unit {0}) ImportFault → Type 0
-IsWritten requests replies sent text before after (Ok x) = (length replies ≡ length requests) × AllByRecursion GoesOn replies × Appends before after text
-IsWritten requests replies sent text before after (Err (Stopped n fault)) = (n ≡ length replies) × AreStopped replies fault × Appends before after text
+-- What was written for these replies to a list of requests. text is the whole that was due: all lines so far; sent is
+-- what had gone out before the last of them.
+abbrev pub IsWritten : List Request → List (Result Receipt Refusal) → List ℕ → List ℕ → Option (List ℕ)
+    → Option (List ℕ) → Result (Unit {0}) ImportFault → Type 0
+IsWritten requests replies sent text before after (Ok x) = (length replies ≡ length requests)
+    × AllByRecursion GoesOn replies × Appends before after text
+IsWritten requests replies sent text before after (Err (Stopped n fault)) = (n ≡ length replies)
+    × AreStopped replies fault × Appends before after text
 IsWritten requests replies sent text before after (Err Unwritten) = WentOutPast sent before after text
 IsWritten requests replies sent text before after (Err (Unread fault)) = ⊥
 
@@ -58,37 +64,52 @@ IsListOf requests of = (text : Option (List ℕ)) → IfSome text (λ t. IsList 
 
 -- What a shelf was used for by the list that a text is: for each of its requests in turn it was asked for what that one
 -- asks to be made, or given back what it takes home, or neither.
-abbrev pub UsesOfList : {S H : Type 0} → (List ℕ → H → H → Type 0) → (List ℕ → S → H → H → Type 0) → Option (List ℕ) → H → H → Type 0
-UsesOfList Asks Takes text before after = (requests : List Request) × IfSome text (λ t. IsList t requests) × IsUsedForEach Asks Takes requests before after
+abbrev pub UsesOfList : {S H : Type 0} → (List ℕ → H → H → Type 0) → (List ℕ → S → H → H → Type 0) → Option (List ℕ)
+    → H → H → Type 0
+UsesOfList Asks Takes text before after = (requests : List Request) × IfSome text (λ t. IsList t requests)
+    × IsUsedForEach Asks Takes requests before after
 
 -- The same of an import of the text. By one that is not read it was not used.
-abbrev pub UsesOf : {S H : Type 0} → (List ℕ → H → H → Type 0) → (List ℕ → S → H → H → Type 0) → Option (List ℕ) → H → H → Result (Unit {0}) ImportFault → Type 0
+abbrev pub UsesOf : {S H : Type 0} → (List ℕ → H → H → Type 0) → (List ℕ → S → H → H → Type 0) → Option (List ℕ) → H
+    → H → Result (Unit {0}) ImportFault → Type 0
 UsesOf Asks Takes text before after (Err (Unread fault)) = after ≡ before
 UsesOf Asks Takes text before after (Err (Stopped n fault)) = UsesOfList Asks Takes text before after
 UsesOf Asks Takes text before after (Err Unwritten) = UsesOfList Asks Takes text before after
 UsesOf Asks Takes text before after (Ok x) = UsesOfList Asks Takes text before after
 
 module _ {S : Type 0} (g : Ghosts S) where
-  -- The first of the requests were carried out, one after the other, with a shelf that had failed so often before and after, and their lines were written.
-  pub record IsReported (requests : List Request) (old new : Seen S) (failed fails : ℕ) (before after : Option (List ℕ)) (r : Result (Unit {0}) ImportFault) : Type 0 where
+  -- The first of the requests were carried out, one after the other, with a shelf that had failed so often before and
+  -- after, and their lines were written.
+  pub record IsReported (requests : List Request) (old new : Seen S) (failed fails : ℕ)
+      (before after : Option (List ℕ)) (r : Result (Unit {0}) ImportFault) : Type 0 where
     pub replies : List (Result Receipt Refusal)
     pub some : length replies ≤ length requests
     pub ran : IsRun g (take (length replies) requests) old replies new failed fails
-    pub written : IsWritten requests replies (lines_before requests replies) (report_lines 1 requests replies) before after r
+    pub written : IsWritten requests replies (lines_before requests replies) (report_lines 1 requests replies) before
+        after r
 
   -- The same with the header line before. Where that could not be written, there are no replies.
-  pub record IsImported (requests : List Request) (old new : Seen S) (failed fails : ℕ) (before after : Option (List ℕ)) (r : Result (Unit {0}) ImportFault) : Type 0 where
+  pub record IsImported (requests : List Request) (old new : Seen S) (failed fails : ℕ)
+      (before after : Option (List ℕ)) (r : Result (Unit {0}) ImportFault) : Type 0 where
     pub replies : List (Result Receipt Refusal)
     pub some : length replies ≤ length requests
     pub ran : IsRun g (take (length replies) requests) old replies new failed fails
-    pub written : IsWritten requests replies (report_before requests replies) (report_of requests replies) before after r
+    pub written : IsWritten requests replies (report_before requests replies) (report_of requests replies) before
+        after r
 
-  -- An import of a text: of a list that is read, its requests are carried out and reported. Of one that is not, nothing is carried out and nothing is written.
-  abbrev pub Imports : {W : Type 0} → Option (List ℕ) → Seen S → Seen S → ℕ → ℕ → W → W → Option (List ℕ) → Option (List ℕ) → Result (Unit {0}) ImportFault → Type 0
-  Imports text old new failed fails writer writer' before after (Err (Unread fault)) = IsWhyUnread text fault × (new ≡ old) × (fails ≡ failed) × (writer' ≡ writer)
-  Imports text old new failed fails writer writer' before after (Err (Stopped n fault)) = (requests : List Request) × IfSome text (λ t. IsList t requests) × IsImported requests old new failed fails before after (Err (Stopped n fault))
-  Imports text old new failed fails writer writer' before after (Err Unwritten) = (requests : List Request) × IfSome text (λ t. IsList t requests) × IsImported requests old new failed fails before after (Err Unwritten)
-  Imports text old new failed fails writer writer' before after (Ok x) = (requests : List Request) × IfSome text (λ t. IsList t requests) × IsImported requests old new failed fails before after (Ok x)
+  -- An import of a text: of a list that is read, its requests are carried out and reported. Of one that is not,
+  -- nothing is carried out and nothing is written.
+  abbrev pub Imports : {W : Type 0} → Option (List ℕ) → Seen S → Seen S → ℕ → ℕ → W → W → Option (List ℕ)
+      → Option (List ℕ) → Result (Unit {0}) ImportFault → Type 0
+  Imports text old new failed fails writer writer' before after (Err (Unread fault)) = IsWhyUnread text fault
+      × (new ≡ old) × (fails ≡ failed) × (writer' ≡ writer)
+  Imports text old new failed fails writer writer' before after (Err (Stopped n fault)) = (requests : List Request)
+      × IfSome text (λ t. IsList t requests) × IsImported requests old new failed fails before after
+      (Err (Stopped n fault))
+  Imports text old new failed fails writer writer' before after (Err Unwritten) = (requests : List Request)
+      × IfSome text (λ t. IsList t requests) × IsImported requests old new failed fails before after (Err Unwritten)
+  Imports text old new failed fails writer writer' before after (Ok x) = (requests : List Request)
+      × IfSome text (λ t. IsList t requests) × IsImported requests old new failed fails before after (Ok x)
 
   -- Requests that are a list already are carried out and reported. Where memory for a line is wanting, nothing is
   -- carried out.

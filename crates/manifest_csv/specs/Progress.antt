@@ -1,5 +1,6 @@
 -- What is told of an import while it goes on. Profile.
-use Rattle.std.specs.Prelude.{◌≡◌, ◌≤◌, ℕ, zero, suc, List, [], ◌∷◌, ◌++◌, length, Option, Some, None, Result, Ok, Err, IfSome}
+use Rattle.std.specs.Prelude.{◌≡◌, ◌≤◌, ℕ, zero, suc, List, [], ◌∷◌, ◌++◌, length, Option, Some, None, Result, Ok}
+use Rattle.std.specs.Prelude.{Err, IfSome}
 use Rattle.sheet_types.specs.declared.command.Request.{Request}
 use Rattle.request_csv.specs.RequestLists.{IsList}
 use Rattle.manifest_csv.specs.declared.importing.ImportFault.{ImportFault}
@@ -27,6 +28,8 @@ abbrev pub AreTold : ℕ → Option (List (ℕ × ℕ)) → Option (List (ℕ ×
 AreTold all before after r = (n : ℕ) × IsCount all n r × Tells before after (counts all n)
 
 -- the same of the requests of a list; of none that is read, nothing is told
-abbrev pub IsTold : Option (List ℕ) → Option (List (ℕ × ℕ)) → Option (List (ℕ × ℕ)) → Result (Unit {0}) ImportFault → Type 0
+abbrev pub IsTold : Option (List ℕ) → Option (List (ℕ × ℕ)) → Option (List (ℕ × ℕ)) → Result (Unit {0}) ImportFault
+    → Type 0
 IsTold text before after (Err (Unread fault)) = Tells before after []
-IsTold text before after r = (requests : List Request) × IfSome text (λ t. IsList t requests) × AreTold (length requests) before after r
+IsTold text before after r = (requests : List Request) × IfSome text (λ t. IsList t requests)
+    × AreTold (length requests) before after r

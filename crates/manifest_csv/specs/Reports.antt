@@ -21,13 +21,15 @@ refusal_of (Err refusal) = refusal_number refusal
 
 -- the line of the n-th request, by its identity and its reply
 abbrev pub report_line : ℕ → List ℕ → Result Receipt Refusal → List ℕ
-report_line n id reply = decimal n ++ (codes "," ++ (uuid_text id ++ (codes "," ++ (decimal (seq_of reply) ++ (codes "," ++ (decimal (refusal_of reply) ++ codes "\n"))))))
+report_line n id reply = decimal n ++ (codes "," ++ (uuid_text id
+    ++ (codes "," ++ (decimal (seq_of reply) ++ (codes "," ++ (decimal (refusal_of reply) ++ codes "\n"))))))
 
 -- the lines of the requests that have a reply, numbered from n
 unfoldable pub report_lines : ℕ → List Request → List (Result Receipt Refusal) → List ℕ
 report_lines n requests [] = []
 report_lines n [] (reply ∷ replies) = []
-report_lines n (request ∷ requests) (reply ∷ replies) = report_line n request.id reply ++ report_lines (n + 1) requests replies
+report_lines n (request ∷ requests) (reply ∷ replies) = report_line n request.id reply
+    ++ report_lines (n + 1) requests replies
 
 -- the report of a list of requests, as far as they have a reply
 abbrev pub report_of : List Request → List (Result Receipt Refusal) → List ℕ

@@ -28,7 +28,8 @@ pub enum ImportFault {
     Unread(ReadFault),
     /// The reply to the request of this number tells this fault. Its line is the last of the report.
     Stopped(u64, Fault),
-    /// The writer failed. The requests up to the line being written were carried out, and a beginning of the report went out, and not all of it.
+    /// The writer failed. The requests up to the line being written were carried out, and a
+    /// beginning of the report went out, and not all of it.
     Unwritten,
 }
 
@@ -63,7 +64,8 @@ pub fn end_of(reply: &Result<Receipt, Refusal>) -> Option<Fault>
     }
 }
 
-/// Carries the requests out in their order, and writes the line of each before the next is carried out. The teller is told of each whose line was written.
+/// Carries the requests out in their order, and writes the line of each before the next is carried
+/// out. The teller is told of each whose line was written.
 fn report_each<S: Alter + Drop, H: Shelf<S>, W: Write, T: Teller>(
     alloc: Global,
     world: &mut World<S>,
@@ -93,11 +95,15 @@ fn report_each<S: Alter + Drop, H: Shelf<S>, W: Write, T: Teller>(
     Ok(())
 }
 
-/// Carries out the requests of a list that was read, and writes the report of it. The shelf gives the stores of the packages that a request makes, and is asked for no other. Room for the longest line is there before the first is written. A refusal is reported, and the import goes on. The teller is told of each request whose line was written.
+/// Carries out the requests of a list that was read, and writes the report of it. The shelf gives
+/// the stores of the packages that a request makes, and is asked for no other. Room for the longest
+/// line is there before the first is written. A refusal is reported, and the import goes on. The
+/// teller is told of each request whose line was written.
 ///
 /// # Errors
 ///
-/// Want of memory for a line, as if the list had not been read; a request that want of memory or a store stopped; or a writer that failed.
+/// Want of memory for a line, as if the list had not been read; a request that want of memory or a
+/// store stopped; or a writer that failed.
 pub fn carry_out<S: Alter + Drop, H: Shelf<S>, W: Write, T: Teller>(
     alloc: Global,
     world: &mut World<S>,
@@ -122,7 +128,8 @@ pub fn carry_out<S: Alter + Drop, H: Shelf<S>, W: Write, T: Teller>(
     report_each(alloc, world, requests, shelf, &mut buffer, writer, teller)
 }
 
-/// Carries out the request list of a reader and writes the report of it, as `carry_out` does. The whole list is read before anything is carried out.
+/// Carries out the request list of a reader and writes the report of it, as `carry_out` does. The
+/// whole list is read before anything is carried out.
 ///
 /// # Errors
 ///

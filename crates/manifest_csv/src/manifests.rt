@@ -4,7 +4,8 @@ ghost use Rattle.std.specs.Fmt.{signed_decimal};
 ghost use Rattle.std.specs.Io.KnownBytes.{Appends};
 ghost use Rattle.hex.specs.Hex.{encode_lower};
 ghost use Rattle.csv.specs.Writing.{default_writer, row_text, text_written};
-ghost use Rattle.manifest_csv.specs.Manifests.{IsBetween, item_fields, link_fields, manifest_header, manifest_of, records_text};
+ghost use Rattle.manifest_csv.specs.Manifests.{IsBetween, item_fields, link_fields, manifest_header, manifest_of};
+ghost use Rattle.manifest_csv.specs.Manifests.{records_text};
 ghost use Rattle.sheet_types.specs.Texts.{fingerprint, size, uuid_text};
 
 use csv::{Writer, WriterBuilder};
@@ -16,7 +17,8 @@ use std::alloc::Global;
 // Writes one record.
 fn write_record(writer: &mut Writer<Vec<u8>>, fields: &[&[u8]]) -> Result<(), OutOfMemory>
     requires { IsBetween writer.old }
-    ensures text { OnOk result (Appends (text_written (λ v. Some v.items) writer.old) (text_written (λ v. Some v.items) writer.new) (row_text default_writer (map (λ f. f.now) fields.now))) }
+    ensures text { OnOk result (Appends (text_written (λ v. Some v.items) writer.old)
+        (text_written (λ v. Some v.items) writer.new) (row_text default_writer (map (λ f. f.now) fields.now))) }
     ensures between { OnOk result (IsBetween writer.new) }
 {
     match writer.write_fields(fields) {
@@ -28,7 +30,8 @@ fn write_record(writer: &mut Writer<Vec<u8>>, fields: &[&[u8]]) -> Result<(), Ou
 // Writes the names of the columns.
 pub(crate) fn write_header(writer: &mut Writer<Vec<u8>>) -> Result<(), OutOfMemory>
     requires { IsBetween writer.old }
-    ensures text { OnOk result (Appends (text_written (λ v. Some v.items) writer.old) (text_written (λ v. Some v.items) writer.new) (row_text default_writer manifest_header)) }
+    ensures text { OnOk result (Appends (text_written (λ v. Some v.items) writer.old)
+        (text_written (λ v. Some v.items) writer.new) (row_text default_writer manifest_header)) }
     ensures between { OnOk result (IsBetween writer.new) }
 {
     write_record(
@@ -72,8 +75,11 @@ fn write_tile(
     row: i64,
 ) -> Result<(), OutOfMemory>
     requires { IsBetween writer.old }
-    ensures text { OnOk result (Appends (text_written (λ v. Some v.items) writer.old) (text_written (λ v. Some v.items) writer.new) (row_text default_writer
-        (codes "tile" ∷ uuid_text tile.now.identity ∷ [] ∷ signed_decimal zoom ∷ signed_decimal column ∷ signed_decimal row ∷ [] ∷ [] ∷ [] ∷ decimal (size tile.now.content) ∷ encode_lower (fingerprint tile.now.content) ∷ [] ∷ []))) }
+    ensures text { OnOk result (Appends (text_written (λ v. Some v.items) writer.old)
+        (text_written (λ v. Some v.items) writer.new) (row_text default_writer
+        (codes "tile" ∷ uuid_text tile.now.identity ∷ [] ∷ signed_decimal zoom ∷ signed_decimal column
+        ∷ signed_decimal row ∷ [] ∷ [] ∷ [] ∷ decimal (size tile.now.content)
+        ∷ encode_lower (fingerprint tile.now.content) ∷ [] ∷ []))) }
     ensures between { OnOk result (IsBetween writer.new) }
 {
     let (id, size, digest) = common_texts(alloc, tile)?;
@@ -98,8 +104,11 @@ fn write_medium(
     content_type: &str,
 ) -> Result<(), OutOfMemory>
     requires { IsBetween writer.old }
-    ensures text { OnOk result (Appends (text_written (λ v. Some v.items) writer.old) (text_written (λ v. Some v.items) writer.new) (row_text default_writer
-        (codes "media" ∷ uuid_text medium.now.identity ∷ [] ∷ [] ∷ [] ∷ [] ∷ [] ∷ [] ∷ [] ∷ decimal (size medium.now.content) ∷ encode_lower (fingerprint medium.now.content) ∷ content_type.now ∷ []))) }
+    ensures text { OnOk result (Appends (text_written (λ v. Some v.items) writer.old)
+        (text_written (λ v. Some v.items) writer.new) (row_text default_writer
+        (codes "media" ∷ uuid_text medium.now.identity ∷ [] ∷ [] ∷ [] ∷ [] ∷ [] ∷ [] ∷ []
+        ∷ decimal (size medium.now.content) ∷ encode_lower (fingerprint medium.now.content) ∷ content_type.now
+        ∷ []))) }
     ensures between { OnOk result (IsBetween writer.new) }
 {
     let (id, size, digest) = common_texts(alloc, medium)?;
@@ -124,8 +133,11 @@ fn write_row(
     label: &str,
 ) -> Result<(), OutOfMemory>
     requires { IsBetween writer.old }
-    ensures text { OnOk result (Appends (text_written (λ v. Some v.items) writer.old) (text_written (λ v. Some v.items) writer.new) (row_text default_writer
-        (codes "row" ∷ uuid_text row.now.identity ∷ [] ∷ [] ∷ [] ∷ [] ∷ signed_decimal x ∷ signed_decimal y ∷ signed_decimal code ∷ decimal (size row.now.content) ∷ encode_lower (fingerprint row.now.content) ∷ label.now ∷ []))) }
+    ensures text { OnOk result (Appends (text_written (λ v. Some v.items) writer.old)
+        (text_written (λ v. Some v.items) writer.new) (row_text default_writer
+        (codes "row" ∷ uuid_text row.now.identity ∷ [] ∷ [] ∷ [] ∷ [] ∷ signed_decimal x ∷ signed_decimal y
+        ∷ signed_decimal code ∷ decimal (size row.now.content) ∷ encode_lower (fingerprint row.now.content)
+        ∷ label.now ∷ []))) }
     ensures between { OnOk result (IsBetween writer.new) }
 {
     let (id, size, digest) = common_texts(alloc, row)?;
@@ -154,7 +166,8 @@ pub(crate) trait Record {
     // Writes the record.
     fn write(&self, writer: &mut Writer<Vec<u8>>, alloc: Global) -> Result<(), OutOfMemory>
         requires { IsBetween writer.old }
-        ensures text { OnOk result (Appends (text_written (λ v. Some v.items) writer.old) (text_written (λ v. Some v.items) writer.new) (row_text default_writer (fields self.now))) }
+        ensures text { OnOk result (Appends (text_written (λ v. Some v.items) writer.old)
+            (text_written (λ v. Some v.items) writer.new) (row_text default_writer (fields self.now))) }
         ensures between { OnOk result (IsBetween writer.new) };
 }
 
@@ -205,7 +218,8 @@ pub(crate) fn write_records<R: Record>(
     records: &[R],
 ) -> Result<(), OutOfMemory>
     requires { IsBetween writer.old }
-    ensures text { OnOk result (Appends (text_written (λ v. Some v.items) writer.old) (text_written (λ v. Some v.items) writer.new) (records_text R.fields records.now)) }
+    ensures text { OnOk result (Appends (text_written (λ v. Some v.items) writer.old)
+        (text_written (λ v. Some v.items) writer.new) (records_text R.fields records.now)) }
     ensures between { OnOk result (IsBetween writer.new) }
 {
     for record in records {
@@ -225,7 +239,9 @@ pub(crate) fn text_of(writer: Writer<Vec<u8>>) -> Result<Vec<u8>, OutOfMemory>
     }
 }
 
-/// The manifest of a package that holds these items and links: a header and one record each, as CSV (RFC 4180, section 2) with LF ends (profile). The order is that of the lists, which the register keeps by kind, identity and other end.
+/// The manifest of a package that holds these items and links: a header and one record each, as CSV
+/// (RFC 4180, section 2) with LF ends (profile). The order is that of the lists, which the register
+/// keeps by kind, identity and other end.
 pub fn manifest_text(
     alloc: Global,
     items: &[Item],

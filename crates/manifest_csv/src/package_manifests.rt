@@ -55,7 +55,9 @@ impl From<WriteFault> for ManifestFault {
     }
 }
 
-/// Writes the manifest of a package: a line for each item, by kind and identity, and then for each link, by mapping, base and medium. The text is made whole before any of it is written. Of a package of many bytes one content is in memory at a time.
+/// Writes the manifest of a package: a line for each item, by kind and identity, and then for each
+/// link, by mapping, base and medium. The text is made whole before any of it is written. Of a
+/// package of many bytes one content is in memory at a time.
 ///
 /// # Errors
 ///
@@ -67,7 +69,8 @@ pub fn write_manifest<S: Alter + Drop, W: Write>(
     writer: &mut W,
 ) -> Result<(), ManifestFault>
     ensures read { IsRead S.Store world.old world.new }
-    ensures written { IsManifest S.Store «package» world.old world.new (W.contents writer.old) (W.contents writer.new) result }
+    ensures written { IsManifest S.Store «package» world.old world.new (W.contents writer.old) (W.contents writer.new)
+        result }
     ensures nothing { WritesNothing writer.old writer.new result }
 {
     let question = ManifestText {

@@ -54,7 +54,8 @@ fn put(buffer: &mut String, text: &str)
     buffer.push_str(text).unwrap();
 }
 
-/// Puts the line of the `n`-th request in place of what the buffer held. It wants no memory, so it can't fail once the request was carried out.
+/// Puts the line of the `n`-th request in place of what the buffer held. It wants no memory, so it
+/// can't fail once the request was carried out.
 pub fn put_line(buffer: &mut String, n: u64, id: Uuid, reply: &Result<Receipt, Refusal>)
     requires room { 128 ≤ string_capacity buffer.old }
     ensures text { string_bytes buffer.new ≡ report_line n id reply.now }

@@ -9,7 +9,8 @@ use std::io::{ErrorKind, Write};
 #[derive(Clone, Copy, Debug, PartialEq, Eq)]
 pub struct WriteFault;
 
-/// Writes a text whole. A write that was interrupted is tried again; where the writer fails or takes nothing, a beginning of the text went out, and not all of it.
+/// Writes a text whole. A write that was interrupted is tried again; where the writer fails or
+/// takes nothing, a beginning of the text went out, and not all of it.
 pub fn send<W: Write>(writer: &mut W, text: &[u8]) -> Result<(), WriteFault>
     ensures ok { OnOk result (Appends (W.contents writer.old) (W.contents writer.new) text.now) }
     ensures err { OnErr result (WentOut (W.contents writer.old) (W.contents writer.new) text.now) }

@@ -46,7 +46,8 @@ fn opened<S: Alter + Drop>(
     requires long { length judged.verdict.kept.items ≡ length stores.items }
     requires good { IsTrue (is_good_frame judged.frame) }
     requires low { judged.verdict.count ≤ greatest_receipts }
-    requires stands { AreClean S.Store stores.items → StandsForSome S.Store (seen_of_stores judged.frame stores.items judged.verdict judged.known) }
+    requires stands { AreClean S.Store stores.items → StandsForSome S.Store
+        (seen_of_stores judged.frame stores.items judged.verdict judged.known) }
     requires shares { HasRoomOf room.shares (length stores.items) }
     requires members { room.shares.members.items ≡ [] }
     requires strays { room.shares.strays.items ≡ [] }
@@ -94,11 +95,16 @@ fn recover_at_rest<S: Alter + Drop, W: Watcher>(
     Ok(opened(stores, judged, room))
 }
 
-/// Opens the world that stores stand for, whatever they are and in whatever order: the live ones become its members, the others are handed out beside it. A live one of the first version is brought to the second. Each was just opened, so that its tables are in the order of their rowids. The watcher is told how many of them were looked at.
+/// Opens the world that stores stand for, whatever they are and in whatever order: the live ones
+/// become its members, the others are handed out beside it. A live one of the first version is
+/// brought to the second. Each was just opened, so that its tables are in the order of their
+/// rowids. The watcher is told how many of them were looked at.
 ///
 /// # Errors
 ///
-/// The first of the nine faults whose condition holds, with its least package or identity; or want of memory, or a store that failed. All stores are handed back: only read, but for some that may have been brought before memory or a store gave out.
+/// The first of the nine faults whose condition holds, with its least package or identity; or want
+/// of memory, or a store that failed. All stores are handed back: only read, but for some that may
+/// have been brought before memory or a store gave out.
 pub fn recover<S: Alter + Drop, W: Watcher>(
     alloc: Global,
     stores: Vec<Connection<S>>,

@@ -1,5 +1,6 @@
 -- Items that are not as they were added: what is listed of sights is what is altered in the world.
-use Rattle.std.specs.Prelude.{◌≡◌, ◌⊎◌, ℕ, Bool, true, false, cond, not, ◌&&◌, List, [], ◌∷◌, filter, find, flat_map, Option, Some, None, unwrap_or, bytes_eq, Contains, refl}
+use Rattle.std.specs.Prelude.{◌≡◌, ◌⊎◌, ℕ, Bool, true, false, cond, not, ◌&&◌, List, [], ◌∷◌, filter, find, flat_map}
+use Rattle.std.specs.Prelude.{Option, Some, None, unwrap_or, bytes_eq, Contains, refl}
 use Rattle.std.proofs.Common.{sym, ap, subst, ◌∙◌, inl, inr}
 use Rattle.std.proofs.lemmas.Bool.{true≢false}
 use Rattle.std.specs.List.{list_any}
@@ -30,7 +31,9 @@ use Rattle.opening_faults.proofs.Turning.{of_filter}
 
 -- ---- the least of a list is its first in order
 
-least_put : (x : List ℕ) (zs xs : List (List ℕ)) → ((id : List ℕ) → In id zs → In id xs) → ((id : List ℕ) → In id xs → In id zs) → IsLeastOf (find (λ _. true) zs) xs → IsLeastOf (find (λ _. true) (put (λ k. k) x zs)) (x ∷ xs)
+least_put : (x : List ℕ) (zs xs : List (List ℕ)) → ((id : List ℕ) → In id zs → In id xs)
+    → ((id : List ℕ) → In id xs → In id zs) → IsLeastOf (find (λ _. true) zs) xs
+    → IsLeastOf (find (λ _. true) (put (λ k. k) x zs)) (x ∷ xs)
 least_put x [] xs to fro h = (
   Contains-In x (x ∷ xs) (inl refl),
   λ other i. elim (contained (x ∷ xs) other i) [
@@ -39,7 +42,8 @@ least_put x [] xs to fro h = (
   ],
 )
 least_put x (z ∷ zs) xs to fro h =
-    elim (is_before z x) as (λ v. is_before z x ≡ v → IsLeastOf (find (λ _. true) (cond v (z ∷ put (λ k. k) x zs) (x ∷ z ∷ zs))) (x ∷ xs)) [
+    elim (is_before z x) as (λ v. is_before z x ≡ v → IsLeastOf
+    (find (λ _. true) (cond v (z ∷ put (λ k. k) x zs) (x ∷ z ∷ zs))) (x ∷ xs)) [
       | true ↦ λ lt. (
         Contains-In z (x ∷ xs) (inr (contained xs z h.0)),
         λ other i. elim (contained (x ∷ xs) other i) [
@@ -68,17 +72,19 @@ in_put x id (z ∷ zs) i = elim (is_before z x) as (λ v. In id (cond v (z ∷ p
 
 of_put : (x id : List ℕ) (zs : List (List ℕ)) → In id (put (λ k. k) x zs) → (x ≡ id) ⊎ In id zs
 of_put x id [] i = i
-of_put x id (z ∷ zs) i = elim (is_before z x) as (λ v. In id (cond v (z ∷ put (λ k. k) x zs) (x ∷ z ∷ zs)) → (x ≡ id) ⊎ In id (z ∷ zs)) [
-  | true ↦ λ j. elim j [
-    | inl here ↦ inr (inl here)
-    | inr later ↦ elim (of_put x id zs later) [ inl e ↦ inl e | inr k ↦ inr (inr k) ]
-  ]
-  | false ↦ λ j. j
-] i
+of_put x id (z ∷ zs) i = elim (is_before z x) as (λ v. In id (cond v (z ∷ put (λ k. k) x zs) (x ∷ z ∷ zs)) → (x ≡ id)
+    ⊎ In id (z ∷ zs)) [
+      | true ↦ λ j. elim j [
+        | inl here ↦ inr (inl here)
+        | inr later ↦ elim (of_put x id zs later) [ inl e ↦ inl e | inr k ↦ inr (inr k) ]
+      ]
+      | false ↦ λ j. j
+    ] i
 
 to_order : (xs : List (List ℕ)) (id : List ℕ) → In id xs → In id (arranged (λ k. k) xs)
 to_order [] id i = i
-to_order (x ∷ xs) id i = in_put x id (arranged (λ k. k) xs) (elim i [ inl e ↦ inl (sym e) | inr j ↦ inr (to_order xs id j) ])
+to_order (x ∷ xs) id i = in_put x id (arranged (λ k. k) xs) (elim i
+    [ inl e ↦ inl (sym e) | inr j ↦ inr (to_order xs id j) ])
 
 of_order : (xs : List (List ℕ)) (id : List ℕ) → In id (arranged (λ k. k) xs) → In id xs
 of_order [] id i = i
@@ -89,7 +95,8 @@ least_of_list [] = λ id h. contained [] id h
 least_of_list (x ∷ xs) = least_put x (arranged (λ k. k) xs) xs (of_order xs) (to_order xs) (least_of_list xs)
 
 -- lists with the same elements have one least
-one_least : (xs ys : List (List ℕ)) (a b : Option (List ℕ)) → ((id : List ℕ) → Contains xs id → Contains ys id) → ((id : List ℕ) → Contains ys id → Contains xs id) → IsLeastOf a xs → IsLeastOf b ys → a ≡ b
+one_least : (xs ys : List (List ℕ)) (a b : Option (List ℕ)) → ((id : List ℕ) → Contains xs id → Contains ys id)
+    → ((id : List ℕ) → Contains ys id → Contains xs id) → IsLeastOf a xs → IsLeastOf b ys → a ≡ b
 one_least xs ys None None to fro h g = refl
 one_least xs ys None (Some k) to fro h g = absurd (h k (fro k g.0))
 one_least xs ys (Some k) None to fro h g = absurd (g k (to k h.0))
@@ -103,7 +110,8 @@ one_least xs ys (Some j) (Some k) to fro h g = ap Some (neither_before j k (g.1 
 
 -- ---- packages and their sights
 
-package_of : (ss : List Sight) (ps : List Package) (s : Sight) → AreSightsOf ss ps → In s ss → (p : Package) × In p ps × IsSightOf s p
+package_of : (ss : List Sight) (ps : List Package) (s : Sight) → AreSightsOf ss ps → In s ss → (p : Package) × In p ps
+    × IsSightOf s p
 package_of [] ps s h i = absurd i
 package_of (t ∷ ts) [] s h i = absurd h
 package_of (t ∷ ts) (p ∷ ps) s h i = elim i [
@@ -111,7 +119,8 @@ package_of (t ∷ ts) (p ∷ ps) s h i = elim i [
   | inr later ↦ let r : (q : Package) × In q ps × IsSightOf s q = package_of ts ps s h.1 later in (r.0, inr r.1, r.2)
 ]
 
-sight_of : (ss : List Sight) (ps : List Package) (p : Package) → AreSightsOf ss ps → In p ps → (s : Sight) × In s ss × IsSightOf s p
+sight_of : (ss : List Sight) (ps : List Package) (p : Package) → AreSightsOf ss ps → In p ps → (s : Sight) × In s ss
+    × IsSightOf s p
 sight_of ss [] p h i = absurd i
 sight_of [] (q ∷ ps) p h i = absurd h
 sight_of (t ∷ ts) (q ∷ ps) p h i = elim i [
@@ -127,29 +136,56 @@ said_same i m = keys_same m.size (size i.content) m.base i.identity (unwrap_or m
 any_alike : {X : Type 0} (p q : X → Bool) → ((x : X) → p x ≡ q x) → (xs : List X) → list_any p xs ≡ list_any q xs
 any_alike p q same xs = ap (λ t. list_any t xs) (λ i. λ x. same x i)
 
-added_same : (ledger : List Receipt) (i : Item) → list_any (adds_item (item_said (item_moved i))) ledger ≡ is_unaltered ledger i
-added_same ledger i = any_alike (adds_item (item_said (item_moved i))) (λ r. is_add r && list_any (names_as i) r.items) (λ r. ap (λ b. is_add r && b) (any_alike (λ m. bytes_eq (item_said m) (item_said (item_moved i))) (names_as i) (said_same i) r.items)) ledger
+added_same : (ledger : List Receipt) (i : Item) → list_any (adds_item (item_said (item_moved i))) ledger
+    ≡ is_unaltered ledger i
+added_same ledger i = any_alike (adds_item (item_said (item_moved i)))
+    (λ r. is_add r && list_any (names_as i) r.items) (λ r. ap (λ b. is_add r && b)
+    (any_alike (λ m. bytes_eq (item_said m) (item_said (item_moved i))) (names_as i) (said_same i) r.items)) ledger
 
-module _ (ledger : List Receipt) (sights : List Sight) (w : World) (seen : IsSeenWith ledger sights w) (added : BTreeSet (List ℕ)) (noted : (key : List ℕ) → contains (slice_cmp nat_cmp) added key ≡ list_any (adds_item key) ledger) where
-  is_as_added : (i : Item) → contains (slice_cmp nat_cmp) added (item_said (item_moved i)) ≡ is_unaltered (receipts_of w) i
+module _ (ledger : List Receipt) (sights : List Sight) (w : World) (seen : IsSeenWith ledger sights w)
+    (added : BTreeSet (List ℕ)) (noted : (key : List ℕ) → contains (slice_cmp nat_cmp) added key
+    ≡ list_any (adds_item key) ledger) where
+  is_as_added : (i : Item) → contains (slice_cmp nat_cmp) added (item_said (item_moved i))
+      ≡ is_unaltered (receipts_of w) i
   is_as_added i = noted (item_said (item_moved i)) ∙ added_same ledger i ∙ ap (λ rs. is_unaltered rs i) seen.whole
 
   altered_to : (id : List ℕ) → IsAlteredIn added sights id → Contains (altered w) id
   altered_to id (s, there, (m, here, (differs, named))) =
-      let p : (p : Package) × In p w.packages × IsSightOf s p = package_of sights w.packages s seen.seen.packages (contained sights s there) in
-      let i : (i : Item) × In i p.0.items × (item_moved i ≡ m) = In-of_map item_moved m p.0.items (subst (In m) p.2.items (contained s.items m here)) in
-      let fact : not (is_unaltered (receipts_of w) i.0) ≡ true = ap not (sym (is_as_added i.0) ∙ ap (λ v. contains (slice_cmp nat_cmp) added (item_said v)) i.2 ∙ differs) in
+      let p : (p : Package) × In p w.packages × IsSightOf s p =
+      package_of sights w.packages s seen.seen.packages (contained sights s there) in
+      let i : (i : Item) × In i p.0.items × (item_moved i ≡ m) =
+      In-of_map item_moved m p.0.items (subst (In m) p.2.items (contained s.items m here)) in
+      let fact : not (is_unaltered (receipts_of w) i.0) ≡ true =
+      ap not (sym (is_as_added i.0) ∙ ap (λ v. contains (slice_cmp nat_cmp) added (item_said v)) i.2
+      ∙ differs) in
       Contains-In id (altered w) (subst (λ v. In v (altered w)) (ap (λ v. v.base) i.2 ∙ named)
-      (In-map (λ x. x.identity) i.0 (flat_map (λ q. filter (λ x. not (is_unaltered (receipts_of w) x)) q.items) w.packages)
-      (In-flat_map (λ q. filter (λ x. not (is_unaltered (receipts_of w) x)) q.items) p.0 i.0 w.packages p.1 (In-filter (λ x. not (is_unaltered (receipts_of w) x)) i.0 p.0.items i.1 fact))))
+      (In-map (λ x. x.identity) i.0 (flat_map (λ q. filter (λ x. not (is_unaltered (receipts_of w) x)) q.items)
+      w.packages)
+      (In-flat_map (λ q. filter (λ x. not (is_unaltered (receipts_of w) x)) q.items) p.0 i.0 w.packages p.1
+      (In-filter (λ x. not (is_unaltered (receipts_of w) x)) i.0 p.0.items i.1 fact))))
 
   altered_fro : (id : List ℕ) → Contains (altered w) id → IsAlteredIn added sights id
   altered_fro id h =
-      let i : (i : Item) × In i (flat_map (λ q. filter (λ x. not (is_unaltered (receipts_of w) x)) q.items) w.packages) × (i.identity ≡ id) = In-of_map (λ x. x.identity) id (flat_map (λ q. filter (λ x. not (is_unaltered (receipts_of w) x)) q.items) w.packages) (contained (altered w) id h) in
+      let i : (i : Item) × In i (flat_map (λ q. filter (λ x. not (is_unaltered (receipts_of w) x)) q.items)
+      w.packages) × (i.identity ≡ id) = In-of_map (λ x. x.identity) id
+      (flat_map (λ q. filter (λ x. not (is_unaltered (receipts_of w) x)) q.items) w.packages)
+      (contained (altered w) id h) in
       let p = In-of_flat_map (λ q. filter (λ x. not (is_unaltered (receipts_of w) x)) q.items) i.0 w.packages i.1 in
-      let t : In i.0 p.0.items × (not (is_unaltered (receipts_of w) i.0) ≡ true) = of_filter (λ x. not (is_unaltered (receipts_of w) x)) i.0 p.0.items p.2 in
-      let s : (s : Sight) × In s sights × IsSightOf s p.0 = sight_of sights w.packages p.0 seen.seen.packages p.1 in
-      (s.0, Contains-In s.0 sights s.1, (item_moved i.0, Contains-In (item_moved i.0) s.0.items (subst (In (item_moved i.0)) (sym s.2.items) (In-map item_moved i.0 p.0.items t.0)), (is_as_added i.0 ∙ not_true _ t.1, i.2)))
+      let t : In i.0 p.0.items × (not (is_unaltered (receipts_of w) i.0) ≡ true) =
+      of_filter (λ x. not (is_unaltered (receipts_of w) x)) i.0 p.0.items p.2 in
+      let s : (s : Sight) × In s sights × IsSightOf s p.0 = sight_of sights w.packages p.0 seen.seen.packages p.1 in (
+        s.0,
+        Contains-In s.0 sights s.1,
+        (
+          item_moved i.0,
+          Contains-In (item_moved i.0) s.0.items
+              (subst (In (item_moved i.0)) (sym s.2.items) (In-map item_moved i.0 p.0.items t.0)),
+          (is_as_added i.0 ∙ not_true _ t.1, i.2),
+        ),
+      )
 
-  pub least_altered_is : (ids : List (List ℕ)) (o : Option (List ℕ)) → Adds (IsAlteredIn added sights) [] ids → IsLeastOf o ids → least (altered w) ≡ o
-  least_altered_is ids o all h = one_least (altered w) ids (least (altered w)) o (λ id a. all.whole id (altered_fro id a)) (λ id c. altered_to id (listed (IsAlteredIn added sights) ids all id c)) (least_of_list (altered w)) h
+  pub least_altered_is : (ids : List (List ℕ)) (o : Option (List ℕ)) → Adds (IsAlteredIn added sights) [] ids
+      → IsLeastOf o ids → least (altered w) ≡ o
+  least_altered_is ids o all h = one_least (altered w) ids (least (altered w)) o
+      (λ id a. all.whole id (altered_fro id a)) (λ id c. altered_to id
+      (listed (IsAlteredIn added sights) ids all id c)) (least_of_list (altered w)) h

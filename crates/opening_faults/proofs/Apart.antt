@@ -20,7 +20,8 @@ use Rattle.opening_faults.proofs.Turning.{found_headed, no_loan, headed}
 pub adds_none : (P : List ℕ → Type 0) (ids : List (List ℕ)) → ((id : List ℕ) → P id → ⊥) → Adds P ids ids
 adds_none P ids none = record { kept = λ id h. h; sound = λ id h. inl h; whole = λ id p. absurd (none id p) }
 
-pub adds_one : (P : List ℕ → Type 0) (old new : List (List ℕ)) (one : List ℕ) → new ≡ old ++ one ∷ [] → P one → ((id : List ℕ) → P id → one ≡ id) → Adds P old new
+pub adds_one : (P : List ℕ → Type 0) (old new : List (List ℕ)) (one : List ℕ) → new ≡ old ++ one ∷ [] → P one
+    → ((id : List ℕ) → P id → one ≡ id) → Adds P old new
 adds_one P old new one all p only = record {
   kept = λ id h. still_there old new one id all h;
   sound = λ id h. elim (there_or_last old new one id all h) [ inl there ↦ inl there | inr e ↦ inr (subst P e p) ];
@@ -28,15 +29,22 @@ adds_one P old new one all p only = record {
 }
 
 -- by some of a list, none at first
-pub adds_by_none : {X : Type 0} (P : X → List ℕ → Type 0) (ids : List (List ℕ)) → Adds (λ id. (x : X) × Contains [] x × P x id) ids ids
+pub adds_by_none : {X : Type 0} (P : X → List ℕ → Type 0) (ids : List (List ℕ))
+    → Adds (λ id. (x : X) × Contains [] x × P x id) ids ids
 adds_by_none {X} P ids = adds_none (λ id. (x : X) × Contains [] x × P x id) ids (λ id h. contained [] h.0 h.1)
 
 -- by one more
-pub adds_more : {X : Type 0} (P : X → List ℕ → Type 0) (xs more : List X) (x : X) (old mid new : List (List ℕ)) → more ≡ xs ++ x ∷ [] → Adds (λ id. (y : X) × Contains xs y × P y id) old mid → Adds (P x) mid new → Adds (λ id. (y : X) × Contains more y × P y id) old new
+pub adds_more : {X : Type 0} (P : X → List ℕ → Type 0) (xs more : List X) (x : X) (old mid new : List (List ℕ))
+    → more ≡ xs ++ x ∷ [] → Adds (λ id. (y : X) × Contains xs y × P y id) old mid → Adds (P x) mid new
+    → Adds (λ id. (y : X) × Contains more y × P y id) old new
 adds_more P xs more x old mid new is was now = record {
   kept = λ id h. now.kept id (was.kept id h);
   sound = λ id h. elim (now.sound id h) [
-    | inl there ↦ elim (was.sound id there) [ inl before ↦ inl before | inr p ↦ inr (p.0, still_there xs more x p.0 is p.1, p.2) ]
+    | inl there ↦ elim (was.sound id there) [
+      | inl before ↦ inl before
+      | inr p
+          ↦ inr (p.0, still_there xs more x p.0 is p.1, p.2)
+    ]
     | inr p ↦ inr (x, last_there xs more x is, p)
   ];
   whole = λ id p. elim (there_or_last xs more x p.0 is p.1) [
@@ -46,15 +54,18 @@ adds_more P xs more x old mid new is was now = record {
 }
 
 -- a store that is a loan has a head, and its UUID is that of the head
-pub pushed_head : (s : Sight) (c : Claim) (old new : List (List ℕ)) → is_loan_of c s ≡ true → new ≡ old ++ option_map_or (λ h. h.uuid ∷ []) s.head [] → new ≡ old ++ uuid_seen s ∷ []
+pub pushed_head : (s : Sight) (c : Claim) (old new : List (List ℕ)) → is_loan_of c s ≡ true
+    → new ≡ old ++ option_map_or (λ h. h.uuid ∷ []) s.head [] → new ≡ old ++ uuid_seen s ∷ []
 pushed_head s c old new loan is = elim (headed s.head) [
-  | inl h ↦ is ∙ ap (λ ys. old ++ ys) (ap (λ o. option_map_or (λ x. x.uuid ∷ []) o []) h.1 ∙ sym (ap (λ o. option_map_or (λ x. x.uuid) (option_map head_said o) [] ∷ []) h.1))
+  | inl h ↦ is ∙ ap (λ ys. old ++ ys) (ap (λ o. option_map_or (λ x. x.uuid ∷ []) o []) h.1
+      ∙ sym (ap (λ o. option_map_or (λ x. x.uuid) (option_map head_said o) [] ∷ []) h.1))
   | inr bare ↦ absurd (true≢false (sym loan ∙ no_loan s c bare))
 ]
 
 -- ---- the fault
 
-module _ (sights : List Sight) (splits : List OpenSplit) (all : AreOpenSplits sights splits) (root : Sight) (is : find is_root sights ≡ Some root) where
+module _ (sights : List Sight) (splits : List OpenSplit) (all : AreOpenSplits sights splits) (root : Sight)
+    (is : find is_root sights ≡ Some root) where
   pub foreign_to : (id : List ℕ) → IsForeign root sights splits id → ForeignFrame sights id
   foreign_to id (split, among, (loan, there, (made, apart, named))) =
       let of : IsOpenSplit sights split = all.sound split among in
@@ -88,7 +99,8 @@ module _ (sights : List Sight) (splits : List OpenSplit) (all : AreOpenSplits si
             made,
             elim apart [
               | inl frames ↦ inl (λ e. frames (e ∙ ap frame_seen (sym same)))
-              | inr below ↦ inr (λ b. below (subst (λ o. IsBelow o (head_seen loan)) (sym (ap (option_map head_said) h.1)) b))
+              | inr below ↦ inr (λ b. below (subst (λ o. IsBelow o (head_seen loan))
+                  (sym (ap (option_map head_said) h.1)) b))
             ],
             named,
           ),
@@ -108,7 +120,8 @@ no_root sights none id (root, s, c, loan, first, there, shown, here, made, named
 pub listed : (P : List ℕ → Type 0) (ids : List (List ℕ)) → Adds P [] ids → (id : List ℕ) → Contains ids id → P id
 listed P ids h id there = elim (h.sound id there) [ inl none ↦ absurd (contained [] id none) | inr p ↦ p ]
 
-pub some_weaker : (P Q : List ℕ → Type 0) (o : Option (List ℕ)) → ((id : List ℕ) → P id → Q id) → IfSome o P → IfSome o Q
+pub some_weaker : (P Q : List ℕ → Type 0) (o : Option (List ℕ)) → ((id : List ℕ) → P id → Q id) → IfSome o P
+    → IfSome o Q
 some_weaker P Q None f h = tt
 some_weaker P Q (Some id) f h = f id h
 

@@ -1,5 +1,7 @@
 -- The least of some UUIDs, and which UUIDs are looked for.
-use Rattle.std.specs.Prelude.{◌≡◌, ◌⊎◌, ℕ, ℤ, pos, negsuc, zero, suc, Bool, true, false, cond, ◌&&◌, ◌==◌, nat_le, bytes_eq, List, [], ◌∷◌, ◌++◌, Option, Some, None, count_by, Contains, option_map, IfSome, IfNone, refl}
+use Rattle.std.specs.Prelude.{◌≡◌, ◌⊎◌, ℕ, ℤ, pos, negsuc, zero, suc, Bool, true, false, cond, ◌&&◌, ◌==◌, nat_le}
+use Rattle.std.specs.Prelude.{bytes_eq, List, [], ◌∷◌, ◌++◌, Option, Some, None, count_by, Contains, option_map}
+use Rattle.std.specs.Prelude.{IfSome, IfNone, refl}
 use Rattle.std.proofs.Common.{sym, ap, subst, ◌∙◌, arith, inl, inr}
 use Rattle.std.proofs.lemmas.Bool.{true≢false, false_from_ne_true}
 use Rattle.std.proofs.lemmas.Bool.Decides.{nat_tests}
@@ -48,15 +50,18 @@ pub last_there : {X : Type 0} (xs more : List X) (x : X) → more ≡ xs ++ x �
 last_there xs more x is = Contains-In x more (subst (In x) (sym is) (In-append x xs (x ∷ []) (inr (inl refl))))
 
 pub still_there : {X : Type 0} (xs more : List X) (x y : X) → more ≡ xs ++ x ∷ [] → Contains xs y → Contains more y
-still_there xs more x y is h = Contains-In y more (subst (In y) (sym is) (In-append y xs (x ∷ []) (inl (contained xs y h))))
+still_there xs more x y is h = Contains-In y more (subst (In y) (sym is)
+    (In-append y xs (x ∷ []) (inl (contained xs y h))))
 
-pub there_or_last : {X : Type 0} (xs more : List X) (x y : X) → more ≡ xs ++ x ∷ [] → Contains more y → Contains xs y ⊎ (x ≡ y)
+pub there_or_last : {X : Type 0} (xs more : List X) (x y : X) → more ≡ xs ++ x ∷ [] → Contains more y → Contains xs y
+    ⊎ (x ≡ y)
 there_or_last xs more x y is h = elim (In-of_append y xs (x ∷ []) (subst (In y) is (contained more y h))) [
   | inl i ↦ inl (Contains-In y xs i)
   | inr j ↦ elim j [ inl e ↦ inr e | inr none ↦ absurd none ]
 ]
 
-pub least_more : (o : Option (List ℕ)) (xs more : List (List ℕ)) (id : List ℕ) → more ≡ xs ++ id ∷ [] → IsLeastOf o xs → IsLeastOf (Some (lesser o id)) more
+pub least_more : (o : Option (List ℕ)) (xs more : List (List ℕ)) (id : List ℕ) → more ≡ xs ++ id ∷ [] → IsLeastOf o xs
+    → IsLeastOf (Some (lesser o id)) more
 least_more None xs more id is none = (
   last_there xs more id is,
   λ other h. elim (there_or_last xs more id other is h) [
@@ -83,10 +88,12 @@ least_more (Some x) xs more id is h =
     ] refl
 
 -- the least of a list is the least of what the list has
-pub least_by : (P : List ℕ → Type 0) (ids : List (List ℕ)) → ((id : List ℕ) → Contains ids id → P id) → ((id : List ℕ) → P id → Contains ids id) → (id : List ℕ) → IsLeastOf (Some id) ids → IsLeast P id
+pub least_by : (P : List ℕ → Type 0) (ids : List (List ℕ)) → ((id : List ℕ) → Contains ids id → P id)
+    → ((id : List ℕ) → P id → Contains ids id) → (id : List ℕ) → IsLeastOf (Some id) ids → IsLeast P id
 least_by P ids to fro id h = (to id h.0, λ other p. h.1 other (fro other p))
 
-pub never_by : (P : List ℕ → Type 0) (ids : List (List ℕ)) → ((id : List ℕ) → P id → Contains ids id) → IsLeastOf None ids → IsNever P
+pub never_by : (P : List ℕ → Type 0) (ids : List (List ℕ)) → ((id : List ℕ) → P id → Contains ids id)
+    → IsLeastOf None ids → IsNever P
 never_by P ids fro h = λ id p. h id (fro id p)
 
 -- ---- what is put behind the others
@@ -98,14 +105,16 @@ pushed_none wanted text ids off = record {
   whole = λ id fit on is. absurd (true≢false (sym on ∙ off));
 }
 
-pub pushed_not : (wanted : Bool) (text : List ℕ) (ids : List (List ℕ)) → ((id : List ℕ) → IsUuid id → text ≡ uuid_text id → ⊥) → IsPushed wanted text ids ids
+pub pushed_not : (wanted : Bool) (text : List ℕ) (ids : List (List ℕ))
+    → ((id : List ℕ) → IsUuid id → text ≡ uuid_text id → ⊥) → IsPushed wanted text ids ids
 pushed_not wanted text ids none = record {
   kept = λ id h. h;
   sound = λ id h. inl h;
   whole = λ id fit on is. absurd (none id fit is);
 }
 
-pub pushed_one : (wanted : Bool) (text : List ℕ) (old new : List (List ℕ)) (one : List ℕ) → new ≡ old ++ one ∷ [] → wanted ≡ true → text ≡ uuid_text one → IsUuid one → IsPushed wanted text old new
+pub pushed_one : (wanted : Bool) (text : List ℕ) (old new : List (List ℕ)) (one : List ℕ) → new ≡ old ++ one ∷ []
+    → wanted ≡ true → text ≡ uuid_text one → IsUuid one → IsPushed wanted text old new
 pushed_one wanted text old new one all on is fit = record {
   kept = λ id h. still_there old new one id all h;
   sound = λ id h. elim (there_or_last old new one id all h) [
@@ -116,9 +125,15 @@ pushed_one wanted text old new one all on is fit = record {
 }
 
 pub none_wanted : (test : OpenSplit → Bool) → AreWanted test [] []
-none_wanted test = record { sound = λ id h. absurd (contained [] id h); whole = λ id split fit h. absurd (contained [] split h) }
+none_wanted test = record {
+  sound = λ id h. absurd (contained [] id h);
+  whole =
+      λ id split fit h. absurd (contained [] split h);
+}
 
-pub wanted_more : (test : OpenSplit → Bool) (xs more : List OpenSplit) (split : OpenSplit) (wanted : Bool) (old new : List (List ℕ)) → more ≡ xs ++ split ∷ [] → wanted ≡ test split → IsPushed wanted split.target old new → AreWanted test xs old → AreWanted test more new
+pub wanted_more : (test : OpenSplit → Bool) (xs more : List OpenSplit) (split : OpenSplit) (wanted : Bool)
+    (old new : List (List ℕ)) → more ≡ xs ++ split ∷ [] → wanted ≡ test split → IsPushed wanted split.target old new
+    → AreWanted test xs old → AreWanted test more new
 wanted_more test xs more split wanted old new is same pushed was = record {
   sound = λ id h. elim (pushed.sound id h) [
     | inl there ↦ let w = was.sound id there in (w.0, (w.1.0, still_there xs more split w.1.0 is w.1.1, w.1.2, w.1.3))
@@ -133,32 +148,49 @@ wanted_more test xs more split wanted old new is same pushed was = record {
 -- ---- counts
 
 -- what is told of the key of a split is how many stores are its loan
-module _ (sights : List Sight) (counts : BTreeMap (List ℕ) Copies) (counted : (key : List ℕ) → get (slice_cmp nat_cmp) counts key ≡ told (count_by (has_key key) sights)) where
-  key_is : (n : ℕ) (target : List ℕ) (o : Option StoreHead) → option_map_or (λ h. bytes_eq (head_key h) (n ∷ target)) o false ≡ option_map_or (λ h. bytes_eq (uuid_text h.uuid) target && is_within (pos n) (pos n) (pos h.loan)) o false
+module _ (sights : List Sight) (counts : BTreeMap (List ℕ) Copies)
+    (counted : (key : List ℕ) → get (slice_cmp nat_cmp) counts key ≡ told (count_by (has_key key) sights)) where
+  key_is : (n : ℕ) (target : List ℕ) (o : Option StoreHead) → option_map_or (λ h. bytes_eq (head_key h) (n ∷ target))
+      o false ≡ option_map_or (λ h. bytes_eq (uuid_text h.uuid) target && is_within (pos n) (pos n) (pos h.loan)) o
+      false
   key_is n target None = refl
   key_is n target (Some h) = bytes_eq_swap (head_key h) (n ∷ target) ∙ key_of (uuid_text h.uuid) target h.loan (pos n)
 
-  loan_is : (c : Claim) (o : Option StoreHead) → option_map_or (λ h. bytes_eq (uuid_text h.uuid) c.target && is_within c.seq c.seq (pos h.loan)) (option_map head_said o) false ≡ option_map_or (λ h. bytes_eq (uuid_text h.uuid) c.target && is_within c.seq c.seq (pos h.loan)) o false
+  loan_is : (c : Claim) (o : Option StoreHead) → option_map_or
+      (λ h. bytes_eq (uuid_text h.uuid) c.target && is_within c.seq c.seq (pos h.loan)) (option_map head_said o) false
+      ≡ option_map_or (λ h. bytes_eq (uuid_text h.uuid) c.target && is_within c.seq c.seq (pos h.loan)) o false
   loan_is c None = refl
   loan_is c (Some h) = refl
 
-  not_a_loan : (n : ℕ) (target : List ℕ) (o : Option StoreHead) → option_map_or (λ h. bytes_eq (uuid_text h.uuid) target && is_within (negsuc n) (negsuc n) (pos h.loan)) o false ≡ false
+  not_a_loan : (n : ℕ) (target : List ℕ) (o : Option StoreHead)
+      → option_map_or (λ h. bytes_eq (uuid_text h.uuid) target && is_within (negsuc n) (negsuc n) (pos h.loan)) o
+      false ≡ false
   not_a_loan n target None = refl
-  not_a_loan n target (Some h) = ap (λ b. bytes_eq (uuid_text h.uuid) target && b) (not_within n h.loan) ∙ and_swap (bytes_eq (uuid_text h.uuid) target) false
+  not_a_loan n target (Some h) = ap (λ b. bytes_eq (uuid_text h.uuid) target && b) (not_within n h.loan)
+      ∙ and_swap (bytes_eq (uuid_text h.uuid) target) false
 
-  told_by : (above : StoreHead) (target : List ℕ) (seq : ℤ) → copies_of counts (record { above = above; target = target; seq = seq }) ≡ told (count_by (is_loan_of (record { seq = seq; line = []; source = []; target = target })) sights)
+  told_by : (above : StoreHead) (target : List ℕ) (seq : ℤ) → copies_of counts
+      (record { above = above; target = target; seq = seq })
+      ≡ told (count_by (is_loan_of (record { seq = seq; line = []; source = []; target = target })) sights)
   told_by above target (pos n) =
-      counted (n ∷ target) ∙ ap (λ p. told (count_by p sights)) (λ i. λ s. (key_is n target s.head ∙ sym (loan_is (record { seq = pos n; line = []; source = []; target = target }) s.head)) i)
+      counted (n ∷ target) ∙ ap (λ p. told (count_by p sights))
+      (λ i. λ s. (key_is n target s.head ∙ sym (loan_is (record
+      { seq = pos n; line = []; source = []; target = target }) s.head)) i)
   told_by above target (negsuc n) =
       ap told (sym (count_none (is_loan_of (record { seq = negsuc n; line = []; source = []; target = target })) sights
       (All-each (λ s. is_loan_of (record { seq = negsuc n; line = []; source = []; target = target }) s ≡ false)
-      (λ s. loan_is (record { seq = negsuc n; line = []; source = []; target = target }) s.head ∙ not_a_loan n target s.head) sights)))
+      (λ s. loan_is (record { seq = negsuc n; line = []; source = []; target = target }) s.head
+      ∙ not_a_loan n target s.head) sights)))
 
-  pub copies_told : (split : OpenSplit) → copies_of counts split ≡ told (count_by (is_loan_of (claim_made split)) sights)
+  pub copies_told : (split : OpenSplit) → copies_of counts split
+      ≡ told (count_by (is_loan_of (claim_made split)) sights)
   copies_told split = told_by split.above split.target split.seq
 
-  pub wanted_told : (w : Wanted) (splits : List OpenSplit) (ids : List (List ℕ)) → AreWanted (λ split. is_wanted w (copies_of counts split)) splits ids → AreWanted (λ split. is_wanted w (told (count_by (is_loan_of (claim_made split)) sights))) splits ids
-  wanted_told w splits ids h = subst (λ test. AreWanted test splits ids) (λ i. λ split. is_wanted w (copies_told split i)) h
+  pub wanted_told : (w : Wanted) (splits : List OpenSplit) (ids : List (List ℕ))
+      → AreWanted (λ split. is_wanted w (copies_of counts split)) splits ids
+      → AreWanted (λ split. is_wanted w (told (count_by (is_loan_of (claim_made split)) sights))) splits ids
+  wanted_told w splits ids h = subst (λ test. AreWanted test splits ids)
+      (λ i. λ split. is_wanted w (copies_told split i)) h
 
 -- ---- the two faults
 
@@ -178,8 +210,10 @@ told_missing (suc (suc n)) = many n
     many : (k : ℕ) → false ≡ (suc (suc k) == 0)
     many k = grind (arith, nat_tests)
 
-module _ (sights : List Sight) (splits : List OpenSplit) (all : AreOpenSplits sights splits) (w : Wanted) (t : ℕ → Bool) (tells : (n : ℕ) → is_wanted w (told n) ≡ t n)
-    (ids : List (List ℕ)) (wanted : AreWanted (λ split. is_wanted w (told (count_by (is_loan_of (claim_made split)) sights))) splits ids) where
+module _ (sights : List Sight) (splits : List OpenSplit) (all : AreOpenSplits sights splits) (w : Wanted)
+    (t : ℕ → Bool) (tells : (n : ℕ) → is_wanted w (told n) ≡ t n)
+    (ids : List (List ℕ)) (wanted : AreWanted (λ split. is_wanted w
+    (told (count_by (is_loan_of (claim_made split)) sights))) splits ids) where
   abbrev Counts : List ℕ → Type 0
   Counts id = model.Counted Sight head_seen claims_seen Any Any frame_seen nothing_read t sights id
 
@@ -196,20 +230,25 @@ module _ (sights : List Sight) (splits : List OpenSplit) (all : AreOpenSplits si
         made.3,
         found.0,
         ap (λ x. x.target) (sym is) ∙ found.1.3,
-        sym (tells (count_by (is_loan_of c) sights)) ∙ ap (λ x. is_wanted w (told (count_by (is_loan_of (claim_made x)) sights))) (sym is) ∙ found.1.2,
+        sym (tells (count_by (is_loan_of c) sights)) ∙ ap (λ x. is_wanted w
+            (told (count_by (is_loan_of (claim_made x)) sights))) (sym is) ∙ found.1.2,
       )
 
   pub counted_fro : (id : List ℕ) → Counts id → Contains ids id
   counted_fro id (s, c, there, shown, fit, target, test) =
       let h : (h : StoreHead) × (s.head ≡ Some h) = found_headed sights shown.0 s shown.1.0 in
-      wanted.whole id (split_made h.0 c) fit (all.whole s c h.0 there shown h.1) (tells (count_by (is_loan_of c) sights) ∙ test) target
+      wanted.whole id (split_made h.0 c) fit (all.whole s c h.0 there shown h.1)
+      (tells (count_by (is_loan_of c) sights) ∙ test) target
 
 -- ---- the least of what is listed, where there is any
 
-pub some_least : (P : List ℕ → Type 0) (o : Option (List ℕ)) (ids : List (List ℕ)) → ((id : List ℕ) → Contains ids id → P id) → ((id : List ℕ) → P id → Contains ids id) → IsLeastOf o ids → IfSome o (λ id. IsLeast P id)
+pub some_least : (P : List ℕ → Type 0) (o : Option (List ℕ)) (ids : List (List ℕ))
+    → ((id : List ℕ) → Contains ids id → P id) → ((id : List ℕ) → P id → Contains ids id) → IsLeastOf o ids
+    → IfSome o (λ id. IsLeast P id)
 some_least P None ids to fro h = tt
 some_least P (Some id) ids to fro h = least_by P ids to fro id h
 
-pub none_least : (P : List ℕ → Type 0) (o : Option (List ℕ)) (ids : List (List ℕ)) → ((id : List ℕ) → P id → Contains ids id) → IsLeastOf o ids → IfNone o (IsNever P)
+pub none_least : (P : List ℕ → Type 0) (o : Option (List ℕ)) (ids : List (List ℕ))
+    → ((id : List ℕ) → P id → Contains ids id) → IsLeastOf o ids → IfNone o (IsNever P)
 none_least P None ids fro h = never_by P ids fro h
 none_least P (Some id) ids fro h = tt

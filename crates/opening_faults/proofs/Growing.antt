@@ -1,5 +1,6 @@
 -- The stores found round by round, as they are told by standings, and the open splits of each round.
-use Rattle.std.specs.Prelude.{◌≡◌, ℕ, zero, suc, ◌≤◌, Bool, true, false, cond, not, ◌&&◌, ◌||◌, List, [], ◌∷◌, filter, length, refl, flat_map}
+use Rattle.std.specs.Prelude.{◌≡◌, ℕ, zero, suc, ◌≤◌, Bool, true, false, cond, not, ◌&&◌, ◌||◌, List, [], ◌∷◌, filter}
+use Rattle.std.specs.Prelude.{length, refl, flat_map}
 use Rattle.std.proofs.Common.{sym, ap, subst, ◌∙◌, arith, inl, inr}
 use Rattle.std.proofs.lemmas.Bool.{true≢false, false≢true, and_parts, and_from, false_from_ne_true, cases_lt}
 use Rattle.std.proofs.lemmas.List.Folds.{list_any-append}
@@ -11,7 +12,8 @@ use Rattle.sheet_types.proofs.Every.{All-each}
 use Rattle.sheet_types.proofs.Same.{In, All-In, In-filter, In-flat_map, any_in}
 use Rattle.sheet_laws.proofs.Rounds as rounds
 use Rattle.sheet_laws.proofs.Rounds.{any_of_taken}
-use Rattle.opening_faults.specs.Sights.{Any, nothing_read, head_seen, claims_seen, frame_seen, is_root, is_reached, is_loan_of, claims_at, IsFoundIn}
+use Rattle.opening_faults.specs.Sights.{Any, nothing_read, head_seen, claims_seen, frame_seen, is_root, is_reached}
+use Rattle.opening_faults.specs.Sights.{is_loan_of, claims_at, IsFoundIn}
 use Rattle.opening_faults.specs.Standings.{standing, is_fresh, is_found, one_later}
 use Rattle.opening_faults.specs.Turns.{said_before}
 use Rattle.opening_faults.specs.declared.standing.Standing.{Standing}
@@ -28,16 +30,21 @@ either true false false T V = refl
 either false true false T V = refl
 either false true true T V = sym (or-true T)
 
-taken_first : {X Y : Type 0} (f : X → List Y) (t : X → Bool) (p : Y → Bool) (x : X) (xs : List X) → list_any p (flat_map f (filter t (x ∷ xs))) ≡ ((t x && list_any p (f x)) || list_any p (flat_map f (filter t xs)))
+taken_first : {X Y : Type 0} (f : X → List Y) (t : X → Bool) (p : Y → Bool) (x : X) (xs : List X)
+    → list_any p (flat_map f (filter t (x ∷ xs))) ≡ ((t x && list_any p (f x)) || list_any p
+    (flat_map f (filter t xs)))
 taken_first f t p x xs =
-    elim (t x) as (λ v. list_any p (flat_map f (cond v (x ∷ filter t xs) (filter t xs))) ≡ ((v && list_any p (f x)) || list_any p (flat_map f (filter t xs)))) [
+    elim (t x) as (λ v. list_any p (flat_map f (cond v (x ∷ filter t xs) (filter t xs)))
+    ≡ ((v && list_any p (f x)) || list_any p (flat_map f (filter t xs)))) [
       | true ↦ list_any-append p (f x) (flat_map f (filter t xs))
       | false ↦ refl
     ]
 
 -- what a test takes that is one of two
-pub taken_either : {X Y : Type 0} (f : X → List Y) (t v u : X → Bool) (p : Y → Bool) → ((x : X) → u x ≡ (t x || v x)) → (xs : List X)
-    → list_any p (flat_map f (filter u xs)) ≡ (list_any p (flat_map f (filter t xs)) || list_any p (flat_map f (filter v xs)))
+pub taken_either : {X Y : Type 0} (f : X → List Y) (t v u : X → Bool) (p : Y → Bool) → ((x : X) → u x ≡ (t x || v x))
+    → (xs : List X)
+    → list_any p (flat_map f (filter u xs)) ≡ (list_any p (flat_map f (filter t xs)) || list_any p
+    (flat_map f (filter v xs)))
 taken_either f t v u p same [] = refl
 taken_either f t v u p same (x ∷ xs) =
     let T : Bool = list_any p (flat_map f (filter t xs)) in
@@ -95,8 +102,11 @@ module _ (stores : List Sight) where
   pub fresh_found : (k : ℕ) (s : Sight) → fresh k s ≡ true → IsFoundIn k stores s
   fresh_found zero s h = (sym (fresh_root s) ∙ h, λ j lt. absurd (omega (arith, lt)))
   fresh_found (suc k) s h =
-      let parts = and_parts (not (at k s)) (at (suc k) s) (sym (fresh_later k s) ∙ h) in
-      (parts.1, λ j lt. false_from_ne_true (at j s) (λ g. true≢false (sym parts.0 ∙ ap not (grows j k s (omega (arith, lt)) g))))
+      let parts = and_parts (not (at k s)) (at (suc k) s) (sym (fresh_later k s) ∙ h) in (
+        parts.1,
+        λ j lt. false_from_ne_true (at j s) (λ g. true≢false
+            (sym parts.0 ∙ ap not (grows j k s (omega (arith, lt)) g))),
+      )
 
   pub found_fresh : (k : ℕ) (s : Sight) → IsFoundIn k stores s → fresh k s ≡ true
   found_fresh zero s h = fresh_root s ∙ h.0
@@ -108,12 +118,17 @@ module _ (stores : List Sight) where
   grown true w h = h refl
   grown false w h = refl
 
-  said_more : (k : ℕ) (p : Claim → Bool) → list_any p (said (suc k)) ≡ (list_any p (said k) || list_any p (news (suc k)))
-  said_more k p = taken_either claims_seen (at k) (fresh (suc k)) (at (suc k)) p (λ s. grown (at k s) (at (suc k) s) (λ g. grows k (suc k) s (omega arith) g) ∙ ap (λ b. at k s || b) (sym (fresh_later k s))) stores
+  said_more : (k : ℕ) (p : Claim → Bool) → list_any p (said (suc k))
+      ≡ (list_any p (said k) || list_any p (news (suc k)))
+  said_more k p = taken_either claims_seen (at k) (fresh (suc k)) (at (suc k)) p
+      (λ s. grown (at k s) (at (suc k) s) (λ g. grows k (suc k) s (omega arith) g)
+      ∙ ap (λ b. at k s || b) (sym (fresh_later k s))) stores
 
   -- with the claims of the stores of a round, all that is claimed up to it
-  pub said_with : (k : ℕ) (p : Claim → Bool) → (list_any p (said_before stores k) || list_any p (news k)) ≡ list_any p (said k)
-  said_with zero p = ap (λ ss. list_any p (flat_map claims_seen ss)) (filter_same (fresh zero) (at zero) stores (All-each (λ s. fresh zero s ≡ at zero s) fresh_root stores))
+  pub said_with : (k : ℕ) (p : Claim → Bool) → (list_any p (said_before stores k) || list_any p (news k))
+      ≡ list_any p (said k)
+  said_with zero p = ap (λ ss. list_any p (flat_map claims_seen ss))
+      (filter_same (fresh zero) (at zero) stores (All-each (λ s. fresh zero s ≡ at zero s) fresh_root stores))
   said_with (suc k) p = sym (said_more k p)
 
   pub news_in : (k : ℕ) (s : Sight) (c : Claim) → In s stores → at k s ≡ true → In c (claims_seen s) → In c (said k)
@@ -125,15 +140,21 @@ module _ (stores : List Sight) where
   made k s c = is_loan_of c s && is_open_claim (said k) c
 
   -- a store that is not found is made by a split of a store of this round, or of none
-  pub made_just_now : (k : ℕ) (s : Sight) → at k s ≡ false → list_any (made k s) (said k) ≡ true → (x : Sight) × In x stores × (fresh k x ≡ true) × (c : Claim) × In c (claims_seen x) × (made k s c ≡ true)
+  pub made_just_now : (k : ℕ) (s : Sight) → at k s ≡ false → list_any (made k s) (said k) ≡ true → (x : Sight)
+      × In x stores × (fresh k x ≡ true) × (c : Claim) × In c (claims_seen x) × (made k s c ≡ true)
   made_just_now k s none h =
       let it = any_of_taken claims_seen (at k) (made k s) stores h in
       let parts = and_parts (is_loan_of it.3 s) (is_open_claim (said k) it.3) it.5 in
-      let first : (j : ℕ) × (j ≤ k) × IsFoundIn j stores it.0 = rounds.first_round Sight head_seen claims_seen Any Any frame_seen nothing_read stores k it.0 it.2 in
+      let first : (j : ℕ) × (j ≤ k) × IsFoundIn j stores it.0 =
+      rounds.first_round Sight head_seen claims_seen Any Any frame_seen nothing_read stores k it.0 it.2 in
       elim (cases_lt first.0 k) [
         | inl lt ↦
-            let «open» : is_open_claim (said first.0) it.3 ≡ true = rounds.open_falls Sight head_seen claims_seen Any Any frame_seen nothing_read stores first.0 k it.3 first.1 parts.1 in
-            let found : at (suc first.0) s ≡ true = ap (λ b. at first.0 s || b) (any_in (made first.0 s) it.3 (said first.0) (news_in first.0 it.0 it.3 it.1 first.2.0 it.4) (and_from _ _ parts.0 «open»)) ∙ or-true (at first.0 s) in
+            let «open» : is_open_claim (said first.0) it.3 ≡ true =
+            rounds.open_falls Sight head_seen claims_seen Any Any frame_seen nothing_read stores first.0 k
+            it.3 first.1 parts.1 in
+            let found : at (suc first.0) s ≡ true = ap (λ b. at first.0 s || b)
+            (any_in (made first.0 s) it.3 (said first.0) (news_in first.0 it.0 it.3 it.1 first.2.0 it.4)
+            (and_from _ _ parts.0 «open»)) ∙ or-true (at first.0 s) in
             absurd (true≢false (sym (grows (suc first.0) k s (omega (arith, lt)) found) ∙ none))
         | inr le ↦
             let e : first.0 ≡ k = omega (arith, first.1, le) in
@@ -141,9 +162,11 @@ module _ (stores : List Sight) where
       ]
 
   -- how a store stands one round later, by whether it is lent just now
-  pub stands_later : (k : ℕ) (s : Sight) (lent : Bool) → (at k s ≡ false → lent ≡ list_any (made k s) (said k)) → one_later (standing k stores s) lent ≡ standing (suc k) stores s
+  pub stands_later : (k : ℕ) (s : Sight) (lent : Bool) → (at k s ≡ false → lent ≡ list_any (made k s) (said k))
+      → one_later (standing k stores s) lent ≡ standing (suc k) stores s
   stands_later k s lent h =
-      elim (at k s) as (λ v. at k s ≡ v → one_later (standing k stores s) lent ≡ cond v Settled (cond (v || list_any (made k s) (said k)) Fresh Stray)) [
+      elim (at k s) as (λ v. at k s ≡ v → one_later (standing k stores s) lent
+      ≡ cond v Settled (cond (v || list_any (made k s) (said k)) Fresh Stray)) [
         | true ↦ λ e. settled (standing k stores s) (found_is k s ∙ e)
         | false ↦ λ e. stray (standing k stores s) (found_is k s ∙ e) ∙ ap (λ b. cond b Fresh Stray) (h e)
       ] refl
@@ -171,13 +194,16 @@ module _ (stores : List Sight) where
   still_on : (k : ℕ) → Still k → Still (suc k)
   still_on k h = All-each (λ s. at (suc (suc k)) s ≡ at (suc k) s) (λ s.
       let same : said (suc k) ≡ said k = ap (flat_map claims_seen) (filter_same (at (suc k)) (at k) stores h) in
-      ap (λ cs. at (suc k) s || list_any (λ c. is_loan_of c s && is_open_claim cs c) cs) same ∙ twice (at k s) (list_any (made k s) (said k))) stores
+      ap (λ cs. at (suc k) s || list_any (λ c. is_loan_of c s && is_open_claim cs c) cs) same
+      ∙ twice (at k s) (list_any (made k s) (said k))) stores
 
   still : (k : ℕ) → length stores ≤ k → Still k
-  still zero le = subst Still (let e : length stores ≡ zero = omega (arith, le) in e) (rounds.all_found Sight head_seen claims_seen Any Any frame_seen nothing_read stores)
+  still zero le = subst Still (let e : length stores ≡ zero = omega (arith, le) in e)
+      (rounds.all_found Sight head_seen claims_seen Any Any frame_seen nothing_read stores)
   still (suc k) le =
       elim (cases_lt k (length stores)) [
-        | inl lt ↦ subst Still (let e : length stores ≡ suc k = omega (arith, lt, le) in e) (rounds.all_found Sight head_seen claims_seen Any Any frame_seen nothing_read stores)
+        | inl lt ↦ subst Still (let e : length stores ≡ suc k = omega (arith, lt, le) in e)
+            (rounds.all_found Sight head_seen claims_seen Any Any frame_seen nothing_read stores)
         | inr under ↦ still_on k (still k under)
       ]
 

@@ -13,8 +13,11 @@ long_same : (m n : ℕ) (o : Ordering) → m ≡ n → ordering_then (nat_cmp m 
 long_same m n o h = ap (λ x. ordering_then x o) (sym (nat_cmp_is m n Equal h))
 
 -- behind parts of one length the rest decides
-pub key_order : (s t : ℕ) (a b f g : List ℕ) → length a ≡ length b → slice_cmp nat_cmp (s ∷ length a ∷ (a ++ f)) (t ∷ length b ∷ (b ++ g)) ≡ ordering_then (nat_cmp s t) (ordering_then (slice_cmp nat_cmp a b) (slice_cmp nat_cmp f g))
-key_order s t a b f g h = ap (ordering_then (nat_cmp s t)) (long_same (length a) (length b) (slice_cmp nat_cmp (a ++ f) (b ++ g)) h ∙ slice_cmp_append a b f g h)
+pub key_order : (s t : ℕ) (a b f g : List ℕ) → length a ≡ length b
+    → slice_cmp nat_cmp (s ∷ length a ∷ (a ++ f)) (t ∷ length b ∷ (b ++ g))
+    ≡ ordering_then (nat_cmp s t) (ordering_then (slice_cmp nat_cmp a b) (slice_cmp nat_cmp f g))
+key_order s t a b f g h = ap (ordering_then (nat_cmp s t)) (long_same (length a) (length b)
+    (slice_cmp nat_cmp (a ++ f) (b ++ g)) h ∙ slice_cmp_append a b f g h)
 
 and_assoc : (a b c : Bool) → (a && (b && c)) ≡ ((a && b) && c)
 and_assoc true b c = refl
@@ -34,7 +37,8 @@ swap_first false true c = refl
 swap_first false false c = refl
 
 -- parts behind their length agree where each does
-pub parts_same : (a b f g : List ℕ) → (nat_eq (length a) (length b) && bytes_eq (a ++ f) (b ++ g)) ≡ (bytes_eq a b && bytes_eq f g)
+pub parts_same : (a b f g : List ℕ) → (nat_eq (length a) (length b) && bytes_eq (a ++ f) (b ++ g))
+    ≡ (bytes_eq a b && bytes_eq f g)
 parts_same [] [] f g = refl
 parts_same [] (y ∷ ys) f g = ap (λ v. v && bytes_eq f (y ∷ (ys ++ g))) (none (length ys))
   where
@@ -50,5 +54,7 @@ parts_same (x ∷ xs) (y ∷ ys) f g =
     ∙ ap (λ v. nat_eq x y && v) (parts_same xs ys f g) ∙ and_assoc (nat_eq x y) (bytes_eq xs ys) (bytes_eq f g)
 
 -- two keys are one where size, identity and digest are
-pub keys_same : (s t : ℕ) (a b f g : List ℕ) → bytes_eq (s ∷ length a ∷ (a ++ f)) (t ∷ length b ∷ (b ++ g)) ≡ ((bytes_eq a b && nat_eq s t) && bytes_eq f g)
-keys_same s t a b f g = ap (λ v. nat_eq s t && v) (parts_same a b f g) ∙ swap_first (nat_eq s t) (bytes_eq a b) (bytes_eq f g) ∙ and_assoc (bytes_eq a b) (nat_eq s t) (bytes_eq f g)
+pub keys_same : (s t : ℕ) (a b f g : List ℕ) → bytes_eq (s ∷ length a ∷ (a ++ f)) (t ∷ length b ∷ (b ++ g))
+    ≡ ((bytes_eq a b && nat_eq s t) && bytes_eq f g)
+keys_same s t a b f g = ap (λ v. nat_eq s t && v) (parts_same a b f g)
+    ∙ swap_first (nat_eq s t) (bytes_eq a b) (bytes_eq f g) ∙ and_assoc (bytes_eq a b) (nat_eq s t) (bytes_eq f g)

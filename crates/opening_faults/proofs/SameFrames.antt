@@ -20,7 +20,21 @@ one_frame f g a b = λ n. record {
 }
 
 pub ground_of : (f g : Frame) → f ≡ g → HasGroundOf f g
-ground_of f g e = (ap (λ x. x.srs_id) e, ap (λ x. x.min_x) e, ap (λ x. x.min_y) e, ap (λ x. x.max_x) e, ap (λ x. x.max_y) e)
+ground_of f g e = (
+  ap (λ x. x.srs_id) e,
+  ap (λ x. x.min_x) e,
+  ap (λ x. x.min_y) e,
+  ap (λ x. x.max_x) e,
+  ap
+      (λ x. x.max_y) e,
+)
 
 pub tiles_of : (f g : Frame) → f ≡ g → HasTilesOf f g
-tiles_of f g e = (ap (λ x. x.tile_width) e, ap (λ x. x.tile_height) e, ap (λ x. x.first_zoom) e, ap (λ x. x.levels) e, ap (λ x. x.matrix_width) e, ap (λ x. x.matrix_height) e)
+tiles_of f g e = (
+  ap (λ x. x.tile_width) e,
+  ap (λ x. x.tile_height) e,
+  ap (λ x. x.first_zoom) e,
+  ap (λ x. x.levels) e,
+  ap (λ x. x.matrix_width) e,
+  ap (λ x. x.matrix_height) e,
+)

@@ -7,7 +7,8 @@ use Rattle.opening_faults.specs.declared.sights.Sight.{Sight}
 
 -- the store of this UUID is the loan of the split, and is not at home
 abbrev pub IsForeignOf : Sight → OpenSplit → Sight → List ℕ → Type 0
-IsForeignOf root split loan id = (is_loan_of (claim_made split) loan ≡ true) × IsApart root split.above loan × (uuid_seen loan ≡ id)
+IsForeignOf root split loan id = (is_loan_of (claim_made split) loan ≡ true) × IsApart root split.above loan
+    × (uuid_seen loan ≡ id)
 
 -- a store among these
 abbrev pub IsForeignIn : Sight → List Sight → OpenSplit → List ℕ → Type 0

@@ -1,5 +1,6 @@
 -- The least of some packages. Profile.
-use Rattle.std.specs.Prelude.{◌≡◌, ◌⊎◌, ℕ, Bool, true, false, List, Option, Some, None, MatchOption, if◌then◌else◌, Contains}
+use Rattle.std.specs.Prelude.{◌≡◌, ◌⊎◌, ℕ, Bool, true, false, List, Option, Some, None, MatchOption, if◌then◌else◌}
+use Rattle.std.specs.Prelude.{Contains}
 use Rattle.sheet_types.specs.Lines.{IsUuid}
 use Rattle.sheet_types.specs.Ordered.{is_before}
 use Rattle.sheet_types.specs.Texts.{uuid_text}
@@ -11,7 +12,8 @@ use Rattle.opening_faults.specs.declared.splits.OpenSplit.{OpenSplit}
 
 -- the least of them, or none where there are none
 abbrev pub IsLeastOf : Option (List ℕ) → List (List ℕ) → Type 0
-IsLeastOf least ids = MatchOption least ((id : List ℕ) → Contains ids id → ⊥) (λ id. Contains ids id × ((other : List ℕ) → Contains ids other → is_before other id ≡ false))
+IsLeastOf least ids = MatchOption least ((id : List ℕ) → Contains ids id → ⊥)
+    (λ id. Contains ids id × ((other : List ℕ) → Contains ids other → is_before other id ≡ false))
 
 abbrev pub lesser : Option (List ℕ) → List ℕ → List ℕ
 lesser None id = id
@@ -23,8 +25,10 @@ is_wanted Doubled copies = is_doubled copies
 
 -- just the UUIDs of the splits that pass
 pub record AreWanted (test : OpenSplit → Bool) (splits : List OpenSplit) (ids : List (List ℕ)) : Type 0 where
-  pub sound : (id : List ℕ) → Contains ids id → IsUuid id × ((split : OpenSplit) × Contains splits split × (test split ≡ true) × (split.target ≡ uuid_text id))
-  pub whole : (id : List ℕ) (split : OpenSplit) → IsUuid id → Contains splits split → test split ≡ true → split.target ≡ uuid_text id → Contains ids id
+  pub sound : (id : List ℕ) → Contains ids id → IsUuid id × ((split : OpenSplit) × Contains splits split
+      × (test split ≡ true) × (split.target ≡ uuid_text id))
+  pub whole : (id : List ℕ) (split : OpenSplit) → IsUuid id → Contains splits split → test split ≡ true
+      → split.target ≡ uuid_text id → Contains ids id
 
 -- the UUID of this text is put behind the others, where it is looked for and is one
 pub record IsPushed (wanted : Bool) (text : List ℕ) (old new : List (List ℕ)) : Type 0 where

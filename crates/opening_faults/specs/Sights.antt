@@ -80,4 +80,5 @@ IsAtHomeIn root above loan = (frame_seen loan ≡ frame_seen root) × IsBelow (S
 
 -- the loan's frame isn't the archive's, or it isn't below the store of this head
 abbrev pub IsApart : Sight → StoreHead → Sight → Type 0
-IsApart root above loan = (frame_seen loan ≡ frame_seen root → ⊥) ⊎ (IsBelow (Some (head_said above)) (head_seen loan) → ⊥)
+IsApart root above loan = (frame_seen loan ≡ frame_seen root → ⊥)
+    ⊎ (IsBelow (Some (head_said above)) (head_seen loan) → ⊥)

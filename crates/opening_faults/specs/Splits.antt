@@ -1,5 +1,6 @@
 -- The open splits of the stores of a round, and all of them. Profile.
-use Rattle.std.specs.Prelude.{◌≡◌, ℕ, ℤ, pos, negsuc, Bool, false, List, [], ◌∷◌, map, filter, flat_map, Option, Some, None, bytes_eq, Contains}
+use Rattle.std.specs.Prelude.{◌≡◌, ℕ, ℤ, pos, negsuc, Bool, false, List, [], ◌∷◌, map, filter, flat_map, Option, Some}
+use Rattle.std.specs.Prelude.{None, bytes_eq, Contains}
 use Rattle.std.specs.Option.{option_map_or}
 use Rattle.std.specs.Ordering.{nat_cmp}
 use Rattle.std.specs.Cmp.Lexicographic.{slice_cmp}
@@ -51,12 +52,14 @@ is_lent_in loans s = option_map_or (λ h. contains (slice_cmp nat_cmp) loans (he
 
 -- an open split of a store
 abbrev pub IsOpenSplit : List Sight → OpenSplit → Type 0
-IsOpenSplit stores split = (s : Sight) × (c : Claim) × Contains stores s × IsOpenSplitOf stores s c × (s.head ≡ Some split.above) × (split ≡ split_made split.above c)
+IsOpenSplit stores split = (s : Sight) × (c : Claim) × Contains stores s × IsOpenSplitOf stores s c
+    × (s.head ≡ Some split.above) × (split ≡ split_made split.above c)
 
 -- the list has just the open splits of the stores
 pub record AreOpenSplits (stores : List Sight) (splits : List OpenSplit) : Type 0 where
   pub sound : (split : OpenSplit) → Contains splits split → IsOpenSplit stores split
-  pub whole : (s : Sight) (c : Claim) (h : StoreHead) → Contains stores s → IsOpenSplitOf stores s c → s.head ≡ Some h → Contains splits (split_made h c)
+  pub whole : (s : Sight) (c : Claim) (h : StoreHead) → Contains stores s → IsOpenSplitOf stores s c → s.head ≡ Some h
+      → Contains splits (split_made h c)
 
 -- what a split claims, as far as its loan is known by it
 abbrev pub claim_made : OpenSplit → Claim

@@ -8,7 +8,8 @@ use Rattle.opening_faults.specs.declared.sights.Sight.{Sight}
 -- how a store stands after this many rounds: found in the last of them, found before, or not found
 abbrev pub standing : ℕ → List Sight → Sight → Standing
 standing zero stores s = if is_root s then Fresh else Stray
-standing (suc k) stores s = if is_reached k stores s then Settled else (if is_reached (suc k) stores s then Fresh else Stray)
+standing (suc k) stores s = if is_reached k stores s then Settled else
+    (if is_reached (suc k) stores s then Fresh else Stray)
 
 abbrev pub is_fresh : Standing → Bool
 is_fresh Stray = false

@@ -23,9 +23,12 @@ splits_at k stores = splits_among (is_open_claim (claims_at k stores)) (standing
 -- the list has just the open splits of the stores found before this round
 pub record AreListed (stores : List Sight) (k : ℕ) (splits : List OpenSplit) : Type 0 where
   pub sound : (split : OpenSplit) → Contains splits split → IsOpenSplit stores split
-  pub whole : (j : ℕ) (s : Sight) (c : Claim) (h : StoreHead) → j < k → Contains stores s → IsFoundIn j stores s → Contains (claims_seen s) c → is_open_claim (claims_at j stores) c ≡ true → s.head ≡ Some h → Contains splits (split_made h c)
+  pub whole : (j : ℕ) (s : Sight) (c : Claim) (h : StoreHead) → j < k → Contains stores s → IsFoundIn j stores s
+      → Contains (claims_seen s) c → is_open_claim (claims_at j stores) c ≡ true → s.head ≡ Some h
+      → Contains splits (split_made h c)
 
-pub record IsTurn {Y : Type 0} (stores : List Sight) (k : ℕ) (standings : List Standing) (merges : BTreeMap (String Y) ℤ) (splits : List OpenSplit) : Type 0 where
+pub record IsTurn {Y : Type 0} (stores : List Sight) (k : ℕ) (standings : List Standing)
+    (merges : BTreeMap (String Y) ℤ) (splits : List OpenSplit) : Type 0 where
   pub stands : standings ≡ map (standing k stores) stores
   pub merged : HasMerges merges (said_before stores k)
   pub listed : AreListed stores k splits

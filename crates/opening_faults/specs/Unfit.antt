@@ -9,7 +9,8 @@ IsUnfitAt unfit s id = (h : StoreHead) × (s.head ≡ Some h) × (h.uuid ≡ id)
 
 -- the store at this place is live and not fit, and has this UUID
 abbrev pub IsUnfitIn : List Bool → List Bool → List Sight → ℕ → List ℕ → Type 0
-IsUnfitIn live fit sights k id = (slice_get live k ≡ Some true) × (slice_get fit k ≡ Some false) × ((s : Sight) × (h : StoreHead) × (slice_get sights k ≡ Some s) × (s.head ≡ Some h) × (h.uuid ≡ id))
+IsUnfitIn live fit sights k id = (slice_get live k ≡ Some true) × (slice_get fit k ≡ Some false)
+    × ((s : Sight) × (h : StoreHead) × (slice_get sights k ≡ Some s) × (s.head ≡ Some h) × (h.uuid ≡ id))
 
 -- at some place
 abbrev pub IsUnfit : List Bool → List Bool → List Sight → List ℕ → Type 0

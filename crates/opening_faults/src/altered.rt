@@ -40,7 +40,8 @@ pub fn least_altered(
 
 // What the additions among these receipts say.
 fn additions(alloc: Global, ledger: &[Receipt]) -> Result<BTreeSet<ItemKey>, AllocError>
-    ensures { IfOk result (λ added. (key : List ℕ) → contains (slice_cmp nat_cmp) added key ≡ list_any (adds_item key) ledger.now) }
+    ensures { IfOk result (λ added. (key : List ℕ) → contains (slice_cmp nat_cmp) added key
+        ≡ list_any (adds_item key) ledger.now) }
 {
     let mut added = BTreeSet::new(alloc);
     for receipt in ledger {
@@ -51,7 +52,8 @@ fn additions(alloc: Global, ledger: &[Receipt]) -> Result<BTreeSet<ItemKey>, All
 
 // Notes what a receipt says, where it is an addition.
 fn note_receipt(added: &mut BTreeSet<ItemKey>, receipt: &Receipt) -> Result<(), AllocError>
-    ensures { IfOk result (λ _. (key : List ℕ) → contains (slice_cmp nat_cmp) added.new key ≡ (contains (slice_cmp nat_cmp) added.old key || adds_item key receipt.now)) }
+    ensures { IfOk result (λ _. (key : List ℕ) → contains (slice_cmp nat_cmp) added.new key
+        ≡ (contains (slice_cmp nat_cmp) added.old key || adds_item key receipt.now)) }
 {
     if !is_add(receipt) {
         return Ok(());
@@ -62,7 +64,8 @@ fn note_receipt(added: &mut BTreeSet<ItemKey>, receipt: &Receipt) -> Result<(), 
 
 // Notes what is said of these.
 fn note_items(added: &mut BTreeSet<ItemKey>, items: &[Moved]) -> Result<(), AllocError>
-    ensures { IfOk result (λ _. (key : List ℕ) → contains (slice_cmp nat_cmp) added.new key ≡ (contains (slice_cmp nat_cmp) added.old key || has item_said key items.now)) }
+    ensures { IfOk result (λ _. (key : List ℕ) → contains (slice_cmp nat_cmp) added.new key
+        ≡ (contains (slice_cmp nat_cmp) added.old key || has item_said key items.now)) }
 {
     for moved in items {
         note_item(added, moved)?;
@@ -72,7 +75,8 @@ fn note_items(added: &mut BTreeSet<ItemKey>, items: &[Moved]) -> Result<(), Allo
 
 // Notes what is said of this.
 fn note_item(added: &mut BTreeSet<ItemKey>, moved: &Moved) -> Result<(), AllocError>
-    ensures { IfOk result (λ _. (key : List ℕ) → contains (slice_cmp nat_cmp) added.new key ≡ (contains (slice_cmp nat_cmp) added.old key || bytes_eq (item_said moved.now) key)) }
+    ensures { IfOk result (λ _. (key : List ℕ) → contains (slice_cmp nat_cmp) added.new key
+        ≡ (contains (slice_cmp nat_cmp) added.old key || bytes_eq (item_said moved.now) key)) }
 {
     added.insert(ItemKey::of_moved(moved))?;
     Ok(())

@@ -29,7 +29,8 @@ pub fn count_heads(
     alloc: Global,
     sights: &[Sight],
 ) -> Result<BTreeMap<LoanKey, Copies>, OutOfMemory>
-    ensures { IfOk result (λ counts. (key : List ℕ) → get (slice_cmp nat_cmp) counts key ≡ told (count_by (has_key key) sights.now)) }
+    ensures { IfOk result (λ counts. (key : List ℕ) → get (slice_cmp nat_cmp) counts key
+        ≡ told (count_by (has_key key) sights.now)) }
 {
     let mut counts = BTreeMap::new(alloc);
     for sight in sights {
@@ -44,7 +45,9 @@ fn count_sight(
     counts: &mut BTreeMap<LoanKey, Copies>,
     sight: &Sight,
 ) -> Result<(), OutOfMemory>
-    ensures { IfOk result (λ _. (key : List ℕ) → get (slice_cmp nat_cmp) counts.new key ≡ (if has_key key sight.now then Some (told_more (get (slice_cmp nat_cmp) counts.old key)) else get (slice_cmp nat_cmp) counts.old key)) }
+    ensures { IfOk result (λ _. (key : List ℕ) → get (slice_cmp nat_cmp) counts.new key
+        ≡ (if has_key key sight.now then Some (told_more (get (slice_cmp nat_cmp) counts.old key)) else get
+        (slice_cmp nat_cmp) counts.old key)) }
 {
     match &sight.head {
         Some(head) => count_key(counts, LoanKey::of_head(alloc, head)?),
@@ -54,7 +57,9 @@ fn count_sight(
 
 // Counts a key.
 fn count_key(counts: &mut BTreeMap<LoanKey, Copies>, key: LoanKey) -> Result<(), OutOfMemory>
-    ensures { IfOk result (λ _. (q : List ℕ) → get (slice_cmp nat_cmp) counts.new q ≡ (if bytes_eq key q then Some (told_more (get (slice_cmp nat_cmp) counts.old q)) else get (slice_cmp nat_cmp) counts.old q)) }
+    ensures { IfOk result (λ _. (q : List ℕ) → get (slice_cmp nat_cmp) counts.new q
+        ≡ (if bytes_eq key q then Some (told_more (get (slice_cmp nat_cmp) counts.old q)) else get (slice_cmp nat_cmp)
+        counts.old q)) }
 {
     let more = one_more(counts.get(&key).copied());
     counts.insert(key, more)?;

@@ -7,7 +7,8 @@ use std::alloc::{AllocError, AllocFailed};
 use thiserror::Error;
 use uuid::Uuid;
 
-/// The first of nine faults whose condition holds, in their order; want of memory and a failing store stand outside the order. It prints as its name, without its value.
+/// The first of nine faults whose condition holds, in their order; want of memory and a failing
+/// store stand outside the order. It prints as its name, without its value.
 #[derive(Clone, Copy, PartialEq, Eq, Debug, Error)]
 pub enum RecoverFault {
     /// No store says that it is an archive's.
@@ -16,7 +17,8 @@ pub enum RecoverFault {
     /// Two stores or more say that they are an archive's.
     #[error("TwoArchives")]
     TwoArchives,
-    /// A live store lacks a table of its form, its fixed rows are not those of a good frame, or a value is out of its range: of these the least package.
+    /// A live store lacks a table of its form, its fixed rows are not those of a good frame, or a
+    /// value is out of its range: of these the least package.
     #[error("NotAPackage")]
     NotAPackage(Uuid),
     /// Two stores are the loan of one open split: of these loans the least.
@@ -25,7 +27,8 @@ pub enum RecoverFault {
     /// No store is the loan of an open split: of these loans the least.
     #[error("MissingPackage")]
     MissingPackage(Uuid),
-    /// A loan has another frame than the archive, or is not one level below the store of its split: of these loans the least.
+    /// A loan has another frame than the archive, or is not one level below the store of its split:
+    /// of these loans the least.
     #[error("ForeignFrame")]
     ForeignFrame(Uuid),
     /// A row without identity, an identity without row, or a mapping row without row: of these packages the least.

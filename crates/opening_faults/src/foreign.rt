@@ -16,7 +16,8 @@ use sheet_types::error::OutOfMemory;
 use std::alloc::{AllocError, Global};
 use uuid::Uuid;
 
-/// The least UUID of a loan of an open split whose frame is not the archive's, or that does not stand one level below the store of the split.
+/// The least UUID of a loan of an open split whose frame is not the archive's, or that does not
+/// stand one level below the store of the split.
 ///
 /// # Errors
 ///

@@ -2,7 +2,8 @@
 ghost use Rattle.std.specs.Prelude.{◌≡◌, Some, [], refl, length, unwrap_or, nat_eq};
 ghost use Rattle.std.specs.Ordering.{nat_cmp};
 ghost use Rattle.std.specs.Cmp.{partial_equiv_from_equiv};
-ghost use Rattle.std.specs.Cmp.Lexicographic.{pointwise, slice_cmp, nat_list_eq_equiv, nat_list_cmp_total, texts_ties, texts_po};
+ghost use Rattle.std.specs.Cmp.Lexicographic.{pointwise, slice_cmp, nat_list_eq_equiv, nat_list_cmp_total, texts_ties};
+ghost use Rattle.std.specs.Cmp.Lexicographic.{texts_po};
 ghost use Rattle.opening_faults.specs.Altered.{item_said};
 
 use sheet_types::receipt::Moved;
@@ -10,7 +11,8 @@ use std::cmp::Ordering;
 use std::marker::Model;
 use uuid::Uuid;
 
-/// The size, the identity and the digest that a receipt says of an item. To a contract it is the size, the length of the identity, the identity and the digest.
+/// The size, the identity and the digest that a receipt says of an item. To a contract it is the
+/// size, the length of the identity, the identity and the digest.
 #[derive(Drop)]
 pub struct ItemKey {
     size: u64,

@@ -2,7 +2,8 @@
 ghost use Rattle.std.specs.Prelude.{◌≡◌, ◌∷◌, Some, [], refl, nat_eq, option_map, IfOk, length};
 ghost use Rattle.std.specs.Ordering.{nat_cmp};
 ghost use Rattle.std.specs.Cmp.{partial_equiv_from_equiv};
-ghost use Rattle.std.specs.Cmp.Lexicographic.{pointwise, slice_cmp, nat_list_eq_equiv, nat_list_cmp_total, texts_ties, texts_po};
+ghost use Rattle.std.specs.Cmp.Lexicographic.{pointwise, slice_cmp, nat_list_eq_equiv, nat_list_cmp_total, texts_ties};
+ghost use Rattle.std.specs.Cmp.Lexicographic.{texts_po};
 ghost use Rattle.sheet_types.specs.Texts.{uuid_text};
 ghost use Rattle.opening_faults.specs.Splits.{head_key, split_key};
 
@@ -15,7 +16,8 @@ use std::cmp::Ordering;
 use std::marker::Model;
 use uuid::Uuid;
 
-/// The number of a split and the text under which it lent a package. To a contract it is the number before the bytes of the text.
+/// The number of a split and the text under which it lent a package. To a contract it is the number
+/// before the bytes of the text.
 #[derive(Drop)]
 pub struct LoanKey {
     number: u64,

@@ -70,7 +70,8 @@ fn ids_wanted(
     splits: &[OpenSplit],
     wanted: Wanted,
 ) -> Result<Vec<Uuid>, OutOfMemory>
-    ensures { IfOk result (λ ids. AreWanted (λ split. is_wanted wanted (told (count_by (is_loan_of (claim_made split)) sights.now))) splits.now ids.items) }
+    ensures { IfOk result (λ ids. AreWanted (λ split. is_wanted wanted
+        (told (count_by (is_loan_of (claim_made split)) sights.now))) splits.now ids.items) }
 {
     let counts = count_heads(alloc, sights)?;
     let ids = wanted_among(alloc, &counts, splits, wanted)?;
@@ -84,7 +85,8 @@ fn wanted_among(
     splits: &[OpenSplit],
     wanted: Wanted,
 ) -> Result<Vec<Uuid>, OutOfMemory>
-    ensures { IfOk result (λ ids. AreWanted (λ split. is_wanted wanted (copies_of counts.now split)) splits.now ids.items) }
+    ensures { IfOk result (λ ids. AreWanted (λ split. is_wanted wanted (copies_of counts.now split)) splits.now
+        ids.items) }
 {
     let mut ids = Vec::new(alloc);
     for split in splits {

@@ -1,4 +1,6 @@
-//! What the stores handed in to an opening say of themselves, and what follows from it: which of them are found, which open splits have no store or two, and which loan is not at home. It stands on values alone and knows no store.
+//! What the stores handed in to an opening say of themselves, and what follows from it: which of
+//! them are found, which open splits have no store or two, and which loan is not at home. It stands
+//! on values alone and knows no store.
 #![tactic(auto)]
 
 pub mod altered;

@@ -21,7 +21,8 @@ pub fn note_merges(
     merges: &mut BTreeMap<String, i64>,
     claims: &[StoreClaim],
 ) -> Result<(), AllocError>
-    ensures { IfOk result (λ _. (source : List ℕ) (n : ℤ) → is_above merges.new source n ≡ (is_above merges.old source n || list_any (merges_after source n) (map claim_said claims.now))) }
+    ensures { IfOk result (λ _. (source : List ℕ) (n : ℤ) → is_above merges.new source n
+        ≡ (is_above merges.old source n || list_any (merges_after source n) (map claim_said claims.now))) }
 {
     for claim in claims {
         note_claim(alloc, merges, claim)?;
@@ -35,7 +36,8 @@ fn note_claim(
     merges: &mut BTreeMap<String, i64>,
     claim: &StoreClaim,
 ) -> Result<(), AllocError>
-    ensures { IfOk result (λ _. (source : List ℕ) (n : ℤ) → is_above merges.new source n ≡ (is_above merges.old source n || merges_after source n (claim_said claim.now))) }
+    ensures { IfOk result (λ _. (source : List ℕ) (n : ℤ) → is_above merges.new source n
+        ≡ (is_above merges.old source n || merges_after source n (claim_said claim.now))) }
 {
     if !claims_merge(claim) {
         return Ok(());
@@ -50,7 +52,8 @@ fn note_merge(
     source: &str,
     seq: i64,
 ) -> Result<(), AllocError>
-    ensures { IfOk result (λ _. (p : List ℕ) (n : ℤ) → is_above merges.new p n ≡ (is_above merges.old p n || (bytes_eq source.now p && int_lt n seq))) }
+    ensures { IfOk result (λ _. (p : List ℕ) (n : ℤ) → is_above merges.new p n
+        ≡ (is_above merges.old p n || (bytes_eq source.now p && int_lt n seq))) }
 {
     let last = merges.get(source).copied();
     let name = String::from_str(alloc, source)?;

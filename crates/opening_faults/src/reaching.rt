@@ -1,5 +1,6 @@
 //! Which stores are live, and which splits are open.
-ghost use Rattle.std.specs.Prelude.{◌≡◌, ◌++◌, ◌||◌, ◌&&◌, ◌∷◌, ℕ, ℤ, suc, List, [], map, filter, flat_map, unwrap_or, slice_get, bytes_eq, IfOk, if◌then◌else◌};
+ghost use Rattle.std.specs.Prelude.{◌≡◌, ◌++◌, ◌||◌, ◌&&◌, ◌∷◌, ℕ, ℤ, suc, List, [], map, filter, flat_map, unwrap_or};
+ghost use Rattle.std.specs.Prelude.{slice_get, bytes_eq, IfOk, if◌then◌else◌};
 ghost use Rattle.std.specs.List.{list_any};
 ghost use Rattle.std.specs.Ordering.{nat_cmp};
 ghost use Rattle.std.specs.Cmp.Lexicographic.{slice_cmp};
@@ -8,7 +9,8 @@ ghost use Rattle.opening_faults.specs.Sights.{claim_said, claims_seen, claims_at
 ghost use Rattle.opening_faults.specs.Standings.{standing, is_fresh, is_found, one_later};
 ghost use Rattle.opening_faults.specs.Turns.{IsTurn, said_before, splits_at};
 ghost use Rattle.opening_faults.specs.Merges.{HasMerges, is_above, is_open_by, merges_after};
-ghost use Rattle.opening_faults.specs.Splits.{AreOpenSplits, splits_in, splits_among, split_made, makes_key, is_lent_in};
+ghost use Rattle.opening_faults.specs.Splits.{AreOpenSplits, splits_in, splits_among, split_made, makes_key};
+ghost use Rattle.opening_faults.specs.Splits.{is_lent_in};
 ghost use Rattle.opening_faults.specs.declared.sights.Sight.{Sight};
 ghost use Rattle.opening_faults.specs.declared.standing.Standing.{Standing};
 ghost use Rattle.opening_faults.specs.declared.standing.Standing.TheVariants.{Stray, Fresh};
@@ -23,7 +25,9 @@ use sheet_types::error::OutOfMemory;
 use std::alloc::{AllocError, Global};
 use std::collections::{BTreeMap, BTreeSet};
 
-/// What is found from the archive downwards: a store of a round is the loan of a split of a store found before that no merge found before undoes. A split is judged by what is found up to the round of its store.
+/// What is found from the archive downwards: a store of a round is the loan of a split of a store
+/// found before that no merge found before undoes. A split is judged by what is found up to the
+/// round of its store.
 ///
 /// # Errors
 ///
@@ -58,7 +62,8 @@ fn one_round(
     sights: &[Sight],
     standings: &[Standing],
 ) -> Result<Vec<Standing>, OutOfMemory>
-    ensures { IfOk result (λ later. (k : ℕ) → IsTurn sights.now k standings.now merges.old splits.old.items → IsTurn sights.now (suc k) later.items merges.new splits.new.items) }
+    ensures { IfOk result (λ later. (k : ℕ) → IsTurn sights.now k standings.now merges.old splits.old.items
+        → IsTurn sights.now (suc k) later.items merges.new splits.new.items) }
 {
     let opened = open_now(alloc, merges, sights, standings)?;
     let loans = keys_of(alloc, opened.as_slice())?;
@@ -74,8 +79,10 @@ fn open_now(
     sights: &[Sight],
     standings: &[Standing],
 ) -> Result<Vec<OpenSplit>, OutOfMemory>
-    ensures merged { IfOk result (λ _. (k : ℕ) → standings.now ≡ map (standing k sights.now) sights.now → HasMerges merges.old (said_before sights.now k) → HasMerges merges.new (claims_at k sights.now)) }
-    ensures opened { IfOk result (λ opened. (k : ℕ) → standings.now ≡ map (standing k sights.now) sights.now → HasMerges merges.old (said_before sights.now k) → opened.items ≡ splits_at k sights.now) }
+    ensures merged { IfOk result (λ _. (k : ℕ) → standings.now ≡ map (standing k sights.now) sights.now
+        → HasMerges merges.old (said_before sights.now k) → HasMerges merges.new (claims_at k sights.now)) }
+    ensures opened { IfOk result (λ opened. (k : ℕ) → standings.now ≡ map (standing k sights.now) sights.now
+        → HasMerges merges.old (said_before sights.now k) → opened.items ≡ splits_at k sights.now) }
 {
     note_fresh(alloc, merges, sights, standings)?;
     let opened = open_splits(alloc, merges, sights, standings)?;
@@ -148,7 +155,9 @@ fn note_fresh(
     sights: &[Sight],
     standings: &[Standing],
 ) -> Result<(), AllocError>
-    ensures { IfOk result (λ _. (t : Sight → Standing) → standings.now ≡ map t sights.now → (source : List ℕ) (n : ℤ) → is_above merges.new source n ≡ (is_above merges.old source n || list_any (merges_after source n) (flat_map claims_seen (filter (λ s. is_fresh (t s)) sights.now)))) }
+    ensures { IfOk result (λ _. (t : Sight → Standing) → standings.now ≡ map t sights.now → (source : List ℕ) (n : ℤ)
+        → is_above merges.new source n ≡ (is_above merges.old source n || list_any (merges_after source n)
+        (flat_map claims_seen (filter (λ s. is_fresh (t s)) sights.now)))) }
 {
     for place in 0..sights.len() {
         let sight = &sights[place];
@@ -164,7 +173,9 @@ fn note_sight(
     sight: &Sight,
     standing: Standing,
 ) -> Result<(), AllocError>
-    ensures { IfOk result (λ _. (source : List ℕ) (n : ℤ) → is_above merges.new source n ≡ (is_above merges.old source n || (is_fresh standing && list_any (merges_after source n) (claims_seen sight.now)))) }
+    ensures { IfOk result (λ _. (source : List ℕ) (n : ℤ) → is_above merges.new source n
+        ≡ (is_above merges.old source n || (is_fresh standing && list_any (merges_after source n)
+        (claims_seen sight.now)))) }
 {
     if !is_fresh(standing) {
         return Ok(());
@@ -179,7 +190,8 @@ fn open_splits(
     sights: &[Sight],
     standings: &[Standing],
 ) -> Result<Vec<OpenSplit>, OutOfMemory>
-    ensures { IfOk result (λ opened. (t : Sight → Standing) → standings.now ≡ map t sights.now → opened.items ≡ splits_among (is_open_by merges.now) t sights.now) }
+    ensures { IfOk result (λ opened. (t : Sight → Standing) → standings.now ≡ map t sights.now
+        → opened.items ≡ splits_among (is_open_by merges.now) t sights.now) }
 {
     let mut opened = Vec::new(alloc);
     for place in 0..sights.len() {
@@ -196,7 +208,8 @@ fn push_fresh(
     sight: &Sight,
     standing: Standing,
 ) -> Result<(), OutOfMemory>
-    ensures { IfOk result (λ _. opened.new.items ≡ opened.old.items ++ (if is_fresh standing then splits_in (is_open_by merges.now) sight.now else [])) }
+    ensures { IfOk result (λ _. opened.new.items ≡ opened.old.items
+        ++ (if is_fresh standing then splits_in (is_open_by merges.now) sight.now else [])) }
 {
     if !is_fresh(standing) {
         return Ok(());
@@ -225,7 +238,8 @@ fn push_claims(
     head: &StoreHead,
     claims: &[StoreClaim],
 ) -> Result<(), OutOfMemory>
-    ensures { IfOk result (λ _. opened.new.items ≡ opened.old.items ++ map (split_made head.now) (filter (is_open_by merges.now) (map claim_said claims.now))) }
+    ensures { IfOk result (λ _. opened.new.items ≡ opened.old.items
+        ++ map (split_made head.now) (filter (is_open_by merges.now) (map claim_said claims.now))) }
 {
     for claim in claims {
         push_claim(opened, merges, head, claim)?;
@@ -240,7 +254,9 @@ fn push_claim(
     head: &StoreHead,
     claim: &StoreClaim,
 ) -> Result<(), OutOfMemory>
-    ensures { IfOk result (λ _. opened.new.items ≡ opened.old.items ++ (if is_open_by merges.now (claim_said claim.now) then split_made head.now (claim_said claim.now) ∷ [] else [])) }
+    ensures { IfOk result (λ _. opened.new.items ≡ opened.old.items
+        ++ (if is_open_by merges.now (claim_said claim.now) then split_made head.now (claim_said claim.now)
+        ∷ [] else [])) }
 {
     if !is_open(merges, claim) {
         return Ok(());
@@ -256,7 +272,8 @@ fn push_claim(
 
 // The keys of the loans that some splits made.
 fn keys_of(alloc: Global, splits: &[OpenSplit]) -> Result<BTreeSet<LoanKey>, OutOfMemory>
-    ensures { IfOk result (λ loans. (key : List ℕ) → contains (slice_cmp nat_cmp) loans key ≡ list_any (makes_key key) splits.now) }
+    ensures { IfOk result (λ loans. (key : List ℕ) → contains (slice_cmp nat_cmp) loans key
+        ≡ list_any (makes_key key) splits.now) }
 {
     let mut loans = BTreeSet::new(alloc);
     for split in splits {
@@ -267,7 +284,8 @@ fn keys_of(alloc: Global, splits: &[OpenSplit]) -> Result<BTreeSet<LoanKey>, Out
 
 // Notes the key of the loan that a split made.
 fn note_key(loans: &mut BTreeSet<LoanKey>, split: &OpenSplit) -> Result<(), OutOfMemory>
-    ensures { IfOk result (λ _. (key : List ℕ) → contains (slice_cmp nat_cmp) loans.new key ≡ (contains (slice_cmp nat_cmp) loans.old key || makes_key key split.now)) }
+    ensures { IfOk result (λ _. (key : List ℕ) → contains (slice_cmp nat_cmp) loans.new key
+        ≡ (contains (slice_cmp nat_cmp) loans.old key || makes_key key split.now)) }
 {
     match LoanKey::of_split(split)? {
         Some(key) => note(loans, key),
@@ -277,7 +295,8 @@ fn note_key(loans: &mut BTreeSet<LoanKey>, split: &OpenSplit) -> Result<(), OutO
 
 // Notes a key.
 fn note(loans: &mut BTreeSet<LoanKey>, key: LoanKey) -> Result<(), OutOfMemory>
-    ensures { IfOk result (λ _. (q : List ℕ) → contains (slice_cmp nat_cmp) loans.new q ≡ (contains (slice_cmp nat_cmp) loans.old q || bytes_eq key q)) }
+    ensures { IfOk result (λ _. (q : List ℕ) → contains (slice_cmp nat_cmp) loans.new q
+        ≡ (contains (slice_cmp nat_cmp) loans.old q || bytes_eq key q)) }
 {
     loans.insert(key)?;
     Ok(())
@@ -300,7 +319,8 @@ fn later_standings(
     standings: &[Standing],
     loans: &BTreeSet<LoanKey>,
 ) -> Result<Vec<Standing>, OutOfMemory>
-    ensures { IfOk result (λ later. (t : Sight → Standing) → standings.now ≡ map t sights.now → later.items ≡ map (λ s. one_later (t s) (is_lent_in loans.now s)) sights.now) }
+    ensures { IfOk result (λ later. (t : Sight → Standing) → standings.now ≡ map t sights.now
+        → later.items ≡ map (λ s. one_later (t s) (is_lent_in loans.now s)) sights.now) }
 {
     let mut later = Vec::new(alloc);
     for place in 0..sights.len() {

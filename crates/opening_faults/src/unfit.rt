@@ -10,7 +10,8 @@ use sheet_types::error::OutOfMemory;
 use std::alloc::{AllocError, Global};
 use uuid::Uuid;
 
-/// The least UUID of a store that is live and not fit, by what is said of each place; a place of which nothing is said counts as neither.
+/// The least UUID of a store that is live and not fit, by what is said of each place; a place of
+/// which nothing is said counts as neither.
 ///
 /// # Errors
 ///

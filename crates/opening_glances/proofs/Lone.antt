@@ -1,5 +1,6 @@
 -- All right glances and views of one store have one head, and the same claims.
-use Rattle.std.specs.Prelude.{◌≡◌, ◌&&◌, ⊤, ℕ, ℤ, pos, Bool, true, false, List, [], ◌∷◌, length, unsigned_abs, bytes_eq, Option, Some, None, MatchOption, refl}
+use Rattle.std.specs.Prelude.{◌≡◌, ◌&&◌, ⊤, ℕ, ℤ, pos, Bool, true, false, List, [], ◌∷◌, length, unsigned_abs}
+use Rattle.std.specs.Prelude.{bytes_eq, Option, Some, None, MatchOption, refl}
 use Rattle.std.proofs.Common.{sym, ap, subst, ◌∙◌, arith, int_eq}
 use Rattle.std.proofs.lemmas.Bool.{true≢false, false≢true, and_parts, and_from}
 use Rattle.std.proofs.lemmas.Slice.Eq.{bytes_eq-Decides}
@@ -20,12 +21,14 @@ use Rattle.package_schema.specs.Heads.{IsHeadRowAt, ReadsHeadAt}
 -- ---- heads
 
 uuid_some : (id : List ℕ) → uuid_text id ≡ [] → ⊥
-uuid_some id e = let long : length (uuid_text id) ≡ 36 = by_index_length 36 _ in let same : length (uuid_text id) ≡ 0 = ap length e in omega arith
+uuid_some id e = let long : length (uuid_text id) ≡ 36 = by_index_length 36 _ in let same :
+    length (uuid_text id) ≡ 0 = ap length e in omega arith
 
 pos_same : (a b : ℕ) → pos a ≡ pos b → a ≡ b
 pos_same a b e = ap unsigned_abs e
 
-same_parent : (a b : Option (List ℕ)) → MatchOption a ⊤ IsUuid → MatchOption b ⊤ IsUuid → optional_uuid_text a ≡ optional_uuid_text b → a ≡ b
+same_parent : (a b : Option (List ℕ)) → MatchOption a ⊤ IsUuid → MatchOption b ⊤ IsUuid
+    → optional_uuid_text a ≡ optional_uuid_text b → a ≡ b
 same_parent None None h g e = refl
 same_parent None (Some b) h g e = absurd (uuid_some b (sym e))
 same_parent (Some a) None h g e = absurd (uuid_some a e)
@@ -38,7 +41,8 @@ head_same e = cc
 one_head : (v : ℤ) (row : HeadRow) (h k : Head) → IsHeadRowAt v row h → IsHeadRowAt v row k → h ≡ k
 one_head v row h k a b =
     let uuid : h.uuid ≡ k.uuid = same_uuid h.uuid k.uuid a.uuid b.uuid (sym a.package ∙ b.package) in
-    let parent : h.parent ≡ k.parent = same_parent h.parent k.parent a.parent_uuid b.parent_uuid (sym a.parent ∙ b.parent) in
+    let parent : h.parent ≡ k.parent = same_parent h.parent k.parent a.parent_uuid b.parent_uuid
+    (sym a.parent ∙ b.parent) in
     let depth : h.depth ≡ k.depth = pos_same h.depth k.depth (sym a.depth ∙ b.depth) in
     let loan : h.loan ≡ k.loan = pos_same h.loan k.loan (sym a.loan ∙ b.loan) in
     λ n. record { uuid = uuid n; parent = parent n; depth = depth n; loan = loan n }
@@ -55,11 +59,13 @@ heads_same v db (Some h) (Some k) a b =
 -- ---- claims, which can be told apart
 
 abbrev is_same : Claim → Claim → Bool
-is_same a b = (int_eq a.seq b.seq && bytes_eq a.line b.line) && (bytes_eq a.source b.source && bytes_eq a.target b.target)
+is_same a b = (int_eq a.seq b.seq && bytes_eq a.line b.line) &&
+    (bytes_eq a.source b.source && bytes_eq a.target b.target)
 
 same_when : (a b : Claim) → is_same a b ≡ true → a ≡ b
 same_when a b h =
-    let both : ((int_eq a.seq b.seq && bytes_eq a.line b.line) ≡ true) × ((bytes_eq a.source b.source && bytes_eq a.target b.target) ≡ true) = and_parts _ _ h in
+    let both : ((int_eq a.seq b.seq && bytes_eq a.line b.line) ≡ true)
+    × ((bytes_eq a.source b.source && bytes_eq a.target b.target) ≡ true) = and_parts _ _ h in
     let front : (int_eq a.seq b.seq ≡ true) × (bytes_eq a.line b.line ≡ true) = and_parts _ _ both.0 in
     let back : (bytes_eq a.source b.source ≡ true) × (bytes_eq a.target b.target ≡ true) = and_parts _ _ both.1 in
     let seq : a.seq ≡ b.seq = (Decides-int_eq a.seq b.seq).0 front.0 in
@@ -99,7 +105,8 @@ claims_same db xs ys a b =
     elim (are_same xs ys) as (λ v. are_same xs ys ≡ v → xs ≡ ys) [
       | true ↦ λ e. all_when xs ys e
       | false ↦ λ e.
-          let apart : xs ≡ ys → ⊥ = λ same. true≢false (sym (subst (λ zs. are_same xs zs ≡ true) same (all_themselves xs)) ∙ e) in
+          let apart : xs ≡ ys → ⊥ = λ same. true≢false (sym (subst (λ zs. are_same xs zs ≡ true) same
+          (all_themselves xs)) ∙ e) in
           let unformed : IsFormed receipt_shape db → ⊥ = λ formed. apart (a.0 formed ∙ sym (b.0 formed)) in
           absurd (apart (a.1 unformed ∙ sym (b.1 unformed)))
     ] refl

@@ -29,19 +29,29 @@ module _ {S : Type 0} (g : Ghosts S) where
 
   pub views_of_stores : ViewsOfStores g
   views_of_stores w stores views kept_world of right =
-      let moved : (vs : List StoreSight) × IsPermutation views vs × AllZip IsRight (of.members ++ of.others) vs = zip_permuted IsRight stores (of.members ++ of.others) views of.all right in
-      let parts : (ms : List StoreSight) × (os : List StoreSight) × (moved.0 ≡ ms ++ os) × AllZip IsRight of.members ms × AllZip IsRight of.others os = zip_parts IsRight of.members of.others moved.0 moved.2 in
-      let kept : AllByRecursion (IsKeptIn w) w.packages = All-both (IsKeptPackage w) IsInBounds (IsKeptIn w) (λ p a b. (a, b)) w.packages kept_world.0.packages (packages_are_in_bounds w kept_world.0 kept_world.1) in
+      let moved : (vs : List StoreSight) × IsPermutation views vs × AllZip IsRight (of.members ++ of.others) vs =
+      zip_permuted IsRight stores (of.members ++ of.others) views of.all right in
+      let parts : (ms : List StoreSight) × (os : List StoreSight) × (moved.0 ≡ ms ++ os)
+      × AllZip IsRight of.members ms × AllZip IsRight of.others os =
+      zip_parts IsRight of.members of.others moved.0 moved.2 in
+      let kept : AllByRecursion (IsKeptIn w) w.packages = All-both (IsKeptPackage w) IsInBounds (IsKeptIn w)
+      (λ p a b. (a, b)) w.packages kept_world.0.packages
+      (packages_are_in_bounds w kept_world.0 kept_world.1) in
       record {
         members = parts.0;
         others = parts.1;
         all = subst (IsPermutation views) parts.2 moved.1;
-        each = zip_through IsRight (IsStoreOf g w) (IsKeptIn w) (IsViewOfPackage w) (λ h v p is k store. view_of_kept w p (state g h).now v k.0 k.1 (store is.0) is.1) of.members parts.0 w.packages kept parts.3 of.each;
-        beside = zip_all IsRight (IsStrayStore g w) (IsStrayView w) (λ h v is stray. view_of_stray w (state g h).now v kept_world.0 (stray is.0) is.1) of.others parts.1 of.beside parts.4;
+        each = zip_through IsRight (IsStoreOf g w) (IsKeptIn w) (IsViewOfPackage w)
+            (λ h v p is k store. view_of_kept w p (state g h).now v k.0 k.1 (store is.0) is.1) of.members parts.0
+            w.packages kept parts.3 of.each;
+        beside = zip_all IsRight (IsStrayStore g w) (IsStrayView w)
+            (λ h v is stray. view_of_stray w (state g h).now v kept_world.0 (stray is.0) is.1) of.others parts.1
+            of.beside parts.4;
       }
 
   pub one_register : OneRegisterOfStores g
   one_register v w stores views kept_v kept_w of_v of_w right =
-      one_world StoreSight (λ s. s.head) (λ s. s.claims) (λ s. s.is_formed ≡ true) (λ s. s.is_tied ≡ true) (λ s. s.frame) (λ s. s.reads_as) views v w
+      one_world StoreSight (λ s. s.head) (λ s. s.claims) (λ s. s.is_formed ≡ true) (λ s. s.is_tied ≡ true)
+      (λ s. s.frame) (λ s. s.reads_as) views v w
       (standing.stands v kept_v.0 views (views_of_stores v stores views kept_v of_v right))
       (standing.stands w kept_w.0 views (views_of_stores w stores views kept_w of_w right))

@@ -5,7 +5,10 @@ use Rattle.sqlite.specs.Store.{Ghosts}
 use Rattle.sheet_laws.specs.Laws.{StoreSight, StoresStandFor, HasNoFault}
 use Rattle.sheet_laws.proofs.OneWorld.{one_world}
 use Rattle.opening_faults.specs.declared.faults.RecoverFault.{RecoverFault}
-use Rattle.opening_faults.specs.declared.faults.RecoverFault.TheVariants.{NoArchive, TwoArchives, NotAPackage, TwoCopies, MissingPackage, ForeignFrame, Dangling, OutOfAccount, Altered, OutOfMemory, StoreFault}
+use Rattle.opening_faults.specs.declared.faults.RecoverFault.TheVariants.{NoArchive, TwoArchives, NotAPackage}
+use Rattle.opening_faults.specs.declared.faults.RecoverFault.TheVariants.{TwoCopies, MissingPackage, ForeignFrame}
+use Rattle.opening_faults.specs.declared.faults.RecoverFault.TheVariants.{Dangling, OutOfAccount, Altered}
+use Rattle.opening_faults.specs.declared.faults.RecoverFault.TheVariants.{OutOfMemory, StoreFault}
 use Rattle.opening_verdict.specs.Views.{IsFaultOf}
 use Rattle.world.specs.Worlds.{StandsFor}
 use Rattle.opening_stores.specs.Judged.{IsWant}
@@ -32,13 +35,17 @@ module _ {S : Type 0} (g : Ghosts S) where
   pub opens_again : OpensAgain g
   opens_again w stores found kept of is clean =
       let opened : IsOpened g stores found = is.opened clean in
-      let stand : StoresStandFor opened.views w = standing.stands w kept.0 opened.views (views_of_stores g w stores opened.views kept of opened.right) in
-      let same : opened.world ≡ w = one_world StoreSight (λ s. s.head) (λ s. s.claims) (λ s. s.is_formed ≡ true) (λ s. s.is_tied ≡ true) (λ s. s.frame) (λ s. s.reads_as) opened.views opened.world w opened.stand stand in
+      let stand : StoresStandFor opened.views w = standing.stands w kept.0 opened.views
+      (views_of_stores g w stores opened.views kept of opened.right) in
+      let same : opened.world ≡ w = one_world StoreSight (λ s. s.head) (λ s. s.claims) (λ s. s.is_formed ≡ true)
+      (λ s. s.is_tied ≡ true) (λ s. s.frame) (λ s. s.reads_as) opened.views opened.world w opened.stand
+      stand in
       subst (StandsFor g found.world) same opened.is
 
   pub meets_no_fault : MeetsNoFault g
   meets_no_fault w stores refused kept of is clean =
       elim (is.fault clean) [
         | inl want ↦ want
-        | inr f ↦ wanted f.0 (standing.no_faults w kept.0 f.0 (views_of_stores g w stores f.0 kept of f.1)) refused.fault f.2
+        | inr f ↦ wanted f.0 (standing.no_faults w kept.0 f.0 (views_of_stores g w stores f.0 kept of f.1))
+            refused.fault f.2
       ]

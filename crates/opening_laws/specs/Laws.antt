@@ -56,7 +56,8 @@ module _ {S : Type 0} (g : Ghosts S) where
   StraysAreTold = (w : World) (stores : List (Held S)) (found : Recovered S) → IsKeptWorld w → AreStoresOf g stores w →
       (is : IsRecovered g stores found) → AreClean g is.now → AllByRecursion (IsStrayStore g w) found.strays.items
 
-  -- The receipts of a world that was opened say moments, as the opening has read; so it can be stopped and opened again.
+  -- The receipts of a world that was opened say moments, as the opening has read; so it can be stopped and opened
+  -- again.
   abbrev pub OpenedIsTimely : Type 0
   OpenedIsTimely = (stores : List (Held S)) (found : Recovered S) → (is : IsRecovered g stores found) →
       (clean : AreClean g is.now) → found.world.count ≤ greatest_receipts → IsTimely (is.opened clean).world
@@ -75,7 +76,8 @@ module _ {S : Type 0} (g : Ghosts S) where
       ((found : Recovered S) (is : IsRecovered g stores found) → AreClean g is.now → StandsFor g found.world w)
       × ((refused : Unopened S) → IsUnopened g stores refused → AreClean g refused.stores.items → IsWant refused.fault)
 
-  -- Stores that are opened from whatever a crash left of a world at rest are its stores. Each connection that stands is live (`Connection::schema` says so of it).
+  -- Stores that are opened from whatever a crash left of a world at rest are its stores. Each connection that stands
+  -- is live (`Connection::schema` says so of it).
   abbrev pub RestSurvives : Type 0
   RestSurvives = (seen : Seen S) (w : World) (contents : List Trees) (again : List (Held S)) → IsHeld g seen →
       seen.has_failed ≡ false → StandsFor g seen w →
@@ -84,7 +86,8 @@ module _ {S : Type 0} (g : Ghosts S) where
 
   -- ---- a crash of a request
 
-  -- Stores that are opened from contents that are those of a world's packages, with others beside them, are stores of that world.
+  -- Stores that are opened from contents that are those of a world's packages, with others beside them, are stores of
+  -- that world.
   abbrev pub LeftIsStores : Type 0
   LeftIsStores = (w : World) (contents : List Trees) (again : List (Held S)) →
       StandsAmong w.frame w.packages contents →
@@ -95,7 +98,8 @@ module _ {S : Type 0} (g : Ghosts S) where
   StandsForOneOf w q seen = StandsFor g seen w ⊎ StandsFor g seen (outcome w q).1
 
   -- After a fault of a request to a usable world, stores that are opened from whatever a crash left, with whatever is a
-  -- stray of both worlds beside them, come to the world before, or to the one that the request was to make; or memory or
+  -- stray of both worlds beside them, come to the world before, or to the one that the request was to make; or memory
+  -- or
   -- a store gave out.
   abbrev pub CrashIsOpened : Type 0
   CrashIsOpened = (q : Request) (old : Seen S) (reply : Result Receipt Refusal) (new : Seen S) (w : World)

@@ -1,5 +1,7 @@
 //! Laws of the opening of a register's stores, each the contract of a function that does nothing.
-ghost use Rattle.opening_laws.specs.Laws.{ViewsOfStores, OpensAgain, MeetsNoFault, StraysAreTold, OpenedIsTimely, RestIsStores, RestIsOpened, RestSurvives, LeftIsStores, CrashIsOpened, OneRegisterOfStores};
+ghost use Rattle.opening_laws.specs.Laws.{ViewsOfStores, OpensAgain, MeetsNoFault, StraysAreTold, OpenedIsTimely};
+ghost use Rattle.opening_laws.specs.Laws.{RestIsStores, RestIsOpened, RestSurvives, LeftIsStores, CrashIsOpened};
+ghost use Rattle.opening_laws.specs.Laws.{OneRegisterOfStores};
 
 use sqlite::Alter;
 
@@ -13,7 +15,8 @@ pub fn opens_again<S: Alter + Drop>()
     ensures { OpensAgain S.Store }
 {}
 
-/// Of the stores of a register `recover` tells none of the nine faults: where it gives no world, memory or a store gave out.
+/// Of the stores of a register `recover` tells none of the nine faults: where it gives no world,
+/// memory or a store gave out.
 pub fn meets_no_fault<S: Alter + Drop>()
     ensures { MeetsNoFault S.Store }
 {}
@@ -48,7 +51,8 @@ pub fn left_is_stores<S: Alter + Drop>()
     ensures { LeftIsStores S.Store }
 {}
 
-/// Whatever a crash leaves after a request that failed comes to the world before it, or to the world that it was to make.
+/// Whatever a crash leaves after a request that failed comes to the world before it, or to the
+/// world that it was to make.
 pub fn crash_is_opened<S: Alter + Drop>()
     ensures { CrashIsOpened S.Store }
 {}

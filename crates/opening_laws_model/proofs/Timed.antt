@@ -37,18 +37,26 @@ module _ (P : Receipt → Type 0) (r : Receipt) (new : P r) where
 
   -- what a package takes over of another
   joins : (child x : Package) → AllOf child → AllOf x → AllOf (joined child x)
-  joins child x h g = All-arranged receipt_key P (child.receipts ++ x.receipts) (All-append P child.receipts x.receipts h g)
+  joins child x h g = All-arranged receipt_key P (child.receipts ++ x.receipts)
+      (All-append P child.receipts x.receipts h g)
 
   -- in all packages after the command is carried out
-  pub carried : (w : World) (command : Command) → AllByRecursion P (receipts_of w) → AllByRecursion AllOf (carried_out w r command).packages
-  carried w (Add p identity content) h = All-changed _ p AllOf AllOf (λ x _ g. gains x.receipts g) (λ x g. g) w.packages (each_stands P w h)
-  carried w (Delete p identity) h = All-changed _ p AllOf AllOf (λ x _ g. gains x.receipts g) (λ x g. g) w.packages (each_stands P w h)
-  carried w (Link p mapping base other) h = All-changed _ p AllOf AllOf (λ x _ g. gains x.receipts g) (λ x g. g) w.packages (each_stands P w h)
-  carried w (Unlink p mapping base other) h = All-changed _ p AllOf AllOf (λ x _ g. gains x.receipts g) (λ x g. g) w.packages (each_stands P w h)
+  pub carried : (w : World) (command : Command) → AllByRecursion P (receipts_of w)
+      → AllByRecursion AllOf (carried_out w r command).packages
+  carried w (Add p identity content) h = All-changed _ p AllOf AllOf (λ x _ g. gains x.receipts g) (λ x g. g)
+      w.packages (each_stands P w h)
+  carried w (Delete p identity) h = All-changed _ p AllOf AllOf (λ x _ g. gains x.receipts g) (λ x g. g) w.packages
+      (each_stands P w h)
+  carried w (Link p mapping base other) h = All-changed _ p AllOf AllOf (λ x _ g. gains x.receipts g) (λ x g. g)
+      w.packages (each_stands P w h)
+  carried w (Unlink p mapping base other) h = All-changed _ p AllOf AllOf (λ x _ g. gains x.receipts g) (λ x g. g)
+      w.packages (each_stands P w h)
   carried w (Split p child mode rect) h =
-      All-put package_key AllOf (loan_of child (holdings w p) r.seq (cut_of w p mode rect)) _ tt (All-changed _ p AllOf AllOf (λ x _ g. gains x.receipts g) (λ x g. g) w.packages (each_stands P w h))
+      All-put package_key AllOf (loan_of child (holdings w p) r.seq (cut_of w p mode rect)) _ tt
+      (All-changed _ p AllOf AllOf (λ x _ g. gains x.receipts g) (λ x g. g) w.packages (each_stands P w h))
   carried w (Merge child into ticket) h =
-      All-filter AllOf _ _ (All-changed _ into AllOf AllOf (λ x _ g. gains (joined (holdings w child) x).receipts (joins (holdings w child) x (of_package P w child h) g)) (λ x g. g) w.packages (each_stands P w h))
+      All-filter AllOf _ _ (All-changed _ into AllOf AllOf (λ x _ g. gains (joined (holdings w child) x).receipts
+      (joins (holdings w child) x (of_package P w child h) g)) (λ x g. g) w.packages (each_stands P w h))
 
 -- ---- an accepted request
 
@@ -60,18 +68,23 @@ accepts : (w : World) (q : Request) → IsTimely w → refusal w (accepted w q) 
 accepts w q timely no_refusal =
     let next : World = accepted w q in
     let fails = rows_fail (reasons w next q) no_refusal in
-    let moment : is_moment q.at ≡ true = not_false (is_moment q.at) (or_parts (not (is_moment q.at)) (bad_text q.command) fails.1.1.1.0).0 in
+    let moment : is_moment q.at ≡ true = not_false (is_moment q.at)
+    (or_parts (not (is_moment q.at)) (bad_text q.command) fails.1.1.1.0).0 in
     let few : nat_lt greatest_receipts (length (receipts_of next)) ≡ false =
-    (or_parts (list_any is_overfull next.packages || nat_lt greatest_packages (length next.packages)) (nat_lt greatest_receipts (length (receipts_of next))) fails.1.1.1.1.1.1.1.1.1.1.1.1.1.1.1.1.1.1.1.1.1.1.0).1 in
+    (or_parts (list_any is_overfull next.packages || nat_lt greatest_packages (length next.packages))
+    (nat_lt greatest_receipts (length (receipts_of next)))
+    fails.1.1.1.1.1.1.1.1.1.1.1.1.1.1.1.1.1.1.1.1.1.1.0).1 in
     let P : Receipt → Type 0 = λ r. is_moment r.at ≡ true in
     record {
-      moments = All-arranged receipt_key P (flat_map (λ x. x.receipts) next.packages) (stand_flat P next.packages (carried P (receipt_of w q) moment w q.command timely.moments));
+      moments = All-arranged receipt_key P (flat_map (λ x. x.receipts) next.packages)
+          (stand_flat P next.packages (carried P (receipt_of w q) moment w q.command timely.moments));
       counted = within (length (receipts_of next)) few;
     }
 
 pub step_keeps_timely : StepKeepsTimely
 step_keeps_timely w q reply next types register timely step =
     elim step [
-      | inl done ↦ subst IsTimely (sym done.1) (keeps IsTimely w q timely (λ _ no_refusal. accepts w q timely no_refusal))
+      | inl done ↦ subst IsTimely (sym done.1) (keeps IsTimely w q timely
+          (λ _ no_refusal. accepts w q timely no_refusal))
       | inr fault ↦ subst IsTimely (sym fault.1) timely
     ]

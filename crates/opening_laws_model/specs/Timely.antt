@@ -1,4 +1,5 @@
--- What each request keeps beside the rules of a register: moments and bounds, which the opening of a world asks of its stores. Profile.
+-- What each request keeps beside the rules of a register: moments and bounds, which the opening of a world asks of
+-- its stores. Profile.
 use Rattle.std.specs.Prelude.{◌≡◌, ◌≤◌, true, length, MatchOption}
 use Rattle.std.specs.List.{AllByRecursion}
 use Rattle.sheet_types.specs.Balance.{IsThing}

@@ -1,5 +1,7 @@
 //! Laws of views of a register's stores, each the contract of a function that does nothing.
-ghost use Rattle.opening_laws_model.specs.Laws.{RegisterStands, RegisterHasNoFault, StraysAreApart, UnknownIsStray, NewWorldIsTimely, StepKeepsTimely, PackagesAreInBounds, RepeatGetsItsReceipt};
+ghost use Rattle.opening_laws_model.specs.Laws.{RegisterStands, RegisterHasNoFault, StraysAreApart, UnknownIsStray};
+ghost use Rattle.opening_laws_model.specs.Laws.{NewWorldIsTimely, StepKeepsTimely, PackagesAreInBounds};
+ghost use Rattle.opening_laws_model.specs.Laws.{RepeatGetsItsReceipt};
 
 /// Views of a register's stores, in any order and with any strays beside them, stand for it.
 pub fn register_stands()

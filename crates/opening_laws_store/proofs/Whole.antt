@@ -21,11 +21,21 @@ kept_store_is_whole w p db kept bounds reads =
     let says = reads.says in
     record {
       formed = reads.formed;
-      headed = (reads.formed.heads, (head_row p says.created, says.head, row_of_head p says.created says.fit_head bounds.levelled says.moment));
+      headed = (
+        reads.formed.heads,
+        (
+          head_row p says.created,
+          says.head,
+          row_of_head p says.created says.fit_head
+              bounds.levelled says.moment,
+        ),
+      );
       frame = (says.good, says.fixed);
       dated = moments_told (tables_of db).contents says.dated;
       items = in_ranges w p (tables_of db) kept says;
-      receipts = receipts_range says.entered p.receipts (tables_of db).receipts (tables_of db).moved says.of_receipts kept.receipts bounds.receipts;
+      receipts = receipts_range says.entered p.receipts (tables_of db).receipts (tables_of db).moved says.of_receipts
+          kept.receipts bounds.receipts;
       tied = all_tied w.frame p (tables_of db) says;
-      claimed = claims_are says.entered p.receipts (tables_of db).receipts (tables_of db).moved says.of_receipts kept.receipts;
+      claimed = claims_are says.entered p.receipts (tables_of db).receipts (tables_of db).moved says.of_receipts
+          kept.receipts;
     }

@@ -1,4 +1,5 @@
--- What a store that reads as a package has of all that an opening asks of a store. Profile, over the tables of GeoPackage 1.3 and OGC 18-000.
+-- What a store that reads as a package has of all that an opening asks of a store. Profile, over the tables of
+-- GeoPackage 1.3 and OGC 18-000.
 use Rattle.std.specs.Prelude.{◌≡◌, map}
 use Rattle.sqlite.specs.Effect.{Database}
 use Rattle.sheet_types.specs.Opening.{claim_of, head_of}

@@ -11,7 +11,8 @@ use Rattle.package_schema.specs.Heads.{IsHead}
 use Rattle.opening_laws_model.specs.Timely.{IsInBounds}
 use Rattle.opening_laws_store.specs.Kept.{IsWholeAs}
 
--- A store that reads as a package which keeps its rules and is in bounds is whole and tied; head and claims are the package's.
+-- A store that reads as a package which keeps its rules and is in bounds is whole and tied; head and claims are the
+-- package's.
 abbrev pub KeptStoreIsWhole : Type 0
 KeptStoreIsWhole = (w : World) (p : Package) (db : Database) → IsKeptPackage w p → IsInBounds p →
     Reads w.frame p db → IsWholeAs w.frame p db

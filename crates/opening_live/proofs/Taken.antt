@@ -1,5 +1,6 @@
 -- What a test takes of a list, and what a weaker test had taken before it.
-use Rattle.std.specs.Prelude.{◌≡◌, Bool, true, false, cond, List, [], ◌∷◌, filter, find, refl, Some, All, count_by, Contains}
+use Rattle.std.specs.Prelude.{◌≡◌, Bool, true, false, cond, List, [], ◌∷◌, filter, find, refl, Some, All, count_by}
+use Rattle.std.specs.Prelude.{Contains}
 use Rattle.std.proofs.Common.{sym, ap, subst, ◌∙◌, arith, inl, inr}
 use Rattle.std.proofs.lemmas.Bool.{true≢false}
 use Rattle.std.proofs.lemmas.List.Elements.{All-from_recursion}
@@ -25,15 +26,17 @@ of_filter t x (y ∷ ys) i =
     ] refl i
 
 -- a test takes the same of what a weaker one took
-pub taken_again : {X : Type 0} (t u : X → Bool) (xs : List X) → AllByRecursion (λ x. t x ≡ true → u x ≡ true) xs → filter t (filter u xs) ≡ filter t xs
+pub taken_again : {X : Type 0} (t u : X → Bool) (xs : List X) → AllByRecursion (λ x. t x ≡ true → u x ≡ true) xs
+    → filter t (filter u xs) ≡ filter t xs
 taken_again t u [] h = refl
 taken_again t u (x ∷ xs) h =
     elim (u x) as (λ v. u x ≡ v → filter t (cond v (x ∷ filter u xs) (filter u xs)) ≡ filter t (x ∷ xs)) [
       | true ↦ λ _. ap (λ zs. cond (t x) (x ∷ zs) zs) (taken_again t u xs h.1)
-      | false ↦ λ e. taken_again t u xs h.1 ∙ elim (t x) as (λ v. t x ≡ v → filter t xs ≡ cond v (x ∷ filter t xs) (filter t xs)) [
-        | true ↦ λ g. absurd (true≢false (sym (h.0 g) ∙ e))
-        | false ↦ λ _. refl
-      ] refl
+      | false ↦ λ e. taken_again t u xs h.1 ∙ elim (t x) as (λ v. t x ≡ v
+          → filter t xs ≡ cond v (x ∷ filter t xs) (filter t xs)) [
+            | true ↦ λ g. absurd (true≢false (sym (h.0 g) ∙ e))
+            | false ↦ λ _. refl
+          ] refl
     ] refl
 
 -- what all pass takes all
@@ -42,7 +45,8 @@ taken_all t [] h = refl
 taken_all t (x ∷ xs) h = ap (λ b. cond b (x ∷ filter t xs) (filter t xs)) h.0 ∙ ap (λ zs. x ∷ zs) (taken_all t xs h.1)
 
 -- as many pass
-pub counted_again : {X : Type 0} (t u : X → Bool) (xs : List X) → AllByRecursion (λ x. t x ≡ true → u x ≡ true) xs → count_by t (filter u xs) ≡ count_by t xs
+pub counted_again : {X : Type 0} (t u : X → Bool) (xs : List X) → AllByRecursion (λ x. t x ≡ true → u x ≡ true) xs
+    → count_by t (filter u xs) ≡ count_by t xs
 counted_again t u [] h = refl
 counted_again t u (x ∷ xs) h =
     let ih : count_by t (filter u xs) ≡ count_by t xs = counted_again t u xs h.1 in
@@ -58,7 +62,8 @@ counted_again t u (x ∷ xs) h =
     ] refl
 
 -- the first that passes is the same
-pub found_again : {X : Type 0} (t u : X → Bool) (xs : List X) → AllByRecursion (λ x. t x ≡ true → u x ≡ true) xs → find t (filter u xs) ≡ find t xs
+pub found_again : {X : Type 0} (t u : X → Bool) (xs : List X) → AllByRecursion (λ x. t x ≡ true → u x ≡ true) xs
+    → find t (filter u xs) ≡ find t xs
 found_again t u [] h = refl
 found_again t u (x ∷ xs) h =
     elim (u x) as (λ v. u x ≡ v → find t (cond v (x ∷ filter u xs) (filter u xs)) ≡ find t (x ∷ xs)) [

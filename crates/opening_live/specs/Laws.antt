@@ -12,4 +12,5 @@ LiveOnesStand = (views : List StoreSight) (w : World) → StoresStandFor (live_v
 -- A fault is the first of the nine that holds of views that live exactly where it is that of all, with the same package
 -- or identity.
 abbrev pub LiveOnesFault : Type 0
-LiveOnesFault = (views : List StoreSight) (fault : RecoverFault) → IsFaultOf (live_views views) fault ↔ IsFaultOf views fault
+LiveOnesFault = (views : List StoreSight) (fault : RecoverFault)
+    → IsFaultOf (live_views views) fault ↔ IsFaultOf views fault

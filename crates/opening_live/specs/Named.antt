@@ -14,8 +14,10 @@ names opens h c key = opens c && makes_key key (split_made h c)
 
 -- a store claims an open split of the loan of a key, as far as it says itself
 abbrev pub names_by : Sight → List ℕ → Bool
-names_by s key = option_map_or (λ h. list_any (λ c. names (is_open_claim (claims_seen s)) h (claim_said c) key) s.claims.items) s.head false
+names_by s key = option_map_or (λ h. list_any (λ c. names (is_open_claim (claims_seen s)) h (claim_said c) key)
+    s.claims.items) s.head false
 
 -- a store is an archive's, or some store names it
 abbrev pub may_live : List Sight → Sight → Bool
-may_live sights s = is_root s || option_map_or (λ h. list_any (λ above. names_by above (head_key h)) sights) s.head false
+may_live sights s = is_root s || option_map_or (λ h. list_any (λ above. names_by above (head_key h)) sights) s.head
+    false

@@ -1,4 +1,5 @@
-//! Laws of views of stores of which those that do not live are left out, each the contract of a function that does nothing.
+//! Laws of views of stores of which those that do not live are left out, each the contract of a
+//! function that does nothing.
 ghost use Rattle.opening_live.specs.Laws.{LiveOnesFault, LiveOnesStand};
 
 /// Those that live stand for a world exactly where all do.

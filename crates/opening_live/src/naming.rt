@@ -40,7 +40,8 @@ fn note(loans: &mut BTreeSet<LoanKey>, key: LoanKey) -> Result<(), OutOfMemory>
 /// Notes the key of the loan that a split made.
 fn note_split(loans: &mut BTreeSet<LoanKey>, split: &OpenSplit) -> Result<(), OutOfMemory>
     ensures { IfOk result (λ _. (key : List ℕ) →
-        contains (slice_cmp nat_cmp) loans.new key ≡ (contains (slice_cmp nat_cmp) loans.old key || makes_key key split.now)) }
+        contains (slice_cmp nat_cmp) loans.new key ≡ (contains (slice_cmp nat_cmp) loans.old key || makes_key key
+        split.now)) }
 {
     match LoanKey::of_split(split)? {
         Some(key) => note(loans, key),
@@ -95,7 +96,8 @@ fn note_store(
     sight: &Sight,
 ) -> Result<(), OutOfMemory>
     ensures { IfOk result (λ _. (key : List ℕ) →
-        contains (slice_cmp nat_cmp) loans.new key ≡ (contains (slice_cmp nat_cmp) loans.old key || names_by sight.now key)) }
+        contains (slice_cmp nat_cmp) loans.new key ≡ (contains (slice_cmp nat_cmp) loans.old key || names_by sight.now
+        key)) }
 {
     match &sight.head {
         Some(head) => {

@@ -24,7 +24,8 @@ shown : (s : State) (db : Database) → Holds s db → Holds s s.now
 shown s db h = subst (Holds s) (sym h.now_is) h
 
 -- trees that are as before, or would be left by the migration, read as the package at one version or at the other
-left_so : (db : Database) → IsDatabase db → (f : Frame) (p : Package) → ReadsAtOne f p db → (trees : Trees) → (trees ≡ db.trees) ⊎ WouldLeave Either db trees → ReadsAtEither f p trees
+left_so : (db : Database) → IsDatabase db → (f : Frame) (p : Package) → ReadsAtOne f p db → (trees : Trees)
+    → (trees ≡ db.trees) ⊎ WouldLeave Either db trees → ReadsAtEither f p trees
 left_so db sound f p reads trees (inl same) = subst (ReadsAtEither f p) (sym same) (db.schema, sound, reads)
 left_so db sound f p reads trees (inr (x, new, brings, same)) =
     let it : Reads f p new × (IsDatabase db → IsDatabase new) = brings f p reads in
@@ -40,45 +41,60 @@ module _ {S : Type 0} (g : Ghosts S) (shuts : Shuts g) (settles : Settles g) whe
     holds = λ is_open. shown (state g b) (state g a).now (stays.holds is_open);
     says = λ is_open. inl (stays.holds is_open).now_is;
     left = λ clean is_open sound f p reads trees may. elim (stays.survives.crash clean trees may) [
-      | inl before ↦ left_so (state g a).now sound f p reads trees (inl ((at_rest g shuts settles a rests is_open).left trees before))
+      | inl before ↦ left_so (state g a).now sound f p reads trees
+          (inl ((at_rest g shuts settles a rests is_open).left trees before))
       | inr none ↦ absurd none
     ];
   }
 
   module _ {E : Type 0} (b c : Held S) (open_b : IsTrue (state g b).is_open) where
     -- after the transaction it holds what it shows, which is what it held or what was made of it
-    turned_holds : (r : Result (Unit {0}) E) → Turns Either (state g b) (state g c) r → HasCleanDisk (state g c) → IsTrue (state g c).is_open → Holds (state g c) (state g c).now
+    turned_holds : (r : Result (Unit {0}) E) → Turns Either (state g b) (state g c) r → HasCleanDisk (state g c)
+        → IsTrue (state g c).is_open → Holds (state g c) (state g c).now
     turned_holds (Ok x) turn clean is_open = (turn.done clean).1
     turned_holds (Err e) turn clean is_open = shown (state g c) (state g b).now (turn.undone is_open)
 
-    turned_says : (r : Result (Unit {0}) E) → Turns Either (state g b) (state g c) r → HasCleanDisk (state g c) → IsTrue (state g c).is_open → ((state g c).now ≡ (state g b).now) ⊎ BringsIfFirst (state g b).now (state g c).now
+    turned_says : (r : Result (Unit {0}) E) → Turns Either (state g b) (state g c) r → HasCleanDisk (state g c)
+        → IsTrue (state g c).is_open → ((state g c).now ≡ (state g b).now)
+        ⊎ BringsIfFirst (state g b).now (state g c).now
     turned_says (Ok x) turn clean is_open = inr (turn.done clean).0
     turned_says (Err e) turn clean is_open = inl (turn.undone is_open).now_is
 
   -- one that was read, and then turned
-  pub turned_may : {E : Type 0} (a b c : Held S) (r : Result (Unit {0}) E) → StaysStore g a b → (HasCleanDisk (state g b) → IsTrue (state g b).is_open) → IsTurned g b c r → MayBeBrought (state g a) (state g c)
+  pub turned_may : {E : Type 0} (a b c : Held S) (r : Result (Unit {0}) E) → StaysStore g a b
+      → (HasCleanDisk (state g b) → IsTrue (state g b).is_open) → IsTurned g b c r
+      → MayBeBrought (state g a) (state g c)
   turned_may {E} a b c r stays opens turned = record {
     rests = turned.rests;
     clean = λ clean. let mid = turned.clean clean in omega (arith, stays.survives.clean, mid);
     was_open = λ is_open. stays.was_open (mid_open is_open);
-    holds = λ is_open. turned_holds b c (mid_open is_open) r (turned.turns (mid_open is_open)) (clean_open g shuts settles c is_open) is_open;
-    says = λ is_open. subst (λ (db : Database). ((state g c).now ≡ db) ⊎ BringsIfFirst db (state g c).now) (stays.holds (mid_open is_open)).now_is
-        (turned_says b c (mid_open is_open) r (turned.turns (mid_open is_open)) (clean_open g shuts settles c is_open) is_open);
+    holds = λ is_open. turned_holds b c (mid_open is_open) r (turned.turns (mid_open is_open))
+        (clean_open g shuts settles c is_open) is_open;
+    says = λ is_open. subst (λ (db : Database). ((state g c).now ≡ db) ⊎ BringsIfFirst db (state g c).now)
+        (stays.holds (mid_open is_open)).now_is
+        (turned_says b c (mid_open is_open) r (turned.turns (mid_open is_open)) (clean_open g shuts settles c is_open)
+        is_open);
     left = λ clean is_open sound f p reads trees may.
         let open_b : IsTrue (state g b).is_open = opens (turned.clean clean) in
         left_so (state g a).now sound f p reads trees
-        (subst (λ (db : Database). (trees ≡ db.trees) ⊎ WouldLeave Either db trees) (stays.holds open_b).now_is ((turned.turns open_b).left clean open_b trees may));
+        (subst (λ (db : Database). (trees ≡ db.trees) ⊎ WouldLeave Either db trees) (stays.holds open_b).now_is
+        ((turned.turns open_b).left clean open_b trees may));
   }
     where
       mid_open : IsTrue (state g c).is_open → IsTrue (state g b).is_open
       mid_open is_open = opens (turned.clean (clean_open g shuts settles c is_open))
 
   -- one that was read, and then turned or not
-  pub either_may : {E : Type 0} (a b c : Held S) → Rests (state g a) → StaysStore g a b → (HasCleanDisk (state g b) → IsTrue (state g b).is_open) → MayBeTurned g E b c → MayBeBrought (state g a) (state g c)
-  either_may a b c rests stays opens (inl same) = subst (λ (h : Held S). MayBeBrought (state g a) (state g h)) (sym same) (stays_may a b rests stays)
+  pub either_may : {E : Type 0} (a b c : Held S) → Rests (state g a) → StaysStore g a b
+      → (HasCleanDisk (state g b) → IsTrue (state g b).is_open) → MayBeTurned g E b c
+      → MayBeBrought (state g a) (state g c)
+  either_may a b c rests stays opens (inl same) = subst (λ (h : Held S). MayBeBrought (state g a) (state g h))
+      (sym same) (stays_may a b rests stays)
   either_may a b c rests stays opens (inr it) = turned_may a b c it.0 stays opens it.1
 
 module _ {S : Type 0} (g : Ghosts S) where
   -- of one that was turned, and whose disk is clean, the package at the second version
-  pub turned_reads : {E : Type 0} (b c : Held S) → IsTrue (state g b).is_open → IsTurned g {E = E} b c (Ok tt) → HasCleanDisk (state g c) → (f : Frame) (p : Package) → ReadsAtOne f p (state g b).now → Reads f p (state g c).now
+  pub turned_reads : {E : Type 0} (b c : Held S) → IsTrue (state g b).is_open → IsTurned g {E = E} b c (Ok tt)
+      → HasCleanDisk (state g c) → (f : Frame) (p : Package) → ReadsAtOne f p (state g b).now
+      → Reads f p (state g c).now
   turned_reads b c open_b turned clean f p reads = (((turned.turns open_b).done clean).0 f p reads).0

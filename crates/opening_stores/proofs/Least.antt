@@ -1,5 +1,6 @@
 -- The first of those that wait, found one after the other.
-use Rattle.std.specs.Prelude.{◌≡◌, ⊤, ℕ, ◌+◌, ◌<◌, ◌≤◌, Bool, true, false, List, [], ◌∷◌, ◌++◌, refl, Option, Some, None, MatchOption, IfSome, slice_get, cond}
+use Rattle.std.specs.Prelude.{◌≡◌, ⊤, ℕ, ◌+◌, ◌<◌, ◌≤◌, Bool, true, false, List, [], ◌∷◌, ◌++◌, refl, Option, Some}
+use Rattle.std.specs.Prelude.{None, MatchOption, IfSome, slice_get, cond}
 use Rattle.std.specs.List.{AllByRecursion}
 use Rattle.std.proofs.Common.{sym, ap, subst, ◌∙◌, take, get_or, length}
 use Rattle.std.proofs.lemmas.List.{take_all, take_more}
@@ -46,18 +47,30 @@ earlier_behind u v before (Some other) is = not_before other u v before is
 
 module _ (waiting : List (Option (List ℕ))) (n : ℕ) where
   -- with one more place
-  one_more : (found : Option Waiting) (waits : Option (List ℕ)) → slice_get waiting n ≡ Some waits → (front : List (Option (List ℕ))) → take (n + 1) waiting ≡ front ++ waits ∷ [] → take n waiting ≡ front → IsFirstOf waiting n found
+  one_more : (found : Option Waiting) (waits : Option (List ℕ)) → slice_get waiting n ≡ Some waits
+      → (front : List (Option (List ℕ))) → take (n + 1) waiting ≡ front ++ waits ∷ [] → take n waiting ≡ front
+      → IsFirstOf waiting n found
       → IsFirstOf waiting (n + 1) (first_of found n waits)
   one_more None None there front more was it = record {
     some = tt;
-    none = λ e. subst (AllByRecursion (λ w. w ≡ None)) (sym more) (All-snoc (λ w. w ≡ None) front None (subst (AllByRecursion (λ w. w ≡ None)) was (it.none refl)) refl);
+    none = λ e. subst (AllByRecursion (λ w. w ≡ None)) (sym more)
+        (All-snoc (λ w. w ≡ None) front None (subst (AllByRecursion (λ w. w ≡ None)) was (it.none refl)) refl);
   }
   one_more (Some f) None there front more was it = record {
-    some = (it.some.0, subst (AreBehind f.uuid) (sym more) (All-snoc (Behind f.uuid) front None (subst (AreBehind f.uuid) was it.some.1) tt));
+    some = (
+      it.some.0,
+      subst (AreBehind f.uuid) (sym more) (All-snoc (Behind f.uuid) front None
+          (subst (AreBehind f.uuid) was it.some.1) tt),
+    );
     none = λ e. absurd (let same = e in cc);
   }
   one_more None (Some u) there front more was it = record {
-    some = (there, subst (AreBehind u) (sym more) (All-snoc (Behind u) front (Some u) (All-weaker (λ w. w ≡ None) (Behind u) (none_behind u) front (subst (AllByRecursion (λ w. w ≡ None)) was (it.none refl))) (itself u)));
+    some = (
+      there,
+      subst (AreBehind u) (sym more) (All-snoc (Behind u) front (Some u)
+          (All-weaker (λ w. w ≡ None) (Behind u) (none_behind u) front
+          (subst (AllByRecursion (λ w. w ≡ None)) was (it.none refl))) (itself u)),
+    );
     none = λ e. absurd (let same = e in cc);
   }
   one_more (Some f) (Some u) there front more was it = one (is_before u f.uuid) refl
@@ -67,7 +80,11 @@ module _ (waiting : List (Option (List ℕ))) (n : ℕ) where
 
       one : (v : Bool) → is_before u f.uuid ≡ v → IsFirstOf waiting (n + 1) (first_of (Some f) n (Some u))
       one true e = rw e (record {
-        some = (there, subst (AreBehind u) (sym more) (All-snoc (Behind u) front (Some u) (All-weaker (Behind f.uuid) (Behind u) (earlier_behind u f.uuid e) front behind) (itself u)));
+        some = (
+          there,
+          subst (AreBehind u) (sym more) (All-snoc (Behind u) front (Some u)
+              (All-weaker (Behind f.uuid) (Behind u) (earlier_behind u f.uuid e) front behind) (itself u)),
+        );
         none = λ none. absurd (let same = none in cc);
       })
       one false e = rw e (record {
@@ -75,16 +92,26 @@ module _ (waiting : List (Option (List ℕ))) (n : ℕ) where
         none = λ none. absurd (let same = none in cc);
       })
 
-  pub goes_on : (found : Option Waiting) (waits : Option (List ℕ)) → n < length waiting → waits ≡ get_or waiting n waits → IsFirstOf waiting n found → IsFirstOf waiting (n + 1) (first_of found n waits)
+  pub goes_on : (found : Option Waiting) (waits : Option (List ℕ)) → n < length waiting
+      → waits ≡ get_or waiting n waits → IsFirstOf waiting n found
+      → IsFirstOf waiting (n + 1) (first_of found n waits)
   goes_on found waits within is it =
-      one_more found waits (slice_get-get_or waiting n waits within ∙ ap Some (sym is)) (take n waiting) (take_more waiting n waits within ∙ ap (λ w. take n waiting ++ w ∷ []) (sym is)) refl it
+      one_more found waits (slice_get-get_or waiting n waits within ∙ ap Some (sym is)) (take n waiting)
+      (take_more waiting n waits within ∙ ap (λ w. take n waiting ++ w ∷ []) (sym is)) refl it
 
 pub begins : (waiting : List (Option (List ℕ))) → IsFirstOf waiting 0 None
 begins waiting = record { some = tt; none = λ e. tt }
 
-pub ends : (waiting : List (Option (List ℕ))) (n : ℕ) (found : Option Waiting) → length waiting ≤ n → IsFirstOf waiting n found → IfSome found (IsLeast waiting)
+pub ends : (waiting : List (Option (List ℕ))) (n : ℕ) (found : Option Waiting) → length waiting ≤ n
+    → IsFirstOf waiting n found → IfSome found (IsLeast waiting)
 ends waiting n None past it = tt
-ends waiting n (Some f) past it = record { there = it.some.0; least = subst (AreBehind f.uuid) (take_all n waiting past) it.some.1 }
+ends waiting n (Some f) past it = record {
+  there = it.some.0;
+  least =
+      subst (AreBehind f.uuid) (take_all n waiting past) it.some.1;
+}
 
-pub ends_none : (waiting : List (Option (List ℕ))) (n : ℕ) (found : Option Waiting) → length waiting ≤ n → IsFirstOf waiting n found → found ≡ None → AllByRecursion (λ waits. waits ≡ None) waiting
-ends_none waiting n found past it none = subst (AllByRecursion (λ waits. waits ≡ None)) (take_all n waiting past) (it.none none)
+pub ends_none : (waiting : List (Option (List ℕ))) (n : ℕ) (found : Option Waiting) → length waiting ≤ n
+    → IsFirstOf waiting n found → found ≡ None → AllByRecursion (λ waits. waits ≡ None) waiting
+ends_none waiting n found past it none = subst (AllByRecursion (λ waits. waits ≡ None)) (take_all n waiting past)
+    (it.none none)

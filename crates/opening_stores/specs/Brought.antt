@@ -1,5 +1,6 @@
 -- What an opening makes of the stores of live packages: one of the first version is brought to the second. Profile.
-use Rattle.std.specs.Prelude.{◌≡◌, ◌⊎◌, ℕ, List, map, Option, Some, MatchOption, Result, Ok, slice_get, slice_set, IsTrue}
+use Rattle.std.specs.Prelude.{◌≡◌, ◌⊎◌, ℕ, List, map, Option, Some, MatchOption, Result, Ok, slice_get, slice_set}
+use Rattle.std.specs.Prelude.{IsTrue}
 use Rattle.std.specs.List.{AllByRecursion, AllZip}
 use Rattle.sqlite.specs.Effect.{Database, IsDatabase}
 use Rattle.sqlite.specs.Held.{Held, state}
@@ -23,7 +24,8 @@ LeavesAtEither was s =
     (f : Frame) (p : Package) → ReadsAtOne f p was → (trees : Trees) → s.may_leave trees → ReadsAtEither f p trees
 
 -- A store that an opening looked at, and may have brought to the second version: it is at rest, and where it is open it
--- says what it said, or the same package at the second version. A crash leaves that package too, at one version or at the
+-- says what it said, or the same package at the second version. A crash leaves that package too, at one version or at
+-- the
 -- other, if the trees of the database before listed its schema.
 pub record MayBeBrought (old new : State) : Type 0 where
   pub rests : Rests new
@@ -38,7 +40,8 @@ module _ {S : Type 0} (g : Ghosts S) where
   abbrev pub MayAllBeBrought : List (Held S) → List (Held S) → Type 0
   MayAllBeBrought = AllZip (λ a b. MayBeBrought (state g a) (state g b))
 
-  -- What one transaction made of a store: an open one that reads as a package at either version reads as the same at the
+  -- What one transaction made of a store: an open one that reads as a package at either version reads as the same at
+  -- the
   -- second.
   pub record IsTurned {E : Type 0} (old new : Held S) (r : Result (Unit {0}) E) : Type 0 where
     pub rests : Rests (state g new)
@@ -66,7 +69,8 @@ pub record Place (S : Type 0) : Type 0 where
   pub now : Held S
 
 -- Of each store of a live package, of which something is kept, this is so; each other is as it was.
-pub record AreBrought {S : Type 0} (IsSo : Held S → Held S → Type 0) (kept : List (Option Kept)) (old new : List (Held S))
+pub record AreBrought {S : Type 0} (IsSo : Held S → Held S → Type 0) (kept : List (Option Kept))
+    (old new : List (Held S))
     : Type 0 where
   pub places : List (Place S)
   pub kept_is : kept ≡ map (λ p. p.kept) places

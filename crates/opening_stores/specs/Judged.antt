@@ -32,7 +32,8 @@ AreAllNoted known seen = AllByRecursion (λ s. AllByRecursion (Notes known) s.he
 
 -- What was seen comes to this verdict, the frame is that of its world, and what that one's receipts name is known.
 abbrev pub IsJudgedOf : List StoreSeen → Frame → Verdict → List (List ℕ) → Type 0
-IsJudgedOf seen frame verdict known = (views : List StoreSight) → AreSeenAs seen views → (is : IsVerdictOf verdict views) × (frame ≡ is.world.frame) × Knows known is.world
+IsJudgedOf seen frame verdict known = (views : List StoreSight) → AreSeenAs seen views
+    → (is : IsVerdictOf verdict views) × (frame ≡ is.world.frame) × Knows known is.world
 
 module _ {S : Type 0} (g : Ghosts S) where
   -- right views of what the stores hold, in turn
@@ -40,7 +41,8 @@ module _ {S : Type 0} (g : Ghosts S) where
   AreViewsOf stores views = AllZip (λ h v. IsTrue (state g h).is_open × IsViewAtEither (state g h).now v) stores views
 
   -- The stores come to these values: some right views of them do.
-  pub record AreJudged (stores : List (Held S)) (frame : Frame) (verdict : Verdict) (known : List (List ℕ)) : Type 0 where
+  pub record AreJudged (stores : List (Held S)) (frame : Frame) (verdict : Verdict) (known : List (List ℕ)) :
+      Type 0 where
     pub views : List StoreSight
     pub right : AreViewsOf stores views
     pub is : IsVerdictOf verdict views

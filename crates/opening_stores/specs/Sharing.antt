@@ -11,7 +11,16 @@ member_key m = m.uuid
 
 -- the member of a store of which this is kept
 abbrev pub member_of : {S : Type 0} → Held S → Kept → Member S
-member_of h k = record { conn = h; uuid = k.head.uuid; parent = k.head.parent; depth = k.head.depth; loan = k.head.loan; sums = k.sums; ticket = k.ticket }
+member_of h k = record {
+  conn = h;
+  uuid = k.head.uuid;
+  parent = k.head.parent;
+  depth = k.head.depth;
+  loan =
+      k.head.loan;
+  sums = k.sums;
+  ticket = k.ticket;
+}
 
 -- members and strays with one store more
 abbrev pub with_member : {S : Type 0} → Held S → Option Kept → List (Member S) → List (Member S)
@@ -37,9 +46,11 @@ strays_of (h ∷ hs) (k ∷ ks) = with_stray h k (strays_of hs ks)
 
 -- there is room for so many more members and strays
 abbrev pub HasRoomOf : {S : Type 0} → Shares S → ℕ → Type 0
-HasRoomOf shares n = (vec_len shares.members + n ≤ vec_capacity shares.members) × (vec_len shares.strays + n ≤ vec_capacity shares.strays)
+HasRoomOf shares n = (vec_len shares.members + n ≤ vec_capacity shares.members)
+    × (vec_len shares.strays + n ≤ vec_capacity shares.strays)
 
 -- the members in the order of their UUIDs, and the strays
-pub record AreShared {S : Type 0} (stores : List (Held S)) (kept : List (Option Kept)) (shares : Shares S) : Type 0 where
+pub record AreShared {S : Type 0} (stores : List (Held S)) (kept : List (Option Kept)) (shares : Shares S) :
+    Type 0 where
   pub members : shares.members.items ≡ arranged member_key (members_of stores kept)
   pub strays : shares.strays.items ≡ strays_of stores kept

@@ -1,4 +1,5 @@
--- Of stores that were looked at, and of which some may have been brought, only those of packages may have changed. Profile.
+-- Of stores that were looked at, and of which some may have been brought, only those of packages may have changed.
+-- Profile.
 use Rattle.std.specs.Prelude.{◌≡◌, ◌⊎◌, List}
 use Rattle.std.specs.List.{AllZip}
 use Rattle.sqlite.specs.Held.{Held, state}

@@ -1,4 +1,5 @@
-//! The stores of live packages, each brought to the second version where it is of the first, once there is room for all that is moved then.
+//! The stores of live packages, each brought to the second version where it is of the first, once
+//! there is room for all that is moved then.
 ghost use Rattle.std.specs.Prelude.{◌≡◌, ◌<◌, ◌≤◌, [], length, map, IfOk, IfErr, vec_capacity};
 ghost use Rattle.sqlite.specs.Held.{state};
 ghost use Rattle.store_sql.specs.Transactions.{Rests};
@@ -41,7 +42,8 @@ fn bring_at<S: Alter + Drop>(stores: &mut Vec<Connection<S>>, at: usize) -> Resu
     bring(conn)
 }
 
-/// Brings the stores of live packages, in the order of their UUIDs, each in one transaction. All others stay as they are.
+/// Brings the stores of live packages, in the order of their UUIDs, each in one transaction. All
+/// others stay as they are.
 ///
 /// # Errors
 ///

@@ -1,4 +1,5 @@
-//! What was seen of stores, judged: the frame, the verdict of each and what their receipts name, or the first of the nine faults.
+//! What was seen of stores, judged: the frame, the verdict of each and what their receipts name, or
+//! the first of the nine faults.
 ghost use Rattle.std.specs.Prelude.{◌≡◌, ◌≤◌, ◌⊎◌, List, length, IfOk, IfErr, IsTrue};
 ghost use Rattle.sheet_laws.specs.Laws.{StoreSight};
 ghost use Rattle.opening_verdict.specs.Views.{AreSeenAs, IsFaultOf};
@@ -79,7 +80,8 @@ fn judge_seen(alloc: Global, seen: Vec<StoreSeen>) -> Result<Judged, RecoverFaul
     ensures is { IfOk result (λ judged. IsJudgedOf seen.items judged.frame judged.verdict judged.known) }
     ensures good { IfOk result (λ judged. IsTrue (is_good_frame judged.frame)) }
     ensures low { IfOk result (λ judged. judged.verdict.count ≤ greatest_receipts) }
-    ensures fault { IfErr result (λ fault. IsWant fault ⊎ ((views : List StoreSight) → AreSeenAs seen.items views → IsFaultOf views fault)) }
+    ensures fault { IfErr result (λ fault. IsWant fault ⊎ ((views : List StoreSight) → AreSeenAs seen.items views
+        → IsFaultOf views fault)) }
 {
     let frame = archive_frame(&seen);
     let known = known_of(alloc, &seen)?;
@@ -102,7 +104,8 @@ fn judge_seen(alloc: Global, seen: Vec<StoreSeen>) -> Result<Judged, RecoverFaul
 ///
 /// # Errors
 ///
-/// The first of the nine faults whose condition holds, with its least package or identity; or want of memory, or a store that failed.
+/// The first of the nine faults whose condition holds, with its least package or identity; or want
+/// of memory, or a store that failed.
 pub fn judge_stores<S: Alter + Drop, W: Watcher>(
     alloc: Global,
     stores: &mut Vec<Connection<S>>,
@@ -113,10 +116,12 @@ pub fn judge_stores<S: Alter + Drop, W: Watcher>(
     ensures read { AreOnlyRead S.Store stores.old.items stores.new.items }
     ensures rests { AreAtRest S.Store stores.new.items }
     ensures opens { IfOk result (λ _. AreOpenWhereClean S.Store stores.new.items) }
-    ensures judged { IfOk result (λ judged. AreClean S.Store stores.new.items → AreJudged S.Store stores.new.items judged.frame judged.verdict judged.known) }
+    ensures judged { IfOk result (λ judged. AreClean S.Store stores.new.items
+        → AreJudged S.Store stores.new.items judged.frame judged.verdict judged.known) }
     ensures good { IfOk result (λ judged. IsTrue (is_good_frame judged.frame)) }
     ensures low { IfOk result (λ judged. judged.verdict.count ≤ greatest_receipts) }
-    ensures fault { IfErr result (λ fault. AreClean S.Store stores.new.items → IsFaultAt S.Store stores.new.items fault) }
+    ensures fault { IfErr result (λ fault. AreClean S.Store stores.new.items
+        → IsFaultAt S.Store stores.new.items fault) }
 {
     match survey_all(stores, alloc, watcher) {
         Ok(seen) => judge_seen(alloc, seen),

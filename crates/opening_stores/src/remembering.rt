@@ -6,7 +6,8 @@ use opening_verdict::seen::StoreSeen;
 use std::alloc::{AllocError, Global};
 use world_known::known::Known;
 
-/// All that a receipt of any of the stores names. A stray may name more than the world does, which costs a look later and no more.
+/// All that a receipt of any of the stores names. A stray may name more than the world does, which
+/// costs a look later and no more.
 ///
 /// # Errors
 ///

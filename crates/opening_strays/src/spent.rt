@@ -73,7 +73,8 @@ fn is_own_loan(package: Uuid, head: StoreHead, ledger: &[Receipt], live: &[Uuid]
     }
 }
 
-/// Whether the register can do without the store in the file of this package: by the receipts of the register, and the packages of it that live.
+/// Whether the register can do without the store in the file of this package: by the receipts of
+/// the register, and the packages of it that live.
 pub fn is_spent(package: Uuid, store: &StoreSeen, ledger: &[Receipt], live: &[Uuid]) -> bool
     ensures { result ≡ is_spent «package» store.now ledger.now live.now }
 {

@@ -16,5 +16,15 @@ fit_parent (Some id) h = h
 pub fit_head : (row : HeadRow) (head : Head) → IsHeadRow row head → IsFitHead head.uuid head.parent
 fit_head row head is = record { uuid = is.uuid; parent = fit_parent head.parent is.parent_uuid }
 
-pub row_is : (row : HeadRow) (head : Head) → IsHeadRow row head → row ≡ head_of head.uuid head.parent head.depth head.loan row.created
-row_is row head is = λ n. record { id = is.id n; version = is.version n; «package» = is.package n; parent = is.parent n; depth = is.depth n; loan = is.loan n; created = row.created }
+pub row_is : (row : HeadRow) (head : Head) → IsHeadRow row head
+    → row ≡ head_of head.uuid head.parent head.depth head.loan row.created
+row_is row head is = λ n. record {
+  id = is.id n;
+  version = is.version n;
+  «package» = is.package n;
+  parent =
+      is.parent n;
+  depth = is.depth n;
+  loan = is.loan n;
+  created = row.created;
+}

@@ -1,5 +1,6 @@
 -- A head in its ranges stands at depth 0, by no loan, exactly where it has no parent.
-use Rattle.std.proofs.Common.{◌≡◌, ◌∙◌, ℕ, pos, List, [], length, Bool, true, false, Option, Some, None, refl, sym, ap, arith}
+use Rattle.std.proofs.Common.{◌≡◌, ◌∙◌, ℕ, pos, List, [], length, Bool, true, false, Option, Some, None, refl, sym}
+use Rattle.std.proofs.Common.{ap, arith}
 use Rattle.std.specs.Prelude.{MatchOption, ◌==◌, ◌≤◌, unsigned_abs}
 use Rattle.std.specs.Cmp.{unsigned_Decides}
 use Rattle.uuid.proofs.TextLemmas.{by_index_length}
@@ -12,11 +13,13 @@ use Rattle.package_schema.specs.Heads.{IsHeadRow}
 
 -- what is asked of a head's depth and loan
 abbrev pub Level : Head → Type 0
-Level h = MatchOption h.parent ((h.depth ≡ 0) × (h.loan ≡ 0)) (λ parent. ((h.depth == 0) ≡ false) × (h.depth ≤ greatest_depth))
+Level h = MatchOption h.parent ((h.depth ≡ 0) × (h.loan ≡ 0))
+    (λ parent. ((h.depth == 0) ≡ false) × (h.depth ≤ greatest_depth))
 
 -- the text of a UUID is not empty; as in `stored_receipts.proofs.Ranges`, where it is private
 uuid_some : (id : List ℕ) → uuid_text id ≡ [] → ⊥
-uuid_some id e = let long : length (uuid_text id) ≡ 36 = by_index_length 36 _ in let same : length (uuid_text id) ≡ 0 = ap length e in omega arith
+uuid_some id e = let long : length (uuid_text id) ≡ 36 = by_index_length 36 _ in let same :
+    length (uuid_text id) ≡ 0 = ap length e in omega arith
 
 same_number : (m n : ℕ) → pos m ≡ pos n → m ≡ n
 same_number m n h = ap (λ z. unsigned_abs z) h
@@ -30,7 +33,9 @@ levelled row head is = at head.parent is.parent
         let zero' : head.depth ≡ 0 = (unsigned_Decides head.depth 0).0 is' in
         absurd (uuid_some id (sym e ∙ is.level.0.1 (is.depth ∙ ap pos zero')))
 
-    at : (parent : Option (List ℕ)) → row.parent ≡ optional_uuid_text parent → MatchOption parent ((head.depth ≡ 0) × (head.loan ≡ 0)) (λ _. ((head.depth == 0) ≡ false) × (head.depth ≤ greatest_depth))
+    at : (parent : Option (List ℕ)) → row.parent ≡ optional_uuid_text parent
+        → MatchOption parent ((head.depth ≡ 0) × (head.loan ≡ 0))
+        (λ _. ((head.depth == 0) ≡ false) × (head.depth ≤ greatest_depth))
     at None e =
         let root : row.depth ≡ pos 0 = is.level.0.0 e in
         (same_number head.depth 0 (sym is.depth ∙ root), same_number head.loan 0 (sym is.loan ∙ is.level.1.1 root))

@@ -36,18 +36,24 @@ use Rattle.opening_survey.proofs.Claiming.{claims_are}
 
 -- ---- items under numbers, in order
 
-distinct_map : {X Y : Type 0} (f : X → Y) (key : Y → List ℕ) (xs : List X) → IsDistinct bytes_eq (map (λ x. key (f x)) xs) → IsDistinct bytes_eq (map key (map f xs))
+distinct_map : {X Y : Type 0} (f : X → Y) (key : Y → List ℕ) (xs : List X)
+    → IsDistinct bytes_eq (map (λ x. key (f x)) xs) → IsDistinct bytes_eq (map key (map f xs))
 distinct_map f key xs d = subst (IsDistinct bytes_eq) (sym (map-map key f xs)) d
 
-module _ (items : List Item) (numbered : List Numbered) (are : items ≡ arranged item_key (map (λ n. n.item) numbered)) (numbers : IsNumbering numbered) where
+module _ (items : List Item) (numbered : List Numbered) (are : items ≡ arranged item_key (map (λ n. n.item) numbered))
+    (numbers : IsNumbering numbered) where
   pub identities_apart : IsDistinct bytes_eq (identities items)
   identities_apart =
       let taken : List Item = map (λ n. n.item) numbered in
       subst (λ l. IsDistinct bytes_eq (identities l)) (sym are)
-      (IsDistinct-IsPermutation bytes_eq bytes_eq_swap (identities taken) (identities (arranged item_key taken)) (IsPermutation-map (λ i. i.identity) taken (arranged item_key taken) (arranged_permutation item_key taken)) (distinct_map (λ n. n.item) (λ i. i.identity) numbered numbers.identities))
+      (IsDistinct-IsPermutation bytes_eq bytes_eq_swap (identities taken) (identities (arranged item_key taken))
+      (IsPermutation-map (λ i. i.identity) taken (arranged item_key taken) (arranged_permutation item_key taken))
+      (distinct_map (λ n. n.item) (λ i. i.identity) numbered numbers.identities))
 
   pub uuids_are : AllByRecursion (λ i. IsUuid i.identity) items
-  uuids_are = subst (AllByRecursion (λ i. IsUuid i.identity)) (sym are) (All-arranged item_key (λ i. IsUuid i.identity) (map (λ n. n.item) numbered) (All-map (λ i. IsUuid i.identity) (λ n. n.item) numbered numbers.uuids))
+  uuids_are = subst (AllByRecursion (λ i. IsUuid i.identity)) (sym are)
+      (All-arranged item_key (λ i. IsUuid i.identity) (map (λ n. n.item) numbered)
+      (All-map (λ i. IsUuid i.identity) (λ n. n.item) numbered numbers.uuids))
 
 -- ---- the package
 
@@ -56,9 +62,19 @@ pub moments_said : (listed : List ContentsRow) → AllByRecursion HasMoment list
 unfolding HasMoment
 moments_said listed dated = dated
 
-module _ (f : Frame) (db : Database) (head : Head) (receipts : List Receipt) (whole : IsWhole f db) (headed : IsHead db head) (said : AreSaid (tables_of db) receipts) (held : HoldsItems f (tables_of db)) where
+module _ (f : Frame) (db : Database) (head : Head) (receipts : List Receipt) (whole : IsWhole f db)
+    (headed : IsHead db head) (said : AreSaid (tables_of db) receipts) (held : HoldsItems f (tables_of db)) where
   abbrev found : Package
-  found = record { uuid = head.uuid; parent = head.parent; depth = head.depth; loan = head.loan; items = held.items; links = held.links; receipts = receipts }
+  found = record {
+    uuid = head.uuid;
+    parent = head.parent;
+    depth = head.depth;
+    loan = head.loan;
+    items =
+        held.items;
+    links = held.links;
+    receipts = receipts;
+  }
 
   says : Says f found (tables_of db)
   says = record {
@@ -79,10 +95,12 @@ module _ (f : Frame) (db : Database) (head : Head) (receipts : List Receipt) (wh
   }
 
   links_apart : IsArranged link_key held.links
-  links_apart = subst (IsArranged link_key) (sym held.of_links.links) (distinct_arranged link_key held.linked held.of_links.distinct_links)
+  links_apart = subst (IsArranged link_key) (sym held.of_links.links)
+      (distinct_arranged link_key held.linked held.of_links.distinct_links)
 
   links_end : AllByRecursion (HasEnds found) held.links
-  links_end = subst (AllByRecursion (HasEnds found)) (sym held.of_links.links) (All-arranged link_key (HasEnds found) held.linked (held.ends found refl))
+  links_end = subst (AllByRecursion (HasEnds found)) (sym held.of_links.links)
+      (All-arranged link_key (HasEnds found) held.linked (held.ends found refl))
 
   keeps : (w : World) → w.frame ≡ f → HasParent w found → IsKeptPackage w found
   keeps w same parent = record {
@@ -109,5 +127,6 @@ module _ (f : Frame) (db : Database) (head : Head) (receipts : List Receipt) (wh
 
 pub reads_as_a_package : ReadsAsAPackage
 reads_as_a_package f db head receipts whole headed tied unique said =
-    let held : HoldsItems f (tables_of db) = says_what_it_holds f db whole.frame.0 whole.formed whole.items tied unique in
+    let held : HoldsItems f (tables_of db) = says_what_it_holds f db whole.frame.0 whole.formed whole.items tied
+    unique in
     (found f db head receipts whole headed said held, is_package f db head receipts whole headed said held)

@@ -26,9 +26,18 @@ use Rattle.opening_survey.proofs.Levelling.{Level, levelled}
 
 -- what is said, and no package
 abbrev view_without : Said → Frame → Bool → StoreSight
-view_without s f is_formed = record { head = option_map head_said s.head; claims = map claim_said s.claims.items; is_formed = is_formed; is_tied = false; frame = f; reads_as = no_package }
+view_without s f is_formed = record {
+  head = option_map head_said s.head;
+  claims =
+      map claim_said s.claims.items;
+  is_formed = is_formed;
+  is_tied = false;
+  frame = f;
+  reads_as = no_package;
+}
 
-seen_without : (s : Said) (f : Frame) (is_formed : Bool) (x : StoreSeen) → IsSeenWithout s f is_formed x → IsSeenAs x (view_without s f is_formed)
+seen_without : (s : Said) (f : Frame) (is_formed : Bool) (x : StoreSeen) → IsSeenWithout s f is_formed x
+    → IsSeenAs x (view_without s f is_formed)
 seen_without s f is_formed x seen = record {
   head = ap (option_map head_said) seen.head;
   claims = ap (λ v. map claim_said v.items) seen.claims;
@@ -41,23 +50,34 @@ seen_without s f is_formed x seen = record {
 
 -- ---- a store that is not formed
 
-pub unformed : (db : Database) (s : Said) (f : Frame) (x : StoreSeen) → IsSaid db s → (IsFormed db → ⊥) → IsSeenWithout s f false x → IsSeenRight db x
+pub unformed : (db : Database) (s : Said) (f : Frame) (x : StoreSeen) → IsSaid db s → (IsFormed db → ⊥)
+    → IsSeenWithout s f false x → IsSeenRight db x
 unformed db s f x said lacks seen = (
   view_without s f false,
-  record { head = said.head; claims = said.claims; formed = lacks; frame = λ h. absurd (false≢true h); tied = λ h. absurd (false≢true h); reads = λ h. absurd (false≢true h) },
+  record {
+    head = said.head;
+    claims = said.claims;
+    formed = lacks;
+    frame = λ h. absurd (false≢true h);
+    tied =
+        λ h. absurd (false≢true h);
+    reads = λ h. absurd (false≢true h);
+  },
   seen_without s f false x seen,
 )
 
 -- a store without head is none
 pub no_head : (db : Database) (s : Said) → s.head ≡ None → IsSaid db s → IsFormed db → ⊥
-no_head db s none said formed = subst (λ h. ReadsHead db (option_map head_said h)) none said.head formed.1.head formed.1.headed
+no_head db s none said formed = subst (λ h. ReadsHead db (option_map head_said h)) none said.head formed.1.head
+    formed.1.headed
 
 -- ---- a store that is formed
 
 known : (db : Database) (s : Said) (h : StoreHead) → s.head ≡ Some h → IsSaid db s → IsHead db (head_said h)
 known db s h some said = subst (λ h. ReadsHead db (option_map head_said h)) some said.head
 
-whole : (db : Database) (s : Said) (h : StoreHead) (y : Formed) → s.head ≡ Some h → IsSaid db s → IsRead y db → IsWhole y.frame db
+whole : (db : Database) (s : Said) (h : StoreHead) (y : Formed) → s.head ≡ Some h → IsSaid db s → IsRead y db
+    → IsWhole y.frame db
 whole db s h y some said read = record {
   formed = read.formed;
   head = head_said h;
@@ -69,7 +89,8 @@ whole db s h y some said read = record {
 }
 
 -- and not tied
-pub untied : (db : Database) (s : Said) (h : StoreHead) (y : Formed) (x : StoreSeen) → s.head ≡ Some h → IsSaid db s → IsRead y db → TellsTied (tables_of db) false → IsSeenWithout s y.frame true x → IsSeenRight db x
+pub untied : (db : Database) (s : Said) (h : StoreHead) (y : Formed) (x : StoreSeen) → s.head ≡ Some h → IsSaid db s
+    → IsRead y db → TellsTied (tables_of db) false → IsSeenWithout s y.frame true x → IsSeenRight db x
 untied db s h y x some said read told seen = (
   view_without s y.frame true,
   record {
@@ -95,9 +116,18 @@ pub record IsSeenWith (db : Database) (s : Said) (h : StoreHead) (y : Formed) (x
   pub held : (f : Frame) (p : Package) → Reads f p db → TellsHeld (head_said h) y.receipts.items f p x.held
 
 abbrev view_with : Said → Frame → Package → StoreSight
-view_with s f p = record { head = option_map head_said s.head; claims = map claim_said s.claims.items; is_formed = true; is_tied = true; frame = f; reads_as = p }
+view_with s f p = record {
+  head = option_map head_said s.head;
+  claims = map claim_said s.claims.items;
+  is_formed =
+      true;
+  is_tied = true;
+  frame = f;
+  reads_as = p;
+}
 
-reading : (db : Database) (s : Said) (h : StoreHead) (y : Formed) (p : Package) → s.head ≡ Some h → IsSaid db s → IsRead y db → IsPackageOf y.frame db (head_said h) y.receipts.items p → SeesItsPackage (view_with s y.frame p)
+reading : (db : Database) (s : Said) (h : StoreHead) (y : Formed) (p : Package) → s.head ≡ Some h → IsSaid db s
+    → IsRead y db → IsPackageOf y.frame db (head_said h) y.receipts.items p → SeesItsPackage (view_with s y.frame p)
 reading db s h y p some said read law formed tied =
     let headed = known db s h some said in
     record {
@@ -109,12 +139,24 @@ reading db s h y p some said read law formed tied =
       level = subst Level law.heads (levelled headed.1.0 (head_said h) headed.1.2);
     }
 
-pub packaged : ReadsAsAPackage → (db : Database) (s : Said) (h : StoreHead) (y : Formed) (x : StoreSeen) → s.head ≡ Some h → IsSaid db s → IsRead y db → TellsTied (tables_of db) true → IsSeenWith db s h y x → IsSeenRight db x
+pub packaged : ReadsAsAPackage → (db : Database) (s : Said) (h : StoreHead) (y : Formed) (x : StoreSeen)
+    → s.head ≡ Some h → IsSaid db s → IsRead y db → TellsTied (tables_of db) true → IsSeenWith db s h y x
+    → IsSeenRight db x
 packaged law db s h y x some said read told seen =
     let w : IsWhole y.frame db = whole db s h y some said read in
-    let q : (p : Package) × IsPackageOf y.frame db (head_said h) y.receipts.items p = law y.frame db (head_said h) y.receipts.items w (known db s h some said) told.tied told.unique read.receipts in (
+    let q : (p : Package) × IsPackageOf y.frame db (head_said h) y.receipts.items p =
+    law y.frame db (head_said h) y.receipts.items w (known db s h some said) told.tied told.unique
+    read.receipts in (
       view_with s y.frame q.0,
-      record { head = said.head; claims = said.claims; formed = (y.frame, w); frame = λ _. w; tied = λ _. told.tied; reads = λ _ _. q.1.reads },
+      record {
+        head = said.head;
+        claims = said.claims;
+        formed = (y.frame, w);
+        frame = λ _. w;
+        tied =
+            λ _. told.tied;
+        reads = λ _ _. q.1.reads;
+      },
       record {
         head = ap (option_map head_said) seen.head;
         claims = ap (λ v. map claim_said v.items) seen.claims;

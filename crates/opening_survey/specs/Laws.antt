@@ -14,7 +14,8 @@ use Rattle.package_items.specs.Tied.{AreTied, AreUnique}
 use Rattle.package_receipts.specs.Read.{AreSaid}
 use Rattle.opening_survey.specs.Views.{IsWhole}
 
--- the database reads as this package, which has that head and those receipts, and keeps its own rules in any world of the frame in which its parent stands
+-- the database reads as this package, which has that head and those receipts, and keeps its own rules in any world of
+-- the frame in which its parent stands
 pub record IsPackageOf (f : Frame) (db : Database) (head : Head) (receipts : List Receipt) (p : Package) : Type 0 where
   pub reads : Reads f p db
   pub heads : head ≡ head_of p
@@ -24,5 +25,6 @@ pub record IsPackageOf (f : Frame) (db : Database) (head : Head) (receipts : Lis
 
 -- A store that is whole, tied and unique reads as a package.
 abbrev pub ReadsAsAPackage : Type 0
-ReadsAsAPackage = (f : Frame) (db : Database) (head : Head) (receipts : List Receipt) → IsWhole f db → IsHead db head → AreTied (tables_of db) → AreUnique (tables_of db) → AreSaid (tables_of db) receipts
+ReadsAsAPackage = (f : Frame) (db : Database) (head : Head) (receipts : List Receipt) → IsWhole f db → IsHead db head
+    → AreTied (tables_of db) → AreUnique (tables_of db) → AreSaid (tables_of db) receipts
     → (p : Package) × IsPackageOf f db head receipts p

@@ -14,7 +14,8 @@ use Rattle.package_items.specs.Ranges.{AreItemsInRange}
 use Rattle.package_items.specs.Tied.{AreTied}
 use Rattle.package_receipts.specs.Ranges.{AreReceiptsInRange}
 
--- All tables have their form: one head, the fixed rows of this good frame with a moment each, and every row in its ranges.
+-- All tables have their form: one head, the fixed rows of this good frame with a moment each, and every row in its
+-- ranges.
 pub record IsWhole (f : Frame) (db : Database) : Type 0 where
   pub formed : AreFormed db
   pub head : Head
@@ -28,7 +29,8 @@ pub record IsWhole (f : Frame) (db : Database) : Type 0 where
 abbrev pub IsFormed : Database → Type 0
 IsFormed db = (f : Frame) × IsWhole f db
 
--- The view is right: head and claims, whether it is formed and tied, and where it is both of which frame and which package. Of a store that is not formed it says nothing more, and of one that is not tied no package.
+-- The view is right: head and claims, whether it is formed and tied, and where it is both of which frame and which
+-- package. Of a store that is not formed it says nothing more, and of one that is not tied no package.
 pub record IsViewOf (db : Database) (v : StoreSight) : Type 0 where
   pub head : ReadsHead db v.head
   pub claims : ReadsClaims db v.claims

@@ -19,7 +19,8 @@ use sheet_types::receipt::Receipt;
 use sqlite::{Alter, Connection};
 use std::alloc::Global;
 
-/// What tables in their form say beside the head: whose frame their fixed rows are, and the receipts in the order of their numbers.
+/// What tables in their form say beside the head: whose frame their fixed rows are, and the
+/// receipts in the order of their numbers.
 #[derive(Drop)]
 pub(crate) struct Formed {
     pub frame: Frame,
@@ -36,7 +37,8 @@ fn is_good(frame: &Frame) -> bool
     }
 }
 
-/// The frame whose fixed rows the tables have, where each last change has a moment and the rows of items and links are in their ranges; `None` where there is no such frame.
+/// The frame whose fixed rows the tables have, where each last change has a moment and the rows of
+/// items and links are in their ranges; `None` where there is no such frame.
 fn framed<S: Alter>(conn: &mut Connection<S>, alloc: Global) -> Result<Option<Frame>, Fault>
     requires { Rests (state S.Store conn.old) }
     ensures { LooksUp ReadsFramed (state S.Store conn.old) (state S.Store conn.new) result }
@@ -44,7 +46,8 @@ fn framed<S: Alter>(conn: &mut Connection<S>, alloc: Global) -> Result<Option<Fr
     let Some(frame) = read_frame(conn, alloc)? else {
         return Ok(None);
     };
-    // A disk that does not give back what was written may show a frame that is not good, and ranges are asked of a good one alone.
+    // A disk that does not give back what was written may show a frame that is not good, and ranges
+    // are asked of a good one alone.
     if !is_good(&frame) {
         return Ok(None);
     }
@@ -57,7 +60,8 @@ fn framed<S: Alter>(conn: &mut Connection<S>, alloc: Global) -> Result<Option<Fr
     Ok(Some(frame))
 }
 
-/// The frame and the receipts of a store whose tables have all their form, whatever its head; `None` where they have not.
+/// The frame and the receipts of a store whose tables have all their form, whatever its head;
+/// `None` where they have not.
 ///
 /// # Errors
 ///

@@ -14,7 +14,8 @@ use sheet_types::receipt::Receipt;
 use sqlite::{Alter, Connection};
 use std::alloc::Global;
 
-/// What is held by the package that the store reads as, of this head and these receipts. One content is in memory at a time.
+/// What is held by the package that the store reads as, of this head and these receipts. One
+/// content is in memory at a time.
 ///
 /// # Errors
 ///
@@ -26,7 +27,8 @@ pub(crate) fn held_of<S: Alter>(
     receipts: Vec<Receipt>,
 ) -> Result<PackageSight, Fault>
     requires { Rests (state S.Store conn.old) }
-    ensures { Looks (Sees (TellsHeld (head_said head) receipts.items)) (state S.Store conn.old) (state S.Store conn.new) result }
+    ensures { Looks (Sees (TellsHeld (head_said head) receipts.items)) (state S.Store conn.old)
+        (state S.Store conn.new) result }
 {
     let (items, links) = told(conn, alloc)?;
     Ok(PackageSight {

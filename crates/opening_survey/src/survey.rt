@@ -73,7 +73,8 @@ fn head_in(said: &Said) -> Option<StoreHead>
     said.head
 }
 
-/// What is seen of a store of this head and these claims, whose tables have their form and say this frame and these receipts.
+/// What is seen of a store of this head and these claims, whose tables have their form and say this
+/// frame and these receipts.
 fn survey_formed<S: Alter>(
     conn: &mut Connection<S>,
     alloc: Global,
@@ -102,11 +103,14 @@ fn survey_formed<S: Alter>(
     })
 }
 
-/// What the opening of a world sees of a store: whose it is, what its receipts claim, whether it is a package, and which. Of a store that is a package the contents of all items are in memory at once, until each is told by its digest.
+/// What the opening of a world sees of a store: whose it is, what its receipts claim, whether it is
+/// a package, and which. Of a store that is a package the contents of all items are in memory at
+/// once, until each is told by its digest.
 ///
 /// # Errors
 ///
-/// `OutOfMemory` where a growth was refused, and `StoreFault` where the store failed, a text is no UTF-8, or a row is there twice. The store is as it was.
+/// `OutOfMemory` where a growth was refused, and `StoreFault` where the store failed, a text is no
+/// UTF-8, or a row is there twice. The store is as it was.
 pub fn survey<S: Alter>(conn: &mut Connection<S>, alloc: Global) -> Result<StoreSeen, Fault>
     requires { Rests (state S.Store conn.old) }
     ensures { LooksAt IsSeenRight (state S.Store conn.old) (state S.Store conn.new) result }

@@ -31,7 +31,15 @@ use Rattle.opening_v1.proofs.Viewed.{view_seen}
 
 -- what is said, and no package
 abbrev view_without : Said → Frame → StoreSight
-view_without s f = record { head = option_map head_said s.head; claims = map claim_said s.claims.items; is_formed = false; is_tied = false; frame = f; reads_as = no_package }
+view_without s f = record {
+  head = option_map head_said s.head;
+  claims = map claim_said s.claims.items;
+  is_formed =
+      false;
+  is_tied = false;
+  frame = f;
+  reads_as = no_package;
+}
 
 seen_without : (s : Said) (f : Frame) (x : StoreSeen) → IsSeenWithout s f false x → IsSeenAs x (view_without s f)
 seen_without s f x seen = record {
@@ -45,32 +53,53 @@ seen_without s f x seen = record {
 }
 
 -- a store that is not formed
-pub unformed : (db : Database) (s : Said) (f : Frame) (x : StoreSeen) → IsFirstSaid db s → (IsFirstFormed db → ⊥) → IsSeenWithout s f false x → IsFirstSeenRight db x
+pub unformed : (db : Database) (s : Said) (f : Frame) (x : StoreSeen) → IsFirstSaid db s → (IsFirstFormed db → ⊥)
+    → IsSeenWithout s f false x → IsFirstSeenRight db x
 unformed db s f x said lacks seen = (
   view_without s f,
-  record { head = said.head; claims = said.claims; formed = lacks; frame = λ h. absurd (false≢true h); tied = λ h. absurd (false≢true h); reads = λ h. absurd (false≢true h) },
+  record {
+    head = said.head;
+    claims = said.claims;
+    formed = lacks;
+    frame = λ h. absurd (false≢true h);
+    tied =
+        λ h. absurd (false≢true h);
+    reads = λ h. absurd (false≢true h);
+  },
   seen_without s f x seen,
 )
 
 -- a store without head is none
 pub no_head : (db : Database) (s : Said) → s.head ≡ None → IsFirstSaid db s → IsFirstFormed db → ⊥
-no_head db s none said formed = subst (λ h. ReadsHeadAt (pos 1) db (option_map head_said h)) none said.head formed.1.head formed.1.headed
+no_head db s none said formed = subst (λ h. ReadsHeadAt (pos 1) db (option_map head_said h)) none said.head
+    formed.1.head formed.1.headed
 
 -- a store with a row under a number that no package has
-pub misnumbered : (db : Database) (s : Said) (f : Frame) (x : PackageRows) (seen : StoreSeen) → IsFirstSaid db s → (AreFormedAt (pos 1) db → AreRowsOf (tables_of db) x) → have_numbers x ≡ false → IsSeenWithout s f false seen → IsFirstSeenRight db seen
+pub misnumbered : (db : Database) (s : Said) (f : Frame) (x : PackageRows) (seen : StoreSeen) → IsFirstSaid db s
+    → (AreFormedAt (pos 1) db → AreRowsOf (tables_of db) x) → have_numbers x ≡ false → IsSeenWithout s f false seen
+    → IsFirstSeenRight db seen
 misnumbered db s f x seen said all low it =
-    unformed db s f seen said (λ formed. false≢true (sym low ∙ numbered formed.0 (tables_of db) x (all formed.1.formed.0) formed.1.items formed.1.receipts)) it
+    unformed db s f seen said (λ formed. false≢true (sym low
+    ∙ numbered formed.0 (tables_of db) x (all formed.1.formed.0) formed.1.items formed.1.receipts)) it
 
 -- a store whose rows were copied
-pub copied : (db : Database) (s : Said) (h : StoreHead) (f : Frame) (x : PackageRows) (seen : StoreSeen) → s.head ≡ Some h → IsFirstSaid db s → IsFirstRead f db → AreRowsOf (tables_of db) x → AreInOrder x → IsSeenOfCopy f h x seen → IsFirstSeenRight db seen
+pub copied : (db : Database) (s : Said) (h : StoreHead) (f : Frame) (x : PackageRows) (seen : StoreSeen)
+    → s.head ≡ Some h → IsFirstSaid db s → IsFirstRead f db → AreRowsOf (tables_of db) x → AreInOrder x
+    → IsSeenOfCopy f h x seen → IsFirstSeenRight db seen
 copied db s h f x seen some said read all order it =
     let headed = subst (λ h. ReadsHeadAt (pos 1) db (option_map head_said h)) some said.head in
-    let right = it.2 in
-    (right.0, view_seen db it.0 f h headed read it.1.formed (it.1.says ∙ whole_copy f (copy_row h) db x all order) right.0 right.1, right.2)
+    let right = it.2 in (
+      right.0,
+      view_seen db it.0 f h headed read it.1.formed (it.1.says ∙ whole_copy f (copy_row h) db x all order)
+          right.0 right.1,
+      right.2,
+    )
 
 -- what is seen of the copy itself
-pub seen_of_copy : (f : Frame) (h : StoreHead) (x : PackageRows) (old new : State) (r : Result StoreSeen Fault) → LooksAt IsSeenRight old new r → HasCleanDisk new → IsCopy f (copy_row h) x old.now → IfOk r (IsSeenOfCopy f h x)
-seen_of_copy f h x old new (Ok seen) looks clean copy = let d = looks.done clean in (old.now, copy.holds, d.1.1 copy.keyed)
+pub seen_of_copy : (f : Frame) (h : StoreHead) (x : PackageRows) (old new : State) (r : Result StoreSeen Fault)
+    → LooksAt IsSeenRight old new r → HasCleanDisk new → IsCopy f (copy_row h) x old.now → IfOk r (IsSeenOfCopy f h x)
+seen_of_copy f h x old new (Ok seen) looks clean copy = let d =
+    looks.done clean in (old.now, copy.holds, d.1.1 copy.keyed)
 seen_of_copy f h x old new (Err e) looks clean copy = tt
 
 -- what holds in any case holds after Ok

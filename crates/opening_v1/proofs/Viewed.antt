@@ -1,5 +1,6 @@
 -- What is right to see of the copy is right to see of the store.
-use Rattle.std.proofs.Common.{◌≡◌, ◌∙◌, ℕ, pos, List, [], ◌∷◌, map, get_or, Bool, true, false, Option, Some, None, refl, sym, ap, subst}
+use Rattle.std.proofs.Common.{◌≡◌, ◌∙◌, ℕ, pos, List, [], ◌∷◌, map, get_or, Bool, true, false, Option, Some, None}
+use Rattle.std.proofs.Common.{refl, sym, ap, subst}
 use Rattle.std.specs.Prelude.{◌↔◌}
 use Rattle.sqlite.specs.Effect.{Database}
 use Rattle.sheet_types.specs.Opening.{Head, Claim}
@@ -33,7 +34,9 @@ use Rattle.opening_v1.proofs.Copied.{of_store}
 one_row : (a b : HeadRow) → a ∷ [] ≡ b ∷ [] → a ≡ b
 one_row a b e = ap (λ l. get_or l 0 a) e
 
-module _ (db copy : Database) (f : Frame) (h : StoreHead) (headed : IsHeadAt (pos 1) db (head_said h)) (read : IsFirstRead f db) (formed : AreFormed copy) (says : tables_of copy ≡ of_store f (copy_row h) (tables_of db)) where
+module _ (db copy : Database) (f : Frame) (h : StoreHead) (headed : IsHeadAt (pos 1) db (head_said h))
+    (read : IsFirstRead f db) (formed : AreFormed copy) (says :
+    tables_of copy ≡ of_store f (copy_row h) (tables_of db)) where
   abbrev t : Tables
   t = tables_of db
 
@@ -54,11 +57,27 @@ module _ (db copy : Database) (f : Frame) (h : StoreHead) (headed : IsHeadAt (po
   own_level : IsLevel (copy_row h)
   own_level =
       subst (λ z. ((optional_uuid_text h.parent ≡ []) ↔ (z ≡ pos 0)) × ((pos h.loan ≡ pos 0) ↔ (z ≡ pos 0))) own.depth
-      (subst (λ z. ((optional_uuid_text h.parent ≡ []) ↔ (row.depth ≡ pos 0)) × ((z ≡ pos 0) ↔ (row.depth ≡ pos 0))) own.loan
+      (subst (λ z. ((optional_uuid_text h.parent ≡ []) ↔ (row.depth ≡ pos 0)) × ((z ≡ pos 0) ↔ (row.depth ≡ pos 0)))
+      own.loan
       (subst (λ z. ((z ≡ []) ↔ (row.depth ≡ pos 0)) × ((row.loan ≡ pos 0) ↔ (row.depth ≡ pos 0))) own.parent own.level))
 
   own_row : IsHeadRow (copy_row h) (head_said h)
-  own_row = record { id = refl; version = refl; uuid = own.uuid; parent_uuid = own.parent_uuid; «package» = refl; parent = refl; depth = refl; low = own.low; loan = refl; loan_low = own.loan_low; created = refl; level = own_level }
+  own_row = record {
+    id = refl;
+    version = refl;
+    uuid = own.uuid;
+    parent_uuid = own.parent_uuid;
+    «package» =
+        refl;
+    parent = refl;
+    depth = refl;
+    low = own.low;
+    loan = refl;
+    loan_low = own.loan_low;
+    created = refl;
+    level =
+        own_level;
+  }
 
   own_head : IsHead copy (head_said h)
   own_head = (formed.heads, (copy_row h, heads_are, own_row))
@@ -80,23 +99,52 @@ module _ (db copy : Database) (f : Frame) (h : StoreHead) (headed : IsHeadAt (po
   }
 
   head_seen : (o : Option Head) → ReadsHead copy o → ReadsHeadAt (pos 1) db o
-  head_seen (Some k) it = (headed.0, (row, headed.1.1, row_says k (subst (λ r. IsHeadRow r k) (one_row it.1.0 (copy_row h) (sym it.1.1 ∙ heads_are)) it.1.2)))
+  head_seen (Some k) it = (
+    headed.0,
+    (
+      row,
+      headed.1.1,
+      row_says k
+          (subst (λ r. IsHeadRow r k) (one_row it.1.0 (copy_row h) (sym it.1.1 ∙ heads_are)) it.1.2),
+    ),
+  )
   head_seen None none = absurd (none (head_said h) own_head)
 
   claims_seen : (claims : List Claim) → ReadsClaims copy claims → ReadsClaims db claims
-  claims_seen claims it = (λ _. it.0 formed.receipts ∙ ap (λ t. map claim_of_row t.receipts) says, λ lacks. absurd (lacks read.formed.0.receipts))
+  claims_seen claims it = (
+    λ _. it.0 formed.receipts ∙ ap (λ t. map claim_of_row t.receipts) says,
+    λ lacks. absurd
+        (lacks read.formed.0.receipts),
+  )
 
   -- ---- the frame
 
   fixed_seen : (g : Frame) → HasFixed g told → HasFixed g (record t { relations = mapping_relations })
   fixed_seen g it =
       let mine = read.frame.1.1 in
-      record { spatial_ref_sys = mine.spatial_ref_sys ∙ it.spatial_ref_sys; contents = mine.contents ∙ it.contents; tile_matrix_set = mine.tile_matrix_set ∙ it.tile_matrix_set; tile_matrix = mine.tile_matrix ∙ it.tile_matrix; relations = refl }
+      record {
+        spatial_ref_sys = mine.spatial_ref_sys ∙ it.spatial_ref_sys;
+        contents =
+            mine.contents ∙ it.contents;
+        tile_matrix_set = mine.tile_matrix_set ∙ it.tile_matrix_set;
+        tile_matrix =
+            mine.tile_matrix ∙ it.tile_matrix;
+        relations = refl;
+      }
 
   fixed_shown : (g : Frame) → HasFixed g (record t { relations = mapping_relations }) → HasFixed g told
   fixed_shown g it =
       let mine = read.frame.1.1 in
-      record { spatial_ref_sys = sym mine.spatial_ref_sys ∙ it.spatial_ref_sys; contents = sym mine.contents ∙ it.contents; tile_matrix_set = sym mine.tile_matrix_set ∙ it.tile_matrix_set; tile_matrix = sym mine.tile_matrix ∙ it.tile_matrix; relations = refl }
+      record {
+        spatial_ref_sys = sym mine.spatial_ref_sys ∙ it.spatial_ref_sys;
+        contents =
+            sym mine.contents ∙ it.contents;
+        tile_matrix_set =
+            sym mine.tile_matrix_set ∙ it.tile_matrix_set;
+        tile_matrix =
+            sym mine.tile_matrix ∙ it.tile_matrix;
+        relations = refl;
+      }
 
   told_dated : AreDated told
   unfolding HasMoment
@@ -105,10 +153,28 @@ module _ (db copy : Database) (f : Frame) (h : StoreHead) (headed : IsHeadAt (po
   -- ---- the form
 
   items_seen : (g : Frame) → AreItemsInRange g told → AreItemsInRange g (first_tables_of db)
-  items_seen g it = record { tiles = it.tiles; media = it.media; rows = it.rows; identities = it.identities; tiles_media = it.tiles_media; rows_media = it.rows_media; rows_tiles = it.rows_tiles }
+  items_seen g it = record {
+    tiles = it.tiles;
+    media = it.media;
+    rows = it.rows;
+    identities =
+        it.identities;
+    tiles_media = it.tiles_media;
+    rows_media = it.rows_media;
+    rows_tiles = it.rows_tiles;
+  }
 
   items_shown : (g : Frame) → AreItemsInRange g (first_tables_of db) → AreItemsInRange g told
-  items_shown g it = record { tiles = it.tiles; media = it.media; rows = it.rows; identities = it.identities; tiles_media = it.tiles_media; rows_media = it.rows_media; rows_tiles = it.rows_tiles }
+  items_shown g it = record {
+    tiles = it.tiles;
+    media = it.media;
+    rows = it.rows;
+    identities =
+        it.identities;
+    tiles_media = it.tiles_media;
+    rows_media = it.rows_media;
+    rows_tiles = it.rows_tiles;
+  }
 
   whole_seen : (g : Frame) → IsWhole g copy → IsFirstWhole g db
   whole_seen g it = record {
@@ -139,10 +205,28 @@ module _ (db copy : Database) (f : Frame) (h : StoreHead) (headed : IsHeadAt (po
   -- ---- the ties
 
   tied_seen : AreTied told → AreTied (first_tables_of db)
-  tied_seen it = record { tiles = it.tiles; media = it.media; rows = it.rows; identities = it.identities; tiles_media = it.tiles_media; rows_media = it.rows_media; rows_tiles = it.rows_tiles }
+  tied_seen it = record {
+    tiles = it.tiles;
+    media = it.media;
+    rows = it.rows;
+    identities =
+        it.identities;
+    tiles_media = it.tiles_media;
+    rows_media = it.rows_media;
+    rows_tiles = it.rows_tiles;
+  }
 
   tied_shown : AreTied (first_tables_of db) → AreTied told
-  tied_shown it = record { tiles = it.tiles; media = it.media; rows = it.rows; identities = it.identities; tiles_media = it.tiles_media; rows_media = it.rows_media; rows_tiles = it.rows_tiles }
+  tied_shown it = record {
+    tiles = it.tiles;
+    media = it.media;
+    rows = it.rows;
+    identities =
+        it.identities;
+    tiles_media = it.tiles_media;
+    rows_media = it.rows_media;
+    rows_tiles = it.rows_tiles;
+  }
 
   ties_seen : (b : Bool) → Decides (AreTied (tables_of copy)) b → Decides (AreTied (first_tables_of db)) b
   ties_seen true it = tied_seen (subst AreTied says it)
@@ -150,7 +234,8 @@ module _ (db copy : Database) (f : Frame) (h : StoreHead) (headed : IsHeadAt (po
 
   -- ---- the package
 
-  head_brought : (p : Package) (created : List ℕ) → copy_row h ≡ head_row p created → with_version (pos 2) row ≡ head_row p row.created
+  head_brought : (p : Package) (created : List ℕ) → copy_row h ≡ head_row p created
+      → with_version (pos 2) row ≡ head_row p row.created
   head_brought p created e = λ n. record {
     id = own.id n;
     version = pos 2;
@@ -166,12 +251,20 @@ module _ (db copy : Database) (f : Frame) (h : StoreHead) (headed : IsHeadAt (po
       let fixed = fixed_seen g it.fixed in
       record {
         good = it.good;
-        fixed = record { spatial_ref_sys = fixed.spatial_ref_sys; contents = fixed.contents; tile_matrix_set = fixed.tile_matrix_set; tile_matrix = fixed.tile_matrix; relations = refl };
+        fixed = record {
+          spatial_ref_sys = fixed.spatial_ref_sys;
+          contents = fixed.contents;
+          tile_matrix_set =
+              fixed.tile_matrix_set;
+          tile_matrix = fixed.tile_matrix;
+          relations = refl;
+        };
         dated = moments_said (tables_of db).contents read.dated;
         created = row.created;
         moment = own.created;
         fit_head = it.fit_head;
-        head = ap (map (with_version (pos 2))) headed.1.1 ∙ ap (λ r. r ∷ []) (head_brought p it.created (one_row (copy_row h) (head_row p it.created) it.head));
+        head = ap (map (with_version (pos 2))) headed.1.1 ∙ ap (λ r. r ∷ [])
+            (head_brought p it.created (one_row (copy_row h) (head_row p it.created) it.head));
         numbered = it.numbered;
         of_items = it.of_items;
         linked = it.linked;

@@ -28,4 +28,5 @@ copy_row h = head_of h.uuid h.parent h.depth h.loan (codes "1970-01-01T00:00:00.
 
 -- seen of a package of this frame, this head and these rows
 abbrev pub IsSeenOfCopy : Frame → StoreHead → PackageRows → StoreSeen → Type 0
-IsSeenOfCopy f h x seen = (db : Database) × HoldsTables db (with_rows x (new_tables f (copy_row h))) × IsSeenRight db seen
+IsSeenOfCopy f h x seen = (db : Database) × HoldsTables db (with_rows x (new_tables f (copy_row h)))
+    × IsSeenRight db seen

@@ -1,4 +1,5 @@
--- What is right to see of a store of the first version that may be damaged. Profile, over the tables of GeoPackage 1.3 and OGC 18-000.
+-- What is right to see of a store of the first version that may be damaged. Profile, over the tables of GeoPackage
+-- 1.3 and OGC 18-000.
 use Rattle.std.specs.Prelude.{◌≡◌, true, pos}
 use Rattle.sqlite.specs.Effect.{Database}
 use Rattle.sheet_types.specs.Opening.{Head}
@@ -17,7 +18,8 @@ use Rattle.package_receipts.specs.Ranges.{AreReceiptsInRange}
 use Rattle.opening_verdict.specs.Views.{IsSeenAs}
 use Rattle.opening_verdict.specs.declared.seen.StoreSeen.{StoreSeen}
 
--- The fourteen tables have their form, and nothing has a name that the second version needs: one head of the first version, its fixed rows of this good frame with a moment each, and every row in its ranges.
+-- The fourteen tables have their form, and nothing has a name that the second version needs: one head of the first
+-- version, its fixed rows of this good frame with a moment each, and every row in its ranges.
 pub record IsFirstWhole (f : Frame) (db : Database) : Type 0 where
   pub formed : HasFirstForm db
   pub head : Head
@@ -31,7 +33,8 @@ pub record IsFirstWhole (f : Frame) (db : Database) : Type 0 where
 abbrev pub IsFirstFormed : Database → Type 0
 IsFirstFormed db = (f : Frame) × IsFirstWhole f db
 
--- The view is right: head and claims, whether it is formed and tied, and where it is both of which frame and which package. Of a store that is not formed it says nothing more, and of one that is not tied no package.
+-- The view is right: head and claims, whether it is formed and tied, and where it is both of which frame and which
+-- package. Of a store that is not formed it says nothing more, and of one that is not tied no package.
 pub record IsFirstViewOf (db : Database) (v : StoreSight) : Type 0 where
   pub head : ReadsHeadAt (pos 1) db v.head
   pub claims : ReadsClaims db v.claims

@@ -13,7 +13,8 @@ use package_tables::fault::Fault;
 use sqlite::{Alter, Connection};
 use std::alloc::Global;
 
-/// What the opening of a world sees of a store: as one of the first version where its head says that version, and as one of the second in every other case.
+/// What the opening of a world sees of a store: as one of the first version where its head says
+/// that version, and as one of the second in every other case.
 ///
 /// # Errors
 ///

@@ -24,7 +24,8 @@ fn is_good(frame: &Frame) -> bool
     }
 }
 
-/// The frame whose fixed rows a store has, with a moment each, where its fourteen tables have their form and nothing has a name that the second version needs; `None` where the store is not formed.
+/// The frame whose fixed rows a store has, with a moment each, where its fourteen tables have their
+/// form and nothing has a name that the second version needs; `None` where the store is not formed.
 ///
 /// # Errors
 ///
@@ -43,7 +44,8 @@ pub(crate) fn read_first_formed<S: Alter>(
     let Some(frame) = read_first_frame(conn, alloc)? else {
         return Ok(None);
     };
-    // A disk that does not give back what was written may show a frame that is not good, and a copy is made of a good one alone.
+    // A disk that does not give back what was written may show a frame that is not good, and a copy
+    // is made of a good one alone.
     if !is_good(&frame) {
         return Ok(None);
     }

@@ -1,7 +1,8 @@
 //! Whether rows stand under numbers that a package may have: none of those is below zero.
 ghost use Rattle.std.specs.Prelude.{◌≡◌, ◌&&◌};
 ghost use Rattle.std.specs.List.{list_all};
-ghost use Rattle.opening_v1.specs.Numbers.{have_item_numbers, have_link_numbers, have_receipt_numbers, have_numbers, is_number};
+ghost use Rattle.opening_v1.specs.Numbers.{have_item_numbers, have_link_numbers, have_receipt_numbers, have_numbers};
+ghost use Rattle.opening_v1.specs.Numbers.{is_number};
 
 use package_copy::package_rows::PackageRows;
 use package_tables::rows::{

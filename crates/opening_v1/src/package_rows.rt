@@ -1,4 +1,5 @@
-//! The rows of a store of the first version beside its fixed rows and its head. Each look asks for the form of its own table alone.
+//! The rows of a store of the first version beside its fixed rows and its head. Each look asks for
+//! the form of its own table alone.
 ghost use Rattle.std.specs.Prelude.{pos, IsPermutation};
 ghost use Rattle.std.specs.Ordering.{on, then_cmp, int_cmp};
 ghost use Rattle.sqlite.specs.Held.{state};
@@ -7,7 +8,8 @@ ghost use Rattle.package_tables.specs.Calls.{AreAll};
 ghost use Rattle.package_tables.specs.Damaged.{AreFormedAt};
 ghost use Rattle.package_tables.specs.Package.{tables_of};
 ghost use Rattle.package_tables.specs.Shape.{rows_of, IsFormed};
-ghost use Rattle.package_tables.specs.Shapes.{attribute_shape, identity_shape, medium_shape, rows_media_shape, tile_shape, tiles_media_shape};
+ghost use Rattle.package_tables.specs.Shapes.{attribute_shape, identity_shape, medium_shape, rows_media_shape};
+ghost use Rattle.package_tables.specs.Shapes.{tile_shape, tiles_media_shape};
 ghost use Rattle.package_schema.specs.Looking.{Sees};
 ghost use Rattle.opening_v1.specs.Copies.{AreRowsOf};
 
@@ -21,7 +23,9 @@ use std::alloc::Global;
 
 fn tile_rows<S: Alter>(conn: &mut Connection<S>, alloc: Global) -> Result<Vec<TileRow>, Fault>
     requires { Rests (state S.Store conn.old) }
-    ensures { Looks (Sees (λ db found. IsFormed tile_shape db → AreAll (on (λ x. x.id) int_cmp) (rows_of tile_shape db) found.items)) (state S.Store conn.old) (state S.Store conn.new) result }
+    ensures { Looks (Sees (λ db found. IsFormed tile_shape db
+        → AreAll (on (λ x. x.id) int_cmp) (rows_of tile_shape db) found.items)) (state S.Store conn.old)
+        (state S.Store conn.new) result }
 {
     all_of(
         alloc,
@@ -31,7 +35,9 @@ fn tile_rows<S: Alter>(conn: &mut Connection<S>, alloc: Global) -> Result<Vec<Ti
 
 fn medium_rows<S: Alter>(conn: &mut Connection<S>, alloc: Global) -> Result<Vec<MediaRow>, Fault>
     requires { Rests (state S.Store conn.old) }
-    ensures { Looks (Sees (λ db found. IsFormed medium_shape db → AreAll (on (λ x. x.id) int_cmp) (rows_of medium_shape db) found.items)) (state S.Store conn.old) (state S.Store conn.new) result }
+    ensures { Looks (Sees (λ db found. IsFormed medium_shape db
+        → AreAll (on (λ x. x.id) int_cmp) (rows_of medium_shape db) found.items)) (state S.Store conn.old)
+        (state S.Store conn.new) result }
 {
     all_of(
         alloc,
@@ -44,7 +50,9 @@ fn attribute_rows<S: Alter>(
     alloc: Global,
 ) -> Result<Vec<AttributeRow>, Fault>
     requires { Rests (state S.Store conn.old) }
-    ensures { Looks (Sees (λ db found. IsFormed attribute_shape db → AreAll (on (λ x. x.id) int_cmp) (rows_of attribute_shape db) found.items)) (state S.Store conn.old) (state S.Store conn.new) result }
+    ensures { Looks (Sees (λ db found. IsFormed attribute_shape db
+        → AreAll (on (λ x. x.id) int_cmp) (rows_of attribute_shape db) found.items)) (state S.Store conn.old)
+        (state S.Store conn.new) result }
 {
     all_of(
         alloc,
@@ -57,7 +65,9 @@ fn tiles_media_rows<S: Alter>(
     alloc: Global,
 ) -> Result<Vec<MappingRow>, Fault>
     requires { Rests (state S.Store conn.old) }
-    ensures { Looks (Sees (λ db found. IsFormed tiles_media_shape db → AreAll (then_cmp (on (λ x. x.base_id) int_cmp) (on (λ x. x.related_id) int_cmp)) (rows_of tiles_media_shape db) found.items)) (state S.Store conn.old) (state S.Store conn.new) result }
+    ensures { Looks (Sees (λ db found. IsFormed tiles_media_shape db
+        → AreAll (then_cmp (on (λ x. x.base_id) int_cmp) (on (λ x. x.related_id) int_cmp))
+        (rows_of tiles_media_shape db) found.items)) (state S.Store conn.old) (state S.Store conn.new) result }
 {
     all_of(
         alloc,
@@ -73,7 +83,9 @@ fn rows_media_rows<S: Alter>(
     alloc: Global,
 ) -> Result<Vec<MappingRow>, Fault>
     requires { Rests (state S.Store conn.old) }
-    ensures { Looks (Sees (λ db found. IsFormed rows_media_shape db → AreAll (then_cmp (on (λ x. x.base_id) int_cmp) (on (λ x. x.related_id) int_cmp)) (rows_of rows_media_shape db) found.items)) (state S.Store conn.old) (state S.Store conn.new) result }
+    ensures { Looks (Sees (λ db found. IsFormed rows_media_shape db
+        → AreAll (then_cmp (on (λ x. x.base_id) int_cmp) (on (λ x. x.related_id) int_cmp))
+        (rows_of rows_media_shape db) found.items)) (state S.Store conn.old) (state S.Store conn.new) result }
 {
     all_of(
         alloc,
@@ -86,7 +98,9 @@ fn identity_rows<S: Alter>(
     alloc: Global,
 ) -> Result<Vec<IdentityRow>, Fault>
     requires { Rests (state S.Store conn.old) }
-    ensures { Looks (Sees (λ db found. IsFormed identity_shape db → AreAll (then_cmp (on (λ x. x.kind) int_cmp) (on (λ x. x.local_id) int_cmp)) (rows_of identity_shape db) found.items)) (state S.Store conn.old) (state S.Store conn.new) result }
+    ensures { Looks (Sees (λ db found. IsFormed identity_shape db
+        → AreAll (then_cmp (on (λ x. x.kind) int_cmp) (on (λ x. x.local_id) int_cmp)) (rows_of identity_shape db)
+        found.items)) (state S.Store conn.old) (state S.Store conn.new) result }
 {
     all_of(
         alloc,
@@ -112,7 +126,8 @@ pub(crate) fn read_rows<S: Alter>(
     alloc: Global,
 ) -> Result<PackageRows, Fault>
     requires { Rests (state S.Store conn.old) }
-    ensures { Looks (Sees (λ db found. AreFormedAt (pos 1) db → AreRowsOf (tables_of db) found)) (state S.Store conn.old) (state S.Store conn.new) result }
+    ensures { Looks (Sees (λ db found. AreFormedAt (pos 1) db → AreRowsOf (tables_of db) found))
+        (state S.Store conn.old) (state S.Store conn.new) result }
 {
     let tiles = tile_rows(conn, alloc)?;
     let media = medium_rows(conn, alloc)?;

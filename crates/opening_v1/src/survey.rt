@@ -79,11 +79,14 @@ fn head_in(said: &Said) -> Option<StoreHead>
     said.head
 }
 
-/// What the opening of a world sees of a store as one of the first version: whose it is, what its receipts claim, whether it is a package, and which. Nothing is written to it: its rows come into a package of the second version in memory, which is looked at in its place.
+/// What the opening of a world sees of a store as one of the first version: whose it is, what its
+/// receipts claim, whether it is a package, and which. Nothing is written to it: its rows come into
+/// a package of the second version in memory, which is looked at in its place.
 ///
 /// # Errors
 ///
-/// `OutOfMemory` where a growth was refused, and `StoreFault` where the store failed, a text is no UTF-8, or a row is there twice. The store is as it was.
+/// `OutOfMemory` where a growth was refused, and `StoreFault` where the store failed, a text is no
+/// UTF-8, or a row is there twice. The store is as it was.
 pub fn survey_first<S: Alter>(conn: &mut Connection<S>, alloc: Global) -> Result<StoreSeen, Fault>
     requires { Rests (state S.Store conn.old) }
     ensures { LooksAt IsFirstSeenRight (state S.Store conn.old) (state S.Store conn.new) result }

@@ -13,9 +13,11 @@ module _ (ledger : List Receipt) (sights : List Sight) (live : List Bool) (sums 
   -- of those before a place
   pub record IsKeeping (place : ℕ) (kept : List (Option Kept)) : Type 0 where
     pub long : length kept ≡ place
-    pub each : (i : ℕ) (s : Sight) (b : Bool) (o : Option Sums) (k : Option Kept) → slice_get sights i ≡ Some s → slice_get live i ≡ Some b → slice_get sums i ≡ Some o → slice_get kept i ≡ Some k → IsKeptAt ledger s b o k
+    pub each : (i : ℕ) (s : Sight) (b : Bool) (o : Option Sums) (k : Option Kept) → slice_get sights i ≡ Some s
+        → slice_get live i ≡ Some b → slice_get sums i ≡ Some o → slice_get kept i ≡ Some k → IsKeptAt ledger s b o k
 
-  pub keeps_on : (i : ℕ) (kept : List (Option Kept)) (s : Sight) (b : Bool) (o : Option Sums) (k : Option Kept) → slice_get sights i ≡ Some s → slice_get live i ≡ Some b → slice_get sums i ≡ Some o
+  pub keeps_on : (i : ℕ) (kept : List (Option Kept)) (s : Sight) (b : Bool) (o : Option Sums) (k : Option Kept)
+      → slice_get sights i ≡ Some s → slice_get live i ≡ Some b → slice_get sums i ≡ Some o
       → IsKeeping i kept → IsKeptAt ledger s b o k → IsKeeping (i + 1) (kept ++ k ∷ [])
   keeps_on i kept s b o k is_s is_b is_o h now = record {
     long = long_snoc kept ∙ ap (λ n. n + 1) h.long;
@@ -23,10 +25,14 @@ module _ (ledger : List Receipt) (sights : List Sight) (live : List Bool) (sums 
       | inl before ↦ h.each j s' b' o' k' at_s at_b at_o before
       | inr here ↦
           let j_is : j ≡ i = here.0 ∙ h.long in
-          let s_is : s ≡ s' = some_once (slice_get sights i) s s' is_s (subst (λ n. slice_get sights n ≡ Some s') j_is at_s) in
-          let b_is : b ≡ b' = some_once (slice_get live i) b b' is_b (subst (λ n. slice_get live n ≡ Some b') j_is at_b) in
-          let o_is : o ≡ o' = some_once (slice_get sums i) o o' is_o (subst (λ n. slice_get sums n ≡ Some o') j_is at_o) in
-          subst (λ x. IsKeptAt ledger s' b' o' x) here.1 (subst (λ x. IsKeptAt ledger s' b' x k) o_is (subst (λ x. IsKeptAt ledger s' x o k) b_is (subst (λ x. IsKeptAt ledger x b o k) s_is now)))
+          let s_is : s ≡ s' = some_once (slice_get sights i) s s' is_s
+          (subst (λ n. slice_get sights n ≡ Some s') j_is at_s) in
+          let b_is : b ≡ b' = some_once (slice_get live i) b b' is_b
+          (subst (λ n. slice_get live n ≡ Some b') j_is at_b) in
+          let o_is : o ≡ o' = some_once (slice_get sums i) o o' is_o
+          (subst (λ n. slice_get sums n ≡ Some o') j_is at_o) in
+          subst (λ x. IsKeptAt ledger s' b' o' x) here.1 (subst (λ x. IsKeptAt ledger s' b' x k) o_is
+          (subst (λ x. IsKeptAt ledger s' x o k) b_is (subst (λ x. IsKeptAt ledger x b o k) s_is now)))
     ];
   }
     where

@@ -13,7 +13,8 @@ pub record IsParting (seen : List StoreSeen) (parts : Parts) (rest : List StoreS
   pub tied : map (λ x. x.is_tied) seen ≡ parts.tied.items ++ map (λ x. x.is_tied) rest
   pub held : map (λ x. x.held) seen ≡ parts.held.items ++ map (λ x. x.held) rest
 
-one_on : {X Y : Type 0} (f : X → Y) (all old new : List Y) (x : X) (rest : List X) → all ≡ old ++ map f (x ∷ rest) → new ≡ old ++ f x ∷ [] → all ≡ new ++ map f rest
+one_on : {X Y : Type 0} (f : X → Y) (all old new : List Y) (x : X) (rest : List X) → all ≡ old ++ map f (x ∷ rest)
+    → new ≡ old ++ f x ∷ [] → all ≡ new ++ map f rest
 one_on {Y = Y} f all old new x rest h push = h ∙ moved old ∙ ap (λ l. l ++ map f rest) (sym push)
   where
     moved : (ys : List Y) → ys ++ f x ∷ map f rest ≡ (ys ++ f x ∷ []) ++ map f rest
@@ -31,20 +32,28 @@ begun seen parts none = record {
   held = ap (λ l. l ++ map (λ x. x.held) seen) (sym none.held);
 }
 
-pub went_on : (seen : List StoreSeen) (old new : Parts) (x : StoreSeen) (rest : List StoreSeen) → IsParting seen old (x ∷ rest) → IsPushed old x new → IsParting seen new rest
+pub went_on : (seen : List StoreSeen) (old new : Parts) (x : StoreSeen) (rest : List StoreSeen)
+    → IsParting seen old (x ∷ rest) → IsPushed old x new → IsParting seen new rest
 went_on seen old new x rest h push = record {
-  sights = one_on (λ s. s.sight) (map (λ s. s.sight) seen) old.sights.items new.sights.items x rest h.sights push.sights;
-  formed = one_on (λ s. s.is_formed) (map (λ s. s.is_formed) seen) old.formed.items new.formed.items x rest h.formed push.formed;
+  sights = one_on (λ s. s.sight) (map (λ s. s.sight) seen) old.sights.items new.sights.items x rest h.sights
+      push.sights;
+  formed = one_on (λ s. s.is_formed) (map (λ s. s.is_formed) seen) old.formed.items new.formed.items x rest h.formed
+      push.formed;
   tied = one_on (λ s. s.is_tied) (map (λ s. s.is_tied) seen) old.tied.items new.tied.items x rest h.tied push.tied;
   held = one_on (λ s. s.held) (map (λ s. s.held) seen) old.held.items new.held.items x rest h.held push.held;
 }
 
-pub ended : (seen : List StoreSeen) (parts : Parts) (rest : List StoreSeen) → IsParting seen parts rest → rest ≡ [] → ArePartsOf parts seen
+pub ended : (seen : List StoreSeen) (parts : Parts) (rest : List StoreSeen) → IsParting seen parts rest → rest ≡ []
+    → ArePartsOf parts seen
 ended seen parts rest h none = record {
-  sights = nothing_more (map (λ x. x.sight) seen) parts.sights.items (map (λ x. x.sight) rest) h.sights (ap (map (λ x. x.sight)) none);
-  formed = nothing_more (map (λ x. x.is_formed) seen) parts.formed.items (map (λ x. x.is_formed) rest) h.formed (ap (map (λ x. x.is_formed)) none);
-  tied = nothing_more (map (λ x. x.is_tied) seen) parts.tied.items (map (λ x. x.is_tied) rest) h.tied (ap (map (λ x. x.is_tied)) none);
-  held = nothing_more (map (λ x. x.held) seen) parts.held.items (map (λ x. x.held) rest) h.held (ap (map (λ x. x.held)) none);
+  sights = nothing_more (map (λ x. x.sight) seen) parts.sights.items (map (λ x. x.sight) rest) h.sights
+      (ap (map (λ x. x.sight)) none);
+  formed = nothing_more (map (λ x. x.is_formed) seen) parts.formed.items (map (λ x. x.is_formed) rest) h.formed
+      (ap (map (λ x. x.is_formed)) none);
+  tied = nothing_more (map (λ x. x.is_tied) seen) parts.tied.items (map (λ x. x.is_tied) rest) h.tied
+      (ap (map (λ x. x.is_tied)) none);
+  held = nothing_more (map (λ x. x.held) seen) parts.held.items (map (λ x. x.held) rest) h.held
+      (ap (map (λ x. x.held)) none);
 }
 
 pub none_long : {X : Type 0} (n : ℕ) (l : List X) → n ≡ length l → n ≡ 0 → l ≡ []

@@ -23,8 +23,10 @@ use Rattle.opening_verdict.proofs.FirstFaults.{formed_of, tied_of, first_fault}
 use Rattle.opening_verdict.proofs.LiveWorld.{world, is_world, last_fault, too_large, verdict_of}
 use Rattle.opening_verdict.proofs.Viewed.{Pair, paired, sights_of, views_of}
 
-module _ (seen : List StoreSeen) (views : List StoreSight) (are : AreSeenAs seen views) (ss : List Sight) (fs ts : List Bool) (hs : List PackageSight)
-    (s_is : ss ≡ map (λ x. x.sight) seen) (f_is : fs ≡ map (λ x. x.is_formed) seen) (t_is : ts ≡ map (λ x. x.is_tied) seen) (h_is : hs ≡ map (λ x. x.held) seen) where
+module _ (seen : List StoreSeen) (views : List StoreSight) (are : AreSeenAs seen views) (ss : List Sight)
+    (fs ts : List Bool) (hs : List PackageSight)
+    (s_is : ss ≡ map (λ x. x.sight) seen) (f_is : fs ≡ map (λ x. x.is_formed) seen)
+    (t_is : ts ≡ map (λ x. x.is_tied) seen) (h_is : hs ≡ map (λ x. x.held) seen) where
   abbrev ps : List Pair
   ps = (paired seen views are).0
 
@@ -48,20 +50,24 @@ module _ (seen : List StoreSeen) (views : List StoreSight) (are : AreSeenAs seen
 
   pub first_of : (f : RecoverFault) → IsFirstOf ss fs ts f → IsFaultOf views f
   first_of f h = subst (λ vs. IsFaultOf vs f) v_same (first_fault ps f
-      (subst (λ t. IsFirstOf (sights_of ps) (formed_of ps) t f) t_same (subst (λ x. IsFirstOf (sights_of ps) x ts f) f_same (subst (λ x. IsFirstOf x fs ts f) s_same h))))
+      (subst (λ t. IsFirstOf (sights_of ps) (formed_of ps) t f) t_same
+      (subst (λ x. IsFirstOf (sights_of ps) x ts f) f_same (subst (λ x. IsFirstOf x fs ts f) s_same h))))
 
   module _ (was_checked : AreChecked ss fs ts) (live : List Bool) (live_is : live ≡ flags_of ss) where
     checked : AreChecked (sights_of ps) (formed_of ps) (tied_of ps)
-    checked = subst (λ t. AreChecked (sights_of ps) (formed_of ps) t) t_same (subst (λ x. AreChecked (sights_of ps) x ts) f_same (subst (λ x. AreChecked x fs ts) s_same was_checked))
+    checked = subst (λ t. AreChecked (sights_of ps) (formed_of ps) t) t_same
+        (subst (λ x. AreChecked (sights_of ps) x ts) f_same (subst (λ x. AreChecked x fs ts) s_same was_checked))
 
     live_same : live ≡ flags_of (sights_of ps)
     live_same = live_is ∙ ap flags_of s_same
 
     is_theirs : IsWorldOf (arranged sight_key (taken live hs)) (world ps checked)
     is_theirs = subst (λ l. IsWorldOf (arranged sight_key (taken l hs)) (world ps checked)) (sym live_same)
-        (subst (λ x. IsWorldOf (arranged sight_key (taken (flags_of (sights_of ps)) x)) (world ps checked)) (sym h_same) (is_world ps checked))
+        (subst (λ x. IsWorldOf (arranged sight_key (taken (flags_of (sights_of ps)) x)) (world ps checked))
+        (sym h_same) (is_world ps checked))
 
-    pub last_of : (f : RecoverFault) → ((w : World) → IsWorldOf (arranged sight_key (taken live hs)) w → IsLastOf w f) → IsFaultOf views f
+    pub last_of : (f : RecoverFault) → ((w : World) → IsWorldOf (arranged sight_key (taken live hs)) w → IsLastOf w f)
+        → IsFaultOf views f
     last_of f h = subst (λ vs. IsFaultOf vs f) v_same (last_fault ps checked f (h (world ps checked) is_theirs))
 
     module _ (sums : List (Option Sums)) (told : AllZip TellsSums hs sums) where
@@ -71,10 +77,16 @@ module _ (seen : List StoreSeen) (views : List StoreSight) (are : AreSeenAs seen
       pub want_of : (f : RecoverFault) → IsWantOr (IsSomeUnkept live sums) f → IsFaultOf views f
       want_of f h = elim h [
         | inl want ↦ subst (IsFaultOf views) (sym want) tt
-        | inr large ↦ subst (IsFaultOf views) (sym large.0) (subst (λ vs. IsFaultOf vs StoreFault) v_same (too_large ps checked sums told_so (subst (λ l. IsSomeUnkept l sums) live_same large.1)))
+        | inr large ↦ subst (IsFaultOf views) (sym large.0) (subst (λ vs. IsFaultOf vs StoreFault) v_same
+            (too_large ps checked sums told_so (subst (λ l. IsSomeUnkept l sums) live_same large.1)))
       ]
 
-      pub verdict_so : (ledger : List Receipt) (kept : List (Option Kept)) (verdict : Verdict) → ((w : World) → IsWorldOf (arranged sight_key (taken live hs)) w → IsInAccount ledger w) → AreKept ledger ss live sums kept
+      pub verdict_so : (ledger : List Receipt) (kept : List (Option Kept)) (verdict : Verdict)
+          → ((w : World) → IsWorldOf (arranged sight_key (taken live hs)) w → IsInAccount ledger w)
+          → AreKept ledger ss live sums kept
           → verdict.kept.items ≡ kept → verdict.count ≡ length ledger → IsVerdictOf verdict views
-      verdict_so ledger kept verdict account are_kept same count = subst (IsVerdictOf verdict) v_same (verdict_of ps checked sums told_so ledger (account (world ps checked) is_theirs) kept
-          (subst (λ l. AreKept ledger (sights_of ps) l sums kept) live_same (subst (λ x. AreKept ledger x live sums kept) s_same are_kept)) verdict same count)
+      verdict_so ledger kept verdict account are_kept same count =
+          subst (IsVerdictOf verdict) v_same (verdict_of ps checked sums told_so ledger
+          (account (world ps checked) is_theirs) kept
+          (subst (λ l. AreKept ledger (sights_of ps) l sums kept) live_same
+          (subst (λ x. AreKept ledger x live sums kept) s_same are_kept)) verdict same count)

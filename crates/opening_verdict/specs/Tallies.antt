@@ -1,5 +1,7 @@
--- What is kept of stores, told by what they say of themselves, by which are live and by how much each holds, place by place. Profile.
-use Rattle.std.specs.Prelude.{◌≡◌, ◌⊎◌, ◌<◌, ◌^◌, ℕ, Bool, true, List, length, Option, Some, None, MatchOption, slice_get}
+-- What is kept of stores, told by what they say of themselves, by which are live and by how much each holds, place by
+-- place. Profile.
+use Rattle.std.specs.Prelude.{◌≡◌, ◌⊎◌, ◌<◌, ◌^◌, ℕ, Bool, true, List, length, Option, Some, None, MatchOption}
+use Rattle.std.specs.Prelude.{slice_get}
 use Rattle.std.specs.List.{AllZip}
 use Rattle.std.specs.Option.{SomeIff}
 use Rattle.sheet_types.specs.Answers.{sums_held}
@@ -27,12 +29,15 @@ pub record IsKeptBy (ledger : List Receipt) (h : StoreHead) (sums : Option Sums)
 
 -- what is kept of a store: nothing where it is not live
 abbrev pub IsKeptAt : List Receipt → Sight → Bool → Option Sums → Option Kept → Type 0
-IsKeptAt ledger s live sums kept = MatchOption kept (live ≡ true → s.head ≡ None) (λ k. (live ≡ true) × (s.head ≡ Some k.head) × IsKeptBy ledger k.head sums k)
+IsKeptAt ledger s live sums kept = MatchOption kept (live ≡ true → s.head ≡ None)
+    (λ k. (live ≡ true) × (s.head ≡ Some k.head) × IsKeptBy ledger k.head sums k)
 
 -- of each
-pub record AreKept (ledger : List Receipt) (sights : List Sight) (live : List Bool) (sums : List (Option Sums)) (kept : List (Option Kept)) : Type 0 where
+pub record AreKept (ledger : List Receipt) (sights : List Sight) (live : List Bool) (sums : List (Option Sums))
+    (kept : List (Option Kept)) : Type 0 where
   pub long : length kept ≡ length sights
-  pub each : (i : ℕ) (s : Sight) (b : Bool) (o : Option Sums) (k : Option Kept) → slice_get sights i ≡ Some s → slice_get live i ≡ Some b → slice_get sums i ≡ Some o → slice_get kept i ≡ Some k → IsKeptAt ledger s b o k
+  pub each : (i : ℕ) (s : Sight) (b : Bool) (o : Option Sums) (k : Option Kept) → slice_get sights i ≡ Some s
+      → slice_get live i ≡ Some b → slice_get sums i ≡ Some o → slice_get kept i ≡ Some k → IsKeptAt ledger s b o k
 
 -- some store is live, and its package has no sums
 abbrev pub IsSomeUnkept : List Bool → List (Option Sums) → Type 0

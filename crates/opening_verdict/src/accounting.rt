@@ -25,8 +25,10 @@ pub(crate) fn ledger_in_account(
     live: &[bool],
 ) -> Result<Vec<Receipt>, RecoverFault>
     requires { length live.now ≡ length held.items }
-    ensures ledger { IfOk result (λ ledger. (w : World) → IsWorldOf (arranged sight_key (taken live.now held.items)) w → IsInAccount ledger.items w) }
-    ensures fault { IfErr result (λ fault. (w : World) → IsWorldOf (arranged sight_key (taken live.now held.items)) w → IsLastOf w fault) }
+    ensures ledger { IfOk result (λ ledger. (w : World) → IsWorldOf (arranged sight_key (taken live.now held.items)) w
+        → IsInAccount ledger.items w) }
+    ensures fault { IfErr result (λ fault. (w : World) → IsWorldOf (arranged sight_key (taken live.now held.items)) w
+        → IsLastOf w fault) }
 {
     let sorted = arranged_live(alloc, held, live)?;
     let sights = sorted.as_slice();
@@ -70,7 +72,8 @@ fn check_altered(
     sights: &[PackageSight],
 ) -> Result<(), RecoverFault>
     ensures unaltered { IfOk result (λ _. (w : World) → IsSeenWith ledger.now sights.now w → altered w ≡ []) }
-    ensures fault { IfErr result (λ fault. (w : World) → IsSeenWith ledger.now sights.now w → Balanced w → IsLastOf w fault) }
+    ensures fault { IfErr result (λ fault. (w : World) → IsSeenWith ledger.now sights.now w → Balanced w
+        → IsLastOf w fault) }
 {
     match least_altered(alloc, ledger, sights)? {
         Some(id) => Err(RecoverFault::Altered(id)),

@@ -78,7 +78,8 @@ fn check_splits(alloc: Global, sights: &[Sight], splits: &[OpenSplit]) -> Result
     ensures no_copies { IfOk result (λ _. IsNever (TwoCopies sights.now)) }
     ensures none_missing { IfOk result (λ _. IsNever (MissingPackage sights.now)) }
     ensures at_home { IfOk result (λ _. IsNever (ForeignFrame sights.now)) }
-    ensures fault { IfErr result (λ fault. (formed tied : List Bool) → IsNever (HasUnfit sights.now formed) → IsFirstOf sights.now formed tied fault) }
+    ensures fault { IfErr result (λ fault. (formed tied : List Bool) → IsNever (HasUnfit sights.now formed)
+        → IsFirstOf sights.now formed tied fault) }
 {
     check_copies(alloc, sights, splits)?;
     check_missing(alloc, sights, splits)?;
@@ -90,7 +91,8 @@ fn check_copies(alloc: Global, sights: &[Sight], splits: &[OpenSplit]) -> Result
     requires one { IsOne sights.now }
     requires splits { AreOpenSplits sights.now splits.now }
     ensures no_copies { IfOk result (λ _. IsNever (TwoCopies sights.now)) }
-    ensures fault { IfErr result (λ fault. (formed tied : List Bool) → IsNever (HasUnfit sights.now formed) → IsFirstOf sights.now formed tied fault) }
+    ensures fault { IfErr result (λ fault. (formed tied : List Bool) → IsNever (HasUnfit sights.now formed)
+        → IsFirstOf sights.now formed tied fault) }
 {
     match least_copied(alloc, sights, splits)? {
         Some(id) => Err(RecoverFault::TwoCopies(id)),
@@ -104,7 +106,8 @@ fn check_missing(alloc: Global, sights: &[Sight], splits: &[OpenSplit]) -> Resul
     requires splits { AreOpenSplits sights.now splits.now }
     requires no_copies { IsNever (TwoCopies sights.now) }
     ensures none_missing { IfOk result (λ _. IsNever (MissingPackage sights.now)) }
-    ensures fault { IfErr result (λ fault. (formed tied : List Bool) → IsNever (HasUnfit sights.now formed) → IsFirstOf sights.now formed tied fault) }
+    ensures fault { IfErr result (λ fault. (formed tied : List Bool) → IsNever (HasUnfit sights.now formed)
+        → IsFirstOf sights.now formed tied fault) }
 {
     match least_missing(alloc, sights, splits)? {
         Some(id) => Err(RecoverFault::MissingPackage(id)),
@@ -119,7 +122,8 @@ fn check_homes(alloc: Global, sights: &[Sight], splits: &[OpenSplit]) -> Result<
     requires no_copies { IsNever (TwoCopies sights.now) }
     requires none_missing { IsNever (MissingPackage sights.now) }
     ensures at_home { IfOk result (λ _. IsNever (ForeignFrame sights.now)) }
-    ensures fault { IfErr result (λ fault. (formed tied : List Bool) → IsNever (HasUnfit sights.now formed) → IsFirstOf sights.now formed tied fault) }
+    ensures fault { IfErr result (λ fault. (formed tied : List Bool) → IsNever (HasUnfit sights.now formed)
+        → IsFirstOf sights.now formed tied fault) }
 {
     match least_foreign(alloc, sights, splits)? {
         Some(id) => Err(RecoverFault::ForeignFrame(id)),
@@ -136,7 +140,9 @@ fn check_tied(
 ) -> Result<(), RecoverFault>
     requires live { live.now ≡ flags_of sights.now }
     ensures tied { IfOk result (λ _. IsNever (HasUnfit sights.now tied.now)) }
-    ensures fault { IfErr result (λ fault. (formed : List Bool) → IsOne sights.now → IsNever (HasUnfit sights.now formed) → IsNever (TwoCopies sights.now) → IsNever (MissingPackage sights.now) → IsNever (ForeignFrame sights.now) → IsFirstOf sights.now formed tied.now fault) }
+    ensures fault { IfErr result (λ fault. (formed : List Bool) → IsOne sights.now
+        → IsNever (HasUnfit sights.now formed) → IsNever (TwoCopies sights.now) → IsNever (MissingPackage sights.now)
+        → IsNever (ForeignFrame sights.now) → IsFirstOf sights.now formed tied.now fault) }
 {
     match least_unfit(alloc, sights, live, tied)? {
         Some(id) => Err(RecoverFault::Dangling(id)),

@@ -9,7 +9,8 @@ ghost use Rattle.sheet_balance.specs.Sights.{IsSightOf};
 use sheet_balance::sights::Sight;
 use sheet_types::receipt::{Moved, MovedKind, Sums};
 
-/// How much a package holds that is seen so: its tiles, media, attributes rows and links, and the bytes of its items. None where the bytes would have more than 64 bits.
+/// How much a package holds that is seen so: its tiles, media, attributes rows and links, and the
+/// bytes of its items. None where the bytes would have more than 64 bits.
 pub fn sums_of(sight: &Sight) -> Option<Sums>
     ensures { (p : Package) → IsSightOf sight.now p → SomeIff result ((sums_held p).bytes < 2 ^ 64) (sums_held p) }
 {

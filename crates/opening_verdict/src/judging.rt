@@ -11,14 +11,17 @@ use crate::verdict::Verdict;
 use opening_faults::faults::RecoverFault;
 use std::alloc::Global;
 
-/// What stores come to that are seen so: the first of the nine faults whose condition holds, or which of them are live and what a world keeps of each.
+/// What stores come to that are seen so: the first of the nine faults whose condition holds, or
+/// which of them are live and what a world keeps of each.
 ///
 /// # Errors
 ///
 /// The nine faults, want of memory, and `StoreFault` where a live package holds 2^64 bytes or more.
 pub fn judge_all(alloc: Global, seen: Vec<StoreSeen>) -> Result<Verdict, RecoverFault>
-    ensures stands { IfOk result (λ verdict. (views : List StoreSight) → AreSeenAs seen.items views → IsVerdictOf verdict views) }
-    ensures fault { IfErr result (λ fault. (views : List StoreSight) → AreSeenAs seen.items views → IsFaultOf views fault) }
+    ensures stands { IfOk result (λ verdict. (views : List StoreSight) → AreSeenAs seen.items views
+        → IsVerdictOf verdict views) }
+    ensures fault { IfErr result (λ fault. (views : List StoreSight) → AreSeenAs seen.items views
+        → IsFaultOf views fault) }
 {
     let Parts {
         sights,

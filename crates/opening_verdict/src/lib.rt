@@ -1,4 +1,6 @@
-//! What an opening comes to: from what was seen of each store, the first of the nine faults whose condition holds, or which stores are live and what a world keeps of their packages. It stands on values alone and knows no store.
+//! What an opening comes to: from what was seen of each store, the first of the nine faults whose
+//! condition holds, or which stores are live and what a world keeps of their packages. It stands on
+//! values alone and knows no store.
 #![tactic(auto)]
 
 pub mod accounting;

@@ -14,7 +14,8 @@ pub struct StoreSeen {
     pub sight: Sight,
     /// Whether all its tables have their form, with fixed rows of a good frame and values in their ranges.
     pub is_formed: bool,
-    /// Whether rows and identities answer to each other, and mapping rows to rows. It counts only where the store is formed.
+    /// Whether rows and identities answer to each other, and mapping rows to rows. It counts only
+    /// where the store is formed.
     pub is_tied: bool,
     /// Its package. It counts only where the store is formed and tied.
     pub held: PackageSight,

@@ -42,7 +42,8 @@ fn kept_of(
     sums: Option<Sums>,
     last: &BTreeMap<Uuid, u64>,
 ) -> Result<Kept, RecoverFault>
-    ensures kept { IfOk result (λ kept. (ledger : List ModelReceipt) → TellsLast last.now ledger → IsKeptBy ledger head sums kept) }
+    ensures kept { IfOk result (λ kept. (ledger : List ModelReceipt) → TellsLast last.now ledger
+        → IsKeptBy ledger head sums kept) }
     ensures fault { IfErr result (λ fault. (fault ≡ StoreFault) × (sums ≡ None)) }
 {
     let Some(sums) = sums else {
@@ -59,7 +60,8 @@ fn kept_at(
     sums: Option<Sums>,
     last: &BTreeMap<Uuid, u64>,
 ) -> Result<Option<Kept>, RecoverFault>
-    ensures kept { IfOk result (λ kept. (ledger : List ModelReceipt) → TellsLast last.now ledger → IsKeptAt ledger sight.now live sums kept) }
+    ensures kept { IfOk result (λ kept. (ledger : List ModelReceipt) → TellsLast last.now ledger
+        → IsKeptAt ledger sight.now live sums kept) }
     ensures fault { IfErr result (λ fault. (fault ≡ StoreFault) × (live ≡ true) × (sums ≡ None)) }
 {
     match (live, sight.head) {

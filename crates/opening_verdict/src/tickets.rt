@@ -33,7 +33,8 @@ fn note_all(alloc: Global, ledger: &[Receipt]) -> Result<BTreeMap<Uuid, u64>, Al
 
 // Notes the number of a receipt under both its ends.
 fn note_receipt(last: &mut BTreeMap<Uuid, u64>, receipt: &Receipt) -> Result<(), AllocError>
-    ensures { IfOk result (λ _. (p : List ℕ) → last_in last.new p ≡ (if names_package p receipt.now then max (last_in last.old p) receipt.now.seq else last_in last.old p)) }
+    ensures { IfOk result (λ _. (p : List ℕ) → last_in last.new p
+        ≡ (if names_package p receipt.now then max (last_in last.old p) receipt.now.seq else last_in last.old p)) }
 {
     note_end(last, &receipt.source, receipt.seq)?;
     note_end(last, &receipt.target, receipt.seq)
@@ -41,7 +42,8 @@ fn note_receipt(last: &mut BTreeMap<Uuid, u64>, receipt: &Receipt) -> Result<(),
 
 // Notes a number under an end, where there is one.
 fn note_end(last: &mut BTreeMap<Uuid, u64>, end: &Option<Uuid>, seq: u64) -> Result<(), AllocError>
-    ensures { IfOk result (λ _. (p : List ℕ) → last_in last.new p ≡ (if ends_at end.now p then max (last_in last.old p) seq else last_in last.old p)) }
+    ensures { IfOk result (λ _. (p : List ℕ) → last_in last.new p
+        ≡ (if ends_at end.now p then max (last_in last.old p) seq else last_in last.old p)) }
 {
     match end {
         Some(package) => note_package(last, *package, seq),
@@ -51,7 +53,8 @@ fn note_end(last: &mut BTreeMap<Uuid, u64>, end: &Option<Uuid>, seq: u64) -> Res
 
 // Notes a number under a package.
 fn note_package(last: &mut BTreeMap<Uuid, u64>, package: Uuid, seq: u64) -> Result<(), AllocError>
-    ensures { IfOk result (λ _. (p : List ℕ) → last_in last.new p ≡ (if bytes_eq «package» p then max (last_in last.old p) seq else last_in last.old p)) }
+    ensures { IfOk result (λ _. (p : List ℕ) → last_in last.new p
+        ≡ (if bytes_eq «package» p then max (last_in last.old p) seq else last_in last.old p)) }
 {
     let before = last.get(&package).copied().unwrap_or(0);
     last.insert(package, before.max(seq))?;

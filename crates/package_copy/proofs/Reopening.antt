@@ -14,14 +14,17 @@ use Rattle.store_sql.proofs.Schemas.{sound_alone}
 -- trees have one schema
 pub same_database : (old new : Database) → IsDatabase old → IsDatabase new → new.trees ≡ old.trees → new ≡ old
 same_database old new one two same =
-    let schemas : new.schema ≡ old.schema = sound_alone new.schema old.schema old.trees (subst (IsSound new.schema) same two) one in
-    ap {A = Schema} (λ s. record { schema = s; trees = new.trees }) schemas ∙ ap {A = Trees} (λ t. record { schema = old.schema; trees = t }) same
+    let schemas : new.schema ≡ old.schema = sound_alone new.schema old.schema old.trees
+    (subst (IsSound new.schema) same two) one in
+    ap {A = Schema} (λ s. record { schema = s; trees = new.trees }) schemas
+    ∙ ap {A = Trees} (λ t. record { schema = old.schema; trees = t }) same
 
 -- a store in memory gives back what was written to it
 pub clean : doubt true ≡ 0
 clean = no_doubt true refl
 
-module _ (old new : State) (is_clean : HasCleanDisk new) (adopted : HasCleanDisk new → IsAdopted new old.committed.trees) where
+module _ (old new : State) (is_clean : HasCleanDisk new) (adopted : HasCleanDisk new
+    → IsAdopted new old.committed.trees) where
   pub rests_again : Rests new
   rests_again = (adopted is_clean).holds.rests
 
@@ -31,4 +34,5 @@ module _ (old new : State) (is_clean : HasCleanDisk new) (adopted : HasCleanDisk
   pub shows_again : IsLive old → Holds old old.now → new.now ≡ old.now
   shows_again live holds =
       let it = adopted is_clean in
-      same_database old.now new.now (live holds.is_open).0 it.sound (it.trees_are ∙ ap (λ (db : Database). db.trees) (sym (holds.rests.settled holds.is_open)))
+      same_database old.now new.now (live holds.is_open).0 it.sound
+      (it.trees_are ∙ ap (λ (db : Database). db.trees) (sym (holds.rests.settled holds.is_open)))

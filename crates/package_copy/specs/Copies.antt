@@ -6,7 +6,8 @@ use Rattle.sheet_types.specs.declared.frame.Frame.{Frame}
 use Rattle.store_sql.specs.Writing.{AreKeyed}
 use Rattle.package_tables.specs.Creation.{new_tables, HoldsTables}
 use Rattle.package_tables.specs.Package.{Tables}
-use Rattle.package_tables.specs.Shapes.{tile_shape, medium_shape, attribute_shape, tiles_media_shape, rows_media_shape, identity_shape, receipt_shape, moved_shape}
+use Rattle.package_tables.specs.Shapes.{tile_shape, medium_shape, attribute_shape, tiles_media_shape}
+use Rattle.package_tables.specs.Shapes.{rows_media_shape, identity_shape, receipt_shape, moved_shape}
 use Rattle.package_tables.specs.declared.rows.HeadRow.{HeadRow}
 use Rattle.package_copy.specs.declared.package_rows.PackageRows.{PackageRows}
 
@@ -34,7 +35,18 @@ pub record AreEmpty (t : Tables) : Type 0 where
 
 -- the tables with these rows
 abbrev pub with_rows : PackageRows → Tables → Tables
-with_rows x t = record t { tiles = x.tiles.items; media = x.media.items; rows = x.rows.items; tiles_media = x.tiles_media.items; rows_media = x.rows_media.items; identities = x.identities.items; receipts = x.receipts.items; moved = x.moved.items }
+with_rows x t = record t {
+  tiles = x.tiles.items;
+  media = x.media.items;
+  rows = x.rows.items;
+  tiles_media =
+      x.tiles_media.items;
+  rows_media = x.rows_media.items;
+  identities = x.identities.items;
+  receipts =
+      x.receipts.items;
+  moved = x.moved.items;
+}
 
 -- tables that had none get these
 abbrev pub Fills : PackageRows → Tables → Tables → Type 0

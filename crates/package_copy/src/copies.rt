@@ -40,7 +40,8 @@ pub fn is_in_order(rows: &PackageRows) -> bool
 fn enter_rows<S: Alter>(tx: &mut Transaction<'_, S>, rows: &PackageRows) -> Result<(), Fault>
     requires { AreInOrder rows.now }
     ensures same_reference { tx.new.conn.ghost_name ≡ tx.old.conn.ghost_name }
-    ensures steps { Steps (λ _. OnTables (Fills rows.now)) (state S.Store tx.old.conn.now) (state S.Store tx.new.conn.now) result }
+    ensures steps { Steps (λ _. OnTables (Fills rows.now)) (state S.Store tx.old.conn.now)
+        (state S.Store tx.new.conn.now) result }
 {
     enter_all(tx, rows.tiles.as_slice())?;
     enter_all(tx, rows.media.as_slice())?;
@@ -98,7 +99,8 @@ pub fn copy(
     requires info { IsFitInfo info.now.depth info.now.loan }
     requires order { AreInOrder rows.now }
     ensures rests { IfOk result (λ conn. Rests (state over_memory conn)) }
-    ensures copied { IfOk result (λ conn. IsCopy frame.now (head_of info.now.package info.now.parent info.now.depth info.now.loan info.now.created.now) rows.now (state over_memory conn).now) }
+    ensures copied { IfOk result (λ conn. IsCopy frame.now (head_of info.now.package info.now.parent info.now.depth
+        info.now.loan info.now.created.now) rows.now (state over_memory conn).now) }
 {
     let blank = blank(alloc)?;
     let mut conn = create(alloc, blank, frame, info)?.into_connection();

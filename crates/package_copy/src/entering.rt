@@ -56,7 +56,8 @@ pub(crate) trait Entered: Drop {
     /// Enters it, under a key that is free.
     fn enter<S: Alter>(&self, tx: &mut Transaction<'_, S>) -> Result<(), Fault>
         ensures same_reference { tx.new.conn.ghost_name ≡ tx.old.conn.ghost_name }
-        ensures steps { Steps (λ _. OnTables (Adds list self.now)) (state S.Store tx.old.conn.now) (state S.Store tx.new.conn.now) result };
+        ensures steps { Steps (λ _. OnTables (Adds list self.now)) (state S.Store tx.old.conn.now)
+            (state S.Store tx.new.conn.now) result };
 
     ghost listed: { IsListed list };
 }
@@ -211,7 +212,8 @@ pub(crate) fn are_in_order<T: Entered>(rows: &[T]) -> bool
 
 /// Whether a mapping row stands before another.
 fn is_mapped_before(row: &MappingRow, next: &MappingRow) -> bool
-    ensures { result ≡ is_before (pair_key row.now.base_id row.now.related_id) (pair_key next.now.base_id next.now.related_id) }
+    ensures { result ≡ is_before (pair_key row.now.base_id row.now.related_id)
+        (pair_key next.now.base_id next.now.related_id) }
 {
     pair_is_before(
         (row.base_id, row.related_id),
@@ -238,7 +240,8 @@ pub(crate) fn enter_all<T: Entered, S: Alter>(
 ) -> Result<(), Fault>
     requires { IsArranged T.list.shape.key rows.now }
     ensures same_reference { tx.new.conn.ghost_name ≡ tx.old.conn.ghost_name }
-    ensures steps { Steps (λ _. OnTables (ListBecomes T.list [] rows.now)) (state S.Store tx.old.conn.now) (state S.Store tx.new.conn.now) result }
+    ensures steps { Steps (λ _. OnTables (ListBecomes T.list [] rows.now)) (state S.Store tx.old.conn.now)
+        (state S.Store tx.new.conn.now) result }
 {
     for row in rows {
         row.enter(tx)?;
@@ -253,7 +256,8 @@ fn enter_pair<S: Alter>(
     row: &MappingRow,
 ) -> Result<(), Fault>
     ensures same_reference { tx.new.conn.ghost_name ≡ tx.old.conn.ghost_name }
-    ensures steps { Steps (λ _. OnTables (Adds (pairs mapping) row.now)) (state S.Store tx.old.conn.now) (state S.Store tx.new.conn.now) result }
+    ensures steps { Steps (λ _. OnTables (Adds (pairs mapping) row.now)) (state S.Store tx.old.conn.now)
+        (state S.Store tx.new.conn.now) result }
 {
     insert_pair(tx, mapping, row.base_id, row.related_id)
 }
@@ -266,7 +270,8 @@ pub(crate) fn enter_pairs<S: Alter>(
 ) -> Result<(), Fault>
     requires { IsArranged (λ x. pair_key x.base_id x.related_id) rows.now }
     ensures same_reference { tx.new.conn.ghost_name ≡ tx.old.conn.ghost_name }
-    ensures steps { Steps (λ _. OnTables (ListBecomes (pairs mapping) [] rows.now)) (state S.Store tx.old.conn.now) (state S.Store tx.new.conn.now) result }
+    ensures steps { Steps (λ _. OnTables (ListBecomes (pairs mapping) [] rows.now)) (state S.Store tx.old.conn.now)
+        (state S.Store tx.new.conn.now) result }
 {
     for row in rows {
         enter_pair(tx, mapping, row)?;

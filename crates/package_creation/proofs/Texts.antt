@@ -3,9 +3,11 @@ use Rattle.std.proofs.Common.{ℕ, List, [], ◌∷◌, refl}
 use Rattle.store_sql.specs.Blank.{no_schema}
 use Rattle.package_tables.specs.SchemaMaking.{ExtendsBy}
 use Rattle.package_tables.specs.SchemaMade.{first_made, package_schema}
-use Rattle.package_creation.proofs.Texts.GpkgSpatialRefSys.{text as GpkgSpatialRefSys_text, step as GpkgSpatialRefSys_step}
+use Rattle.package_creation.proofs.Texts.GpkgSpatialRefSys.{text as GpkgSpatialRefSys_text}
+use Rattle.package_creation.proofs.Texts.GpkgSpatialRefSys.{step as GpkgSpatialRefSys_step}
 use Rattle.package_creation.proofs.Texts.GpkgContents.{text as GpkgContents_text, step as GpkgContents_step}
-use Rattle.package_creation.proofs.Texts.GpkgTileMatrixSet.{text as GpkgTileMatrixSet_text, step as GpkgTileMatrixSet_step}
+use Rattle.package_creation.proofs.Texts.GpkgTileMatrixSet.{text as GpkgTileMatrixSet_text}
+use Rattle.package_creation.proofs.Texts.GpkgTileMatrixSet.{step as GpkgTileMatrixSet_step}
 use Rattle.package_creation.proofs.Texts.GpkgTileMatrix.{text as GpkgTileMatrix_text, step as GpkgTileMatrix_step}
 use Rattle.package_creation.proofs.Texts.GpkgextRelations.{text as GpkgextRelations_text, step as GpkgextRelations_step}
 use Rattle.package_creation.proofs.Texts.SheetTiles.{text as SheetTiles_text, step as SheetTiles_step}
@@ -19,8 +21,10 @@ use Rattle.package_creation.proofs.Texts.SheetIdentity.{text as SheetIdentity_te
 use Rattle.package_creation.proofs.Texts.SheetReceipts.{text as SheetReceipts_text, step as SheetReceipts_step}
 use Rattle.package_creation.proofs.Texts.SheetItems.{text as SheetItems_text, step as SheetItems_step}
 use Rattle.package_creation.proofs.Texts.IndexItemsByBase.{text as IndexItemsByBase_text, step as IndexItemsByBase_step}
-use Rattle.package_creation.proofs.Texts.IndexReceiptsByTarget.{text as IndexReceiptsByTarget_text, step as IndexReceiptsByTarget_step}
-use Rattle.package_creation.proofs.Texts.IndexByTilesMedia.{text as IndexByTilesMedia_text, step as IndexByTilesMedia_step}
+use Rattle.package_creation.proofs.Texts.IndexReceiptsByTarget.{text as IndexReceiptsByTarget_text}
+use Rattle.package_creation.proofs.Texts.IndexReceiptsByTarget.{step as IndexReceiptsByTarget_step}
+use Rattle.package_creation.proofs.Texts.IndexByTilesMedia.{text as IndexByTilesMedia_text}
+use Rattle.package_creation.proofs.Texts.IndexByTilesMedia.{step as IndexByTilesMedia_step}
 use Rattle.package_creation.proofs.Texts.IndexByRowsMedia.{text as IndexByRowsMedia_text, step as IndexByRowsMedia_step}
 use Rattle.package_creation.proofs.Texts.IndexByRowsTiles.{text as IndexByRowsTiles_text, step as IndexByRowsTiles_step}
 use Rattle.package_creation.proofs.Texts.IndexByXy.{text as IndexByXy_text, step as IndexByXy_step}
@@ -47,7 +51,11 @@ pub mod IndexByRowsTiles
 pub mod IndexByXy
 
 abbrev pub texts : List (List ℕ)
-texts = GpkgSpatialRefSys_text ∷ GpkgContents_text ∷ GpkgTileMatrixSet_text ∷ GpkgTileMatrix_text ∷ GpkgextRelations_text ∷ SheetTiles_text ∷ SheetMedia_text ∷ SheetRows_text ∷ TilesMedia_text ∷ RowsMedia_text ∷ RowsTiles_text ∷ SheetPackage_text ∷ SheetIdentity_text ∷ SheetReceipts_text ∷ SheetItems_text ∷ IndexItemsByBase_text ∷ IndexReceiptsByTarget_text ∷ IndexByTilesMedia_text ∷ IndexByRowsMedia_text ∷ IndexByRowsTiles_text ∷ IndexByXy_text ∷ []
+texts = GpkgSpatialRefSys_text ∷ GpkgContents_text ∷ GpkgTileMatrixSet_text ∷ GpkgTileMatrix_text
+    ∷ GpkgextRelations_text ∷ SheetTiles_text ∷ SheetMedia_text ∷ SheetRows_text ∷ TilesMedia_text ∷ RowsMedia_text
+    ∷ RowsTiles_text ∷ SheetPackage_text ∷ SheetIdentity_text ∷ SheetReceipts_text ∷ SheetItems_text
+    ∷ IndexItemsByBase_text ∷ IndexReceiptsByTarget_text ∷ IndexByTilesMedia_text ∷ IndexByRowsMedia_text
+    ∷ IndexByRowsTiles_text ∷ IndexByXy_text ∷ []
 
 pub plan : ExtendsBy texts no_schema package_schema
 plan = (

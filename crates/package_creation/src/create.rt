@@ -23,7 +23,8 @@ use sqlite::{Alter, Connection, Transaction};
 use std::alloc::Global;
 use uuid::Uuid;
 
-/// What the head of a package says (profile): its UUID, its parent (none for the archive), how many levels it is below the archive (0 to 4), the
+/// What the head of a package says (profile): its UUID, its parent (none for the archive), how many
+/// levels it is below the archive (0 to 4), the
 /// number of its loan (0 for the archive, at most 1,000,000,000), and the moment at which it was made.
 #[derive(Clone, Copy)]
 pub struct Info<'t> {
@@ -38,7 +39,8 @@ pub struct Info<'t> {
 fn insert_info<S: Alter>(tx: &mut Transaction<'_, S>, info: &Info<'_>) -> Result<(), Fault>
     requires { IsFitInfo info.now.depth info.now.loan }
     ensures same_reference { tx.new.conn.ghost_name ≡ tx.old.conn.ghost_name }
-    ensures steps { Steps (λ _. OnTables (Adds heads (head_of info.now.package info.now.parent info.now.depth info.now.loan info.now.created.now))) (state S.Store tx.old.conn.now) (state S.Store tx.new.conn.now) result }
+    ensures steps { Steps (λ _. OnTables (Adds heads (head_of info.now.package info.now.parent info.now.depth
+        info.now.loan info.now.created.now))) (state S.Store tx.old.conn.now) (state S.Store tx.new.conn.now) result }
 {
     let mut package_buffer = Uuid::encode_buffer();
     let package = info.package.hyphenated().encode_lower(&mut package_buffer);
@@ -59,7 +61,8 @@ fn fill<S: Alter>(
     requires frame { IsTrue (is_good_frame frame.now) }
     requires info { IsFitInfo info.now.depth info.now.loan }
     ensures same_reference { tx.new.conn.ghost_name ≡ tx.old.conn.ghost_name }
-    ensures steps { Steps (λ _. Fills (new_tables frame.now (head_of info.now.package info.now.parent info.now.depth info.now.loan info.now.created.now))) (state S.Store tx.old.conn.now) (state S.Store tx.new.conn.now) result }
+    ensures steps { Steps (λ _. Fills (new_tables frame.now (head_of info.now.package info.now.parent info.now.depth
+        info.now.loan info.now.created.now))) (state S.Store tx.old.conn.now) (state S.Store tx.new.conn.now) result }
 {
     create_schema(tx)?;
     insert_fixed(alloc, tx, frame, info.created)?;
@@ -76,7 +79,8 @@ fn make<S: Alter>(
     requires rests { Rests (state S.Store conn.old) }
     requires frame { IsTrue (is_good_frame frame.now) }
     requires info { IsFitInfo info.now.depth info.now.loan }
-    ensures turns { Turns (λ _. Fills (new_tables frame.now (head_of info.now.package info.now.parent info.now.depth info.now.loan info.now.created.now))) (state S.Store conn.old) (state S.Store conn.new) result }
+    ensures turns { Turns (λ _. Fills (new_tables frame.now (head_of info.now.package info.now.parent info.now.depth
+        info.now.loan info.now.created.now))) (state S.Store conn.old) (state S.Store conn.new) result }
 {
     let mut tx = conn.transaction();
     fill(alloc, &mut tx, frame, info)?;
@@ -84,7 +88,8 @@ fn make<S: Alter>(
     Ok(())
 }
 
-/// Makes a package with nothing in it in a store that is blank: its tables, the rows that each package has (OGC GeoPackage 1.3, 1.1.2, 1.1.3, 2.2.6 and 2.2.7, and OGC 18-000), and its head.
+/// Makes a package with nothing in it in a store that is blank: its tables, the rows that each
+/// package has (OGC GeoPackage 1.3, 1.1.2, 1.1.3, 2.2.6 and 2.2.7, and OGC 18-000), and its head.
 ///
 /// # Errors
 ///
@@ -98,11 +103,16 @@ pub fn create<S: Alter + Drop>(
     requires rests { Rests (state S.Store conn) }
     requires frame { IsTrue (is_good_frame frame.now) }
     requires info { IsFitInfo info.now.depth info.now.loan }
-    ensures made { (HasCleanDisk (state S.Store conn) → IsBlank no_schema (state S.Store conn).now) → IfOk result (λ made. HasCleanDisk (state S.Store made.conn)
-        → HoldsTables (state S.Store made.conn).now (new_tables frame.now (head_of info.now.package info.now.parent info.now.depth info.now.loan info.now.created.now)) × Holds (state S.Store made.conn) (state S.Store made.conn).now) }
+    ensures made { (HasCleanDisk (state S.Store conn) → IsBlank no_schema (state S.Store conn).now)
+        → IfOk result (λ made. HasCleanDisk (state S.Store made.conn)
+        → HoldsTables (state S.Store made.conn).now (new_tables frame.now
+        (head_of info.now.package info.now.parent info.now.depth info.now.loan info.now.created.now))
+        × Holds (state S.Store made.conn) (state S.Store made.conn).now) }
     ensures rests { IfOk result (λ made. Rests (state S.Store made.conn)) }
     ensures clean { IfOk result (λ made. HasCleanDisk (state S.Store made.conn) → HasCleanDisk (state S.Store conn)) }
-    ensures failed { IfErr result (λ unmade. Turns {X = Unit {0}} {E = Fault} (λ _. Fills (new_tables frame.now (head_of info.now.package info.now.parent info.now.depth info.now.loan info.now.created.now))) (state S.Store conn) (state S.Store unmade.conn) (Err unmade.why)) }
+    ensures failed { IfErr result (λ unmade. Turns {X = Unit {0}} {E = Fault}
+        (λ _. Fills (new_tables frame.now (head_of info.now.package info.now.parent info.now.depth info.now.loan
+        info.now.created.now))) (state S.Store conn) (state S.Store unmade.conn) (Err unmade.why)) }
 {
     match make(alloc, &mut conn, frame, info) {
         Ok(()) => Ok(Package { conn }),

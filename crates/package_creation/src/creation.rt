@@ -17,7 +17,8 @@ use sheet_types::frame::Frame;
 use sqlite::{Alter, Connection};
 use std::alloc::Global;
 
-/// Makes the package that a head tells, with no items, no links and no receipts, in a store that is blank where its disk is clean. It reads as that package where the moment of making is one.
+/// Makes the package that a head tells, with no items, no links and no receipts, in a store that is
+/// blank where its disk is clean. It reads as that package where the moment of making is one.
 ///
 /// # Errors
 ///
@@ -31,12 +32,18 @@ pub fn create<S: Alter + Drop>(
     requires rests { Rests (state S.Store conn) }
     requires frame { IsTrue (is_good_frame frame.now) }
     requires info { IsFitInfo info.now.depth info.now.loan }
-    ensures made { is_moment info.now.created.now ≡ true → (HasCleanDisk (state S.Store conn) → IsBlank no_schema (state S.Store conn).now) → IfOk result (λ made. HasCleanDisk (state S.Store made)
-        → Keeps frame.now (new_package info.now.package info.now.parent info.now.depth info.now.loan) (state S.Store made)) }
-    ensures dated { (HasCleanDisk (state S.Store conn) → IsBlank no_schema (state S.Store conn).now) → IfOk result (λ made. HasCleanDisk (state S.Store made) → IsMadeAt frame.now info.now.created.now (state S.Store made)) }
+    ensures made { is_moment info.now.created.now ≡ true → (HasCleanDisk (state S.Store conn)
+        → IsBlank no_schema (state S.Store conn).now) → IfOk result (λ made. HasCleanDisk (state S.Store made)
+        → Keeps frame.now (new_package info.now.package info.now.parent info.now.depth info.now.loan)
+        (state S.Store made)) }
+    ensures dated { (HasCleanDisk (state S.Store conn) → IsBlank no_schema (state S.Store conn).now)
+        → IfOk result (λ made. HasCleanDisk (state S.Store made)
+        → IsMadeAt frame.now info.now.created.now (state S.Store made)) }
     ensures rests { IfOk result (λ made. Rests (state S.Store made)) }
     ensures clean { IfOk result (λ made. HasCleanDisk (state S.Store made) → HasCleanDisk (state S.Store conn)) }
-    ensures failed { IfErr result (λ unmade. IsUnmade frame.now (new_package info.now.package info.now.parent info.now.depth info.now.loan) info.now.created.now (state S.Store conn) (state S.Store unmade.conn)) }
+    ensures failed { IfErr result (λ unmade. IsUnmade frame.now
+        (new_package info.now.package info.now.parent info.now.depth info.now.loan) info.now.created.now
+        (state S.Store conn) (state S.Store unmade.conn)) }
 {
     fits(info.package);
     fits_if_there(info.parent);

@@ -6,7 +6,8 @@ ghost use Rattle.store_sql.specs.Transactions.{Steps};
 ghost use Rattle.package_tables.specs.Calls.{OnTables};
 ghost use Rattle.package_tables.specs.Listed.{contents, matrix_sets, relations, systems};
 ghost use Rattle.package_tables.specs.Changes.{Adds, ListBecomes};
-ghost use Rattle.package_tables.specs.Fixed.{is_standard, standard_systems, systems_of, content, contents_of, matrix_set, mapping_relations, relation};
+ghost use Rattle.package_tables.specs.Fixed.{is_standard, standard_systems, systems_of, content, contents_of};
+ghost use Rattle.package_tables.specs.Fixed.{matrix_set, mapping_relations, relation};
 ghost use Rattle.package_tables.specs.Creation.{TablesBecome, no_rows, fixed_tables};
 
 use crate::insertions::{
@@ -21,7 +22,8 @@ use std::alloc::Global;
 /// The reference systems that OGC GeoPackage 1.3 wants in each package.
 fn insert_standard_systems<S: Alter>(tx: &mut Transaction<'_, S>) -> Result<(), Fault>
     ensures same_reference { tx.new.conn.ghost_name ≡ tx.old.conn.ghost_name }
-    ensures steps { Steps (λ _. OnTables (ListBecomes systems [] standard_systems)) (state S.Store tx.old.conn.now) (state S.Store tx.new.conn.now) result }
+    ensures steps { Steps (λ _. OnTables (ListBecomes systems [] standard_systems)) (state S.Store tx.old.conn.now)
+        (state S.Store tx.new.conn.now) result }
 {
     insert_spatial_ref_sys(tx, "undefined cartesian", -1, "NONE", -1, "undefined", "")?;
     insert_spatial_ref_sys(tx, "undefined geographic", 0, "NONE", 0, "undefined", "")?;
@@ -41,7 +43,8 @@ fn insert_own_system<S: Alter>(
     srs_id: i64,
 ) -> Result<(), Fault>
     ensures same_reference { tx.new.conn.ghost_name ≡ tx.old.conn.ghost_name }
-    ensures steps { Steps (λ _. OnTables (ListBecomes systems standard_systems (systems_of srs_id))) (state S.Store tx.old.conn.now) (state S.Store tx.new.conn.now) result }
+    ensures steps { Steps (λ _. OnTables (ListBecomes systems standard_systems (systems_of srs_id)))
+        (state S.Store tx.old.conn.now) (state S.Store tx.new.conn.now) result }
     ensures standard { IsTrue (is_standard srs_id) → IsOk result }
 {
     if is_standard(srs_id) {
@@ -57,7 +60,8 @@ fn insert_systems<S: Alter>(
     srs_id: i64,
 ) -> Result<(), Fault>
     ensures same_reference { tx.new.conn.ghost_name ≡ tx.old.conn.ghost_name }
-    ensures steps { Steps (λ _. OnTables (ListBecomes systems [] (systems_of srs_id))) (state S.Store tx.old.conn.now) (state S.Store tx.new.conn.now) result }
+    ensures steps { Steps (λ _. OnTables (ListBecomes systems [] (systems_of srs_id))) (state S.Store tx.old.conn.now)
+        (state S.Store tx.new.conn.now) result }
 {
     insert_standard_systems(tx)?;
     insert_own_system(alloc, tx, srs_id)
@@ -72,7 +76,8 @@ fn insert_content<S: Alter>(
     at: &str,
 ) -> Result<(), Fault>
     ensures same_reference { tx.new.conn.ghost_name ≡ tx.old.conn.ghost_name }
-    ensures steps { Steps (λ _. OnTables (Adds contents (content table_name.now data_type.now frame.now at.now))) (state S.Store tx.old.conn.now) (state S.Store tx.new.conn.now) result }
+    ensures steps { Steps (λ _. OnTables (Adds contents (content table_name.now data_type.now frame.now at.now)))
+        (state S.Store tx.old.conn.now) (state S.Store tx.new.conn.now) result }
 {
     let Frame {
         srs_id,
@@ -93,7 +98,8 @@ fn insert_all_contents<S: Alter>(
     at: &str,
 ) -> Result<(), Fault>
     ensures same_reference { tx.new.conn.ghost_name ≡ tx.old.conn.ghost_name }
-    ensures steps { Steps (λ _. OnTables (ListBecomes contents [] (contents_of frame.now at.now))) (state S.Store tx.old.conn.now) (state S.Store tx.new.conn.now) result }
+    ensures steps { Steps (λ _. OnTables (ListBecomes contents [] (contents_of frame.now at.now)))
+        (state S.Store tx.old.conn.now) (state S.Store tx.new.conn.now) result }
 {
     insert_content(tx, "sheet_tiles", "tiles", frame, at)?;
     insert_content(tx, "sheet_rows", "attributes", frame, at)?;
@@ -103,7 +109,8 @@ fn insert_all_contents<S: Alter>(
 /// The tile matrix set of the tiles.
 fn insert_matrix_set<S: Alter>(tx: &mut Transaction<'_, S>, frame: &Frame) -> Result<(), Fault>
     ensures same_reference { tx.new.conn.ghost_name ≡ tx.old.conn.ghost_name }
-    ensures steps { Steps (λ _. OnTables (ListBecomes matrix_sets [] (matrix_set frame.now ∷ []))) (state S.Store tx.old.conn.now) (state S.Store tx.new.conn.now) result }
+    ensures steps { Steps (λ _. OnTables (ListBecomes matrix_sets [] (matrix_set frame.now ∷ [])))
+        (state S.Store tx.old.conn.now) (state S.Store tx.new.conn.now) result }
 {
     let Frame {
         srs_id,
@@ -126,7 +133,8 @@ fn insert_mapping<S: Alter>(
     mapping: &str,
 ) -> Result<(), Fault>
     ensures same_reference { tx.new.conn.ghost_name ≡ tx.old.conn.ghost_name }
-    ensures steps { Steps (λ _. OnTables (Adds relations (relation id base.now related.now name.now mapping.now))) (state S.Store tx.old.conn.now) (state S.Store tx.new.conn.now) result }
+    ensures steps { Steps (λ _. OnTables (Adds relations (relation id base.now related.now name.now mapping.now)))
+        (state S.Store tx.old.conn.now) (state S.Store tx.new.conn.now) result }
 {
     insert_relation(tx, id, base, "id", related, "id", name, mapping)
 }
@@ -134,7 +142,8 @@ fn insert_mapping<S: Alter>(
 /// Which tables each mapping table relates (OGC 18-000, relations).
 fn insert_relations<S: Alter>(tx: &mut Transaction<'_, S>) -> Result<(), Fault>
     ensures same_reference { tx.new.conn.ghost_name ≡ tx.old.conn.ghost_name }
-    ensures steps { Steps (λ _. OnTables (ListBecomes relations [] mapping_relations)) (state S.Store tx.old.conn.now) (state S.Store tx.new.conn.now) result }
+    ensures steps { Steps (λ _. OnTables (ListBecomes relations [] mapping_relations)) (state S.Store tx.old.conn.now)
+        (state S.Store tx.new.conn.now) result }
 {
     insert_mapping(tx, 1, "sheet_tiles", "sheet_media", "media", "tiles_media")?;
     insert_mapping(tx, 2, "sheet_rows", "sheet_media", "media", "rows_media")?;
@@ -150,7 +159,8 @@ pub(crate) fn insert_fixed<S: Alter>(
 ) -> Result<(), Fault>
     requires { IsTrue (is_good_frame frame.now) }
     ensures same_reference { tx.new.conn.ghost_name ≡ tx.old.conn.ghost_name }
-    ensures steps { Steps (λ _. OnTables (TablesBecome no_rows (fixed_tables frame.now at.now))) (state S.Store tx.old.conn.now) (state S.Store tx.new.conn.now) result }
+    ensures steps { Steps (λ _. OnTables (TablesBecome no_rows (fixed_tables frame.now at.now)))
+        (state S.Store tx.old.conn.now) (state S.Store tx.new.conn.now) result }
 {
     insert_systems(alloc, tx, frame.srs_id)?;
     insert_all_contents(tx, frame, at)?;

@@ -1,4 +1,5 @@
-//! The statements that enter a row of the tables that are the same in every package but for the frame: reference systems, contents, tile matrices and relations.
+//! The statements that enter a row of the tables that are the same in every package but for the
+//! frame: reference systems, contents, tile matrices and relations.
 ghost use Rattle.std.specs.Prelude.{◌≡◌};
 ghost use Rattle.sqlite.specs.State.{Survives};
 ghost use Rattle.sqlite.specs.Held.{state};
@@ -20,7 +21,17 @@ pub(crate) fn insert_spatial_ref_sys<S: Alter>(
     description: &str,
 ) -> Result<(), Fault>
     ensures same_reference { tx.new.conn.ghost_name ≡ tx.old.conn.ghost_name }
-    ensures wrote { Makes (Adds systems (record { srs_name = srs_name.now; srs_id = srs_id; organization = organization.now; organization_coordsys_id = organization_coordsys_id; definition = definition.now; description = description.now })) (state S.Store tx.old.conn.now) (state S.Store tx.new.conn.now) result }
+    ensures wrote { Makes (Adds systems (record {
+      srs_name = srs_name.now;
+      srs_id = srs_id;
+      organization =
+          organization.now;
+      organization_coordsys_id = organization_coordsys_id;
+      definition =
+          definition.now;
+      description = description.now;
+    })) (state S.Store tx.old.conn.now)
+        (state S.Store tx.new.conn.now) result }
     ensures survives { Survives (state S.Store tx.old.conn.now) (state S.Store tx.new.conn.now) (λ _. ⊥) }
 {
     settled(tx.execute(
@@ -51,7 +62,21 @@ pub(crate) fn insert_contents<S: Alter>(
     srs_id: i64,
 ) -> Result<(), Fault>
     ensures same_reference { tx.new.conn.ghost_name ≡ tx.old.conn.ghost_name }
-    ensures wrote { Makes (Adds contents (record { table_name = table_name.now; data_type = data_type.now; identifier = identifier.now; description = description.now; last_change = last_change.now; min_x = min_x; min_y = min_y; max_x = max_x; max_y = max_y; srs_id = srs_id })) (state S.Store tx.old.conn.now) (state S.Store tx.new.conn.now) result }
+    ensures wrote { Makes (Adds contents (record {
+      table_name = table_name.now;
+      data_type =
+          data_type.now;
+      identifier = identifier.now;
+      description = description.now;
+      last_change =
+          last_change.now;
+      min_x = min_x;
+      min_y = min_y;
+      max_x = max_x;
+      max_y = max_y;
+      srs_id = srs_id;
+    }))
+        (state S.Store tx.old.conn.now) (state S.Store tx.new.conn.now) result }
     ensures survives { Survives (state S.Store tx.old.conn.now) (state S.Store tx.new.conn.now) (λ _. ⊥) }
 {
     settled(tx.execute(
@@ -82,7 +107,16 @@ pub(crate) fn insert_tile_matrix_set<S: Alter>(
     max_y: i64,
 ) -> Result<(), Fault>
     ensures same_reference { tx.new.conn.ghost_name ≡ tx.old.conn.ghost_name }
-    ensures wrote { Makes (Adds matrix_sets (record { table_name = table_name.now; srs_id = srs_id; min_x = min_x; min_y = min_y; max_x = max_x; max_y = max_y })) (state S.Store tx.old.conn.now) (state S.Store tx.new.conn.now) result }
+    ensures wrote { Makes (Adds matrix_sets (record {
+      table_name = table_name.now;
+      srs_id = srs_id;
+      min_x =
+          min_x;
+      min_y = min_y;
+      max_x = max_x;
+      max_y = max_y;
+    })) (state S.Store tx.old.conn.now)
+        (state S.Store tx.new.conn.now) result }
     ensures survives { Survives (state S.Store tx.old.conn.now) (state S.Store tx.new.conn.now) (λ _. ⊥) }
 {
     settled(tx.execute(
@@ -104,7 +138,19 @@ pub(crate) fn insert_tile_matrix<S: Alter>(
     pixel_y_size: i64,
 ) -> Result<(), Fault>
     ensures same_reference { tx.new.conn.ghost_name ≡ tx.old.conn.ghost_name }
-    ensures wrote { Makes (Adds matrices (record { table_name = table_name.now; zoom_level = zoom_level; matrix_width = matrix_width; matrix_height = matrix_height; tile_width = tile_width; tile_height = tile_height; pixel_x_size = pixel_x_size; pixel_y_size = pixel_y_size })) (state S.Store tx.old.conn.now) (state S.Store tx.new.conn.now) result }
+    ensures wrote { Makes (Adds matrices (record {
+      table_name = table_name.now;
+      zoom_level =
+          zoom_level;
+      matrix_width = matrix_width;
+      matrix_height = matrix_height;
+      tile_width = tile_width;
+      tile_height =
+          tile_height;
+      pixel_x_size = pixel_x_size;
+      pixel_y_size = pixel_y_size;
+    })) (state S.Store tx.old.conn.now)
+        (state S.Store tx.new.conn.now) result }
     ensures survives { Survives (state S.Store tx.old.conn.now) (state S.Store tx.new.conn.now) (λ _. ⊥) }
 {
     settled(tx.execute(
@@ -134,7 +180,19 @@ pub(crate) fn insert_relation<S: Alter>(
     mapping_table_name: &str,
 ) -> Result<(), Fault>
     ensures same_reference { tx.new.conn.ghost_name ≡ tx.old.conn.ghost_name }
-    ensures wrote { Makes (Adds relations (record { id = id; base_table_name = base_table_name.now; base_primary_column = base_primary_column.now; related_table_name = related_table_name.now; related_primary_column = related_primary_column.now; relation_name = relation_name.now; mapping_table_name = mapping_table_name.now })) (state S.Store tx.old.conn.now) (state S.Store tx.new.conn.now) result }
+    ensures wrote { Makes (Adds relations (record {
+      id = id;
+      base_table_name =
+          base_table_name.now;
+      base_primary_column = base_primary_column.now;
+      related_table_name =
+          related_table_name.now;
+      related_primary_column = related_primary_column.now;
+      relation_name =
+          relation_name.now;
+      mapping_table_name = mapping_table_name.now;
+    })) (state S.Store tx.old.conn.now)
+        (state S.Store tx.new.conn.now) result }
     ensures survives { Survives (state S.Store tx.old.conn.now) (state S.Store tx.new.conn.now) (λ _. ⊥) }
 {
     settled(tx.execute(

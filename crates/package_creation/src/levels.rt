@@ -24,7 +24,8 @@ fn insert_level<S: Alter>(
     requires good { IsTrue (is_good_frame frame.now) }
     requires level { IsTrue (has_level frame.now zoom) }
     ensures same_reference { tx.new.conn.ghost_name ≡ tx.old.conn.ghost_name }
-    ensures steps { Steps (λ _. OnTables (Adds matrices (level_row frame.now zoom))) (state S.Store tx.old.conn.now) (state S.Store tx.new.conn.now) result }
+    ensures steps { Steps (λ _. OnTables (Adds matrices (level_row frame.now zoom))) (state S.Store tx.old.conn.now)
+        (state S.Store tx.new.conn.now) result }
 {
     let axes = axes_at(frame, zoom);
     insert_tile_matrix(
@@ -47,7 +48,8 @@ pub(crate) fn insert_levels<S: Alter>(
 ) -> Result<(), Fault>
     requires { IsTrue (is_good_frame frame.now) }
     ensures same_reference { tx.new.conn.ghost_name ≡ tx.old.conn.ghost_name }
-    ensures steps { Steps (λ _. OnTables (ListBecomes matrices [] (levels_of frame.now))) (state S.Store tx.old.conn.now) (state S.Store tx.new.conn.now) result }
+    ensures steps { Steps (λ _. OnTables (ListBecomes matrices [] (levels_of frame.now)))
+        (state S.Store tx.old.conn.now) (state S.Store tx.new.conn.now) result }
 {
     let levels = level_count(frame);
     for level in 0..levels {

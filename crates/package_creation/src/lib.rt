@@ -1,4 +1,5 @@
-//! A package that comes into being: its tables, the rows that are the same in each package but for its frame, and its head.
+//! A package that comes into being: its tables, the rows that are the same in each package but for
+//! its frame, and its head.
 #![tactic(auto)]
 
 pub mod create;

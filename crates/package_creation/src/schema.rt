@@ -1,6 +1,7 @@
 //! The tables and indexes of a new package.
 //!
-//! `create_schema` is one step of a transaction. It tells the whole schema, so that each statement of this crate may be run on it.
+//! `create_schema` is one step of a transaction. It tells the whole schema, so that each statement
+//! of this crate may be run on it.
 //! An edit of a text needs its facts anew: `tools/schema_facts.py` writes proofs/Texts, and the check decides.
 
 ghost use Rattle.std.specs.Prelude.{◌≡◌, ◌<◌, true, false, length, map, Err, IfErr, OnOk};
@@ -8,7 +9,8 @@ ghost use Rattle.sqlite.specs.State.{HasCleanDisk, KeepsCommit, Survives};
 ghost use Rattle.sqlite.specs.Held.{state};
 ghost use Rattle.store_sql.specs.Writing.{WritesInside};
 ghost use Rattle.store_sql.specs.Blank.{IsBlank, no_schema};
-ghost use Rattle.package_tables.specs.SchemaMaking.{Made, MadeBy, ChangedInside, FailsToMake, FailsToMakeBy, FailsInside};
+ghost use Rattle.package_tables.specs.SchemaMaking.{Made, MadeBy, ChangedInside, FailsToMake, FailsToMakeBy};
+ghost use Rattle.package_tables.specs.SchemaMaking.{FailsInside};
 ghost use Rattle.package_tables.specs.SchemaMade.{BecomesPackage};
 
 use sqlite::{Alter, Error, ErrorCode, Transaction};
@@ -98,10 +100,14 @@ const STATEMENTS: [&str; 21] = [
 /// Makes the table or the index that the text defines.
 fn make<S: Alter>(tx: &mut Transaction<'_, S>, sql: &str) -> Result<(), Error>
     ensures same_reference { tx.new.conn.ghost_name ≡ tx.old.conn.ghost_name }
-    ensures made { HasCleanDisk (state S.Store tx.new.conn.now) → tx.old.conn.now.in_transaction ≡ true → WritesInside (Made sql.now) (state S.Store tx.old.conn.now) (state S.Store tx.new.conn.now) result }
-    ensures failed { HasCleanDisk (state S.Store tx.new.conn.now) → tx.old.conn.now.in_transaction ≡ true → IfErr result (FailsToMake sql.now (state S.Store tx.old.conn.now) (state S.Store tx.new.conn.now)) }
-    ensures ended { tx.old.conn.now.in_transaction ≡ false → (result ≡ Err (Error.SqliteFailure ErrorCode.TransactionState)) × (tx.new.conn.now ≡ tx.old.conn.now) }
-    ensures kept { HasCleanDisk (state S.Store tx.new.conn.now) → KeepsCommit (state S.Store tx.old.conn.now) (state S.Store tx.new.conn.now) }
+    ensures made { HasCleanDisk (state S.Store tx.new.conn.now) → tx.old.conn.now.in_transaction ≡ true
+        → WritesInside (Made sql.now) (state S.Store tx.old.conn.now) (state S.Store tx.new.conn.now) result }
+    ensures failed { HasCleanDisk (state S.Store tx.new.conn.now) → tx.old.conn.now.in_transaction ≡ true
+        → IfErr result (FailsToMake sql.now (state S.Store tx.old.conn.now) (state S.Store tx.new.conn.now)) }
+    ensures ended { tx.old.conn.now.in_transaction ≡ false →
+        (result ≡ Err (Error.SqliteFailure ErrorCode.TransactionState)) × (tx.new.conn.now ≡ tx.old.conn.now) }
+    ensures kept { HasCleanDisk (state S.Store tx.new.conn.now)
+        → KeepsCommit (state S.Store tx.old.conn.now) (state S.Store tx.new.conn.now) }
     ensures survives { Survives (state S.Store tx.old.conn.now) (state S.Store tx.new.conn.now) (λ _. ⊥) }
 {
     tx.execute(sql, &[])?;
@@ -111,10 +117,17 @@ fn make<S: Alter>(tx: &mut Transaction<'_, S>, sql: &str) -> Result<(), Error>
 /// Makes what each of the texts defines, in order, up to the first that fails.
 fn make_each<S: Alter>(tx: &mut Transaction<'_, S>, texts: &[&str]) -> Result<(), Error>
     ensures same_reference { tx.new.conn.ghost_name ≡ tx.old.conn.ghost_name }
-    ensures made { 0 < length texts.now → HasCleanDisk (state S.Store tx.new.conn.now) → tx.old.conn.now.in_transaction ≡ true → OnOk result (ChangedInside (MadeBy (map (λ text. text.now) texts.now)) (state S.Store tx.old.conn.now) (state S.Store tx.new.conn.now)) }
-    ensures failed { HasCleanDisk (state S.Store tx.new.conn.now) → tx.old.conn.now.in_transaction ≡ true → IfErr result (FailsToMakeBy (map (λ text. text.now) texts.now) (state S.Store tx.old.conn.now) (state S.Store tx.new.conn.now)) }
-    ensures ended { 0 < length texts.now → tx.old.conn.now.in_transaction ≡ false → (result ≡ Err (Error.SqliteFailure ErrorCode.TransactionState)) × (tx.new.conn.now ≡ tx.old.conn.now) }
-    ensures kept { HasCleanDisk (state S.Store tx.new.conn.now) → KeepsCommit (state S.Store tx.old.conn.now) (state S.Store tx.new.conn.now) }
+    ensures made { 0 < length texts.now → HasCleanDisk (state S.Store tx.new.conn.now)
+        → tx.old.conn.now.in_transaction ≡ true → OnOk result
+        (ChangedInside (MadeBy (map (λ text. text.now) texts.now)) (state S.Store tx.old.conn.now)
+        (state S.Store tx.new.conn.now)) }
+    ensures failed { HasCleanDisk (state S.Store tx.new.conn.now) → tx.old.conn.now.in_transaction ≡ true
+        → IfErr result (FailsToMakeBy (map (λ text. text.now) texts.now) (state S.Store tx.old.conn.now)
+        (state S.Store tx.new.conn.now)) }
+    ensures ended { 0 < length texts.now → tx.old.conn.now.in_transaction ≡ false
+        → (result ≡ Err (Error.SqliteFailure ErrorCode.TransactionState)) × (tx.new.conn.now ≡ tx.old.conn.now) }
+    ensures kept { HasCleanDisk (state S.Store tx.new.conn.now)
+        → KeepsCommit (state S.Store tx.old.conn.now) (state S.Store tx.new.conn.now) }
     ensures survives { Survives (state S.Store tx.old.conn.now) (state S.Store tx.new.conn.now) (λ _. ⊥) }
 {
     for text in texts {
@@ -125,19 +138,28 @@ fn make_each<S: Alter>(tx: &mut Transaction<'_, S>, texts: &[&str]) -> Result<()
 
 /// Makes the tables and the look-up indexes of a package in a database that has no object yet.
 ///
-/// The names of the tables are those of OGC GeoPackage 1.3 (spatial reference systems, contents, tile matrix sets, tile matrices)
-/// and OGC 18-000 (relations); their columns' types and keys, and the tables whose names begin with `sheet_`, are profile.
+/// The names of the tables are those of OGC GeoPackage 1.3 (spatial reference systems, contents,
+/// tile matrix sets, tile matrices)
+/// and OGC 18-000 (relations); their columns' types and keys, and the tables whose names begin with
+/// `sheet_`, are profile.
 ///
 /// # Errors
 ///
-/// In a database without objects no statement is refused: one fails for want of memory, where the disk fails, or where the
-/// connection was shut before. The transaction is rolled back then. Where it had ended before the call, the error is `TransactionState`.
+/// In a database without objects no statement is refused: one fails for want of memory, where the
+/// disk fails, or where the
+/// connection was shut before. The transaction is rolled back then. Where it had ended before the
+/// call, the error is `TransactionState`.
 pub fn create_schema<S: Alter>(tx: &mut Transaction<'_, S>) -> Result<(), Error>
     ensures same_reference { tx.new.conn.ghost_name ≡ tx.old.conn.ghost_name }
-    ensures made { HasCleanDisk (state S.Store tx.new.conn.now) → tx.old.conn.now.in_transaction ≡ true → OnOk result (ChangedInside BecomesPackage (state S.Store tx.old.conn.now) (state S.Store tx.new.conn.now)) }
-    ensures failed { HasCleanDisk (state S.Store tx.new.conn.now) → tx.old.conn.now.in_transaction ≡ true → IsBlank no_schema (state S.Store tx.old.conn.now).now → IfErr result (FailsInside (state S.Store tx.old.conn.now) (state S.Store tx.new.conn.now)) }
-    ensures ended { tx.old.conn.now.in_transaction ≡ false → (result ≡ Err (Error.SqliteFailure ErrorCode.TransactionState)) × (tx.new.conn.now ≡ tx.old.conn.now) }
-    ensures kept { HasCleanDisk (state S.Store tx.new.conn.now) → KeepsCommit (state S.Store tx.old.conn.now) (state S.Store tx.new.conn.now) }
+    ensures made { HasCleanDisk (state S.Store tx.new.conn.now) → tx.old.conn.now.in_transaction ≡ true
+        → OnOk result (ChangedInside BecomesPackage (state S.Store tx.old.conn.now) (state S.Store tx.new.conn.now)) }
+    ensures failed { HasCleanDisk (state S.Store tx.new.conn.now) → tx.old.conn.now.in_transaction ≡ true
+        → IsBlank no_schema (state S.Store tx.old.conn.now).now
+        → IfErr result (FailsInside (state S.Store tx.old.conn.now) (state S.Store tx.new.conn.now)) }
+    ensures ended { tx.old.conn.now.in_transaction ≡ false →
+        (result ≡ Err (Error.SqliteFailure ErrorCode.TransactionState)) × (tx.new.conn.now ≡ tx.old.conn.now) }
+    ensures kept { HasCleanDisk (state S.Store tx.new.conn.now)
+        → KeepsCommit (state S.Store tx.old.conn.now) (state S.Store tx.new.conn.now) }
     ensures survives { Survives (state S.Store tx.old.conn.now) (state S.Store tx.new.conn.now) (λ _. ⊥) }
 {
     make_each(tx, &STATEMENTS)

@@ -16,7 +16,8 @@ use Rattle.package_tables.specs.Shown.{tile_shown, medium_shown, attribute_shown
 use Rattle.package_tables.proofs.Next.{IsNext}
 use Rattle.package_tables.proofs.Values.{above_number}
 
-tile_first_text : (spelling : Spelling) → IsFirst (codes "SELECT * FROM sheet_tiles ORDER BY id LIMIT 1") (spelled sheet_tiles spelling) always ((col 1 0, ascending) ∷ [])
+tile_first_text : (spelling : Spelling) → IsFirst (codes "SELECT * FROM sheet_tiles ORDER BY id LIMIT 1")
+    (spelled sheet_tiles spelling) always ((col 1 0, ascending) ∷ [])
 unfolding everything
 tile_first_text spelling = record {
   parse = _;
@@ -34,14 +35,31 @@ tile_first_text spelling = record {
   sorted = λ schema at. (_, refl, refl);
 }
 
-tile_first_plan : (spelling : Spelling) → IsPlannedFirst (spelled sheet_tiles spelling) always ((col 1 0, ascending) ∷ [])
+tile_first_plan : (spelling : Spelling) → IsPlannedFirst (spelled sheet_tiles spelling) always
+    ((col 1 0, ascending) ∷ [])
 unfolding resolving
 tile_first_plan spelling schema at h = rw (h.stored, h.by_tree) refl
 
-pub tile_first : IsNext tile_shape tile_shown (λ x. x.id) (codes "SELECT * FROM sheet_tiles ORDER BY id LIMIT 1") [] (λ x. true)
-tile_first = record { test = _; by = _; selects = tile_first_text; planned = tile_first_plan; given = refl; pass = _; listed = _; is = λ spelling. refl; shows = λ v x. refl; passing = λ v x. refl; keyed = λ v x. refl }
+pub tile_first : IsNext tile_shape tile_shown (λ x. x.id) (codes "SELECT * FROM sheet_tiles ORDER BY id LIMIT 1") []
+    (λ x. true)
+tile_first = record {
+  test = _;
+  by = _;
+  selects = tile_first_text;
+  planned = tile_first_plan;
+  given = refl;
+  pass =
+      _;
+  listed = _;
+  is = λ spelling. refl;
+  shows = λ v x. refl;
+  passing = λ v x. refl;
+  keyed = λ v x. refl;
+}
 
-tile_after_text : (spelling : Spelling) → IsFirst (codes "SELECT * FROM sheet_tiles WHERE id > ?1 ORDER BY id LIMIT 1") (spelled sheet_tiles spelling) (compares Gt 0 0) ((col 1 0, ascending) ∷ [])
+tile_after_text : (spelling : Spelling)
+    → IsFirst (codes "SELECT * FROM sheet_tiles WHERE id > ?1 ORDER BY id LIMIT 1") (spelled sheet_tiles spelling)
+    (compares Gt 0 0) ((col 1 0, ascending) ∷ [])
 unfolding everything
 tile_after_text spelling = record {
   parse = _;
@@ -59,14 +77,31 @@ tile_after_text spelling = record {
   sorted = λ schema at. (_, refl, refl);
 }
 
-tile_after_plan : (spelling : Spelling) → IsPlannedFirst (spelled sheet_tiles spelling) (compares Gt 0 0) ((col 1 0, ascending) ∷ [])
+tile_after_plan : (spelling : Spelling) → IsPlannedFirst (spelled sheet_tiles spelling) (compares Gt 0 0)
+    ((col 1 0, ascending) ∷ [])
 unfolding resolving
 tile_after_plan spelling schema at h = rw (h.stored, h.by_tree) refl
 
-pub tile_after : (id : ℤ) → IsNext tile_shape tile_shown (λ x. x.id) (codes "SELECT * FROM sheet_tiles WHERE id > ?1 ORDER BY id LIMIT 1") (Int id ∷ []) (λ x. is_gt (int_cmp x.id id))
-tile_after id = record { test = _; by = _; selects = tile_after_text; planned = tile_after_plan; given = refl; pass = _; listed = _; is = λ spelling. refl; shows = λ v x. refl; passing = λ v x. above_number x.id id; keyed = λ v x. refl }
+pub tile_after : (id : ℤ) → IsNext tile_shape tile_shown (λ x. x.id)
+    (codes "SELECT * FROM sheet_tiles WHERE id > ?1 ORDER BY id LIMIT 1") (Int id ∷ []) (λ x. is_gt (int_cmp x.id id))
+tile_after id = record {
+  test = _;
+  by = _;
+  selects = tile_after_text;
+  planned = tile_after_plan;
+  given = refl;
+  pass =
+      _;
+  listed = _;
+  is = λ spelling. refl;
+  shows = λ v x. refl;
+  passing = λ v x. above_number x.id id;
+  keyed =
+      λ v x. refl;
+}
 
-medium_first_text : (spelling : Spelling) → IsFirst (codes "SELECT * FROM sheet_media ORDER BY id LIMIT 1") (spelled sheet_media spelling) always ((col 1 0, ascending) ∷ [])
+medium_first_text : (spelling : Spelling) → IsFirst (codes "SELECT * FROM sheet_media ORDER BY id LIMIT 1")
+    (spelled sheet_media spelling) always ((col 1 0, ascending) ∷ [])
 unfolding everything
 medium_first_text spelling = record {
   parse = _;
@@ -84,14 +119,32 @@ medium_first_text spelling = record {
   sorted = λ schema at. (_, refl, refl);
 }
 
-medium_first_plan : (spelling : Spelling) → IsPlannedFirst (spelled sheet_media spelling) always ((col 1 0, ascending) ∷ [])
+medium_first_plan : (spelling : Spelling) → IsPlannedFirst (spelled sheet_media spelling) always
+    ((col 1 0, ascending) ∷ [])
 unfolding resolving
 medium_first_plan spelling schema at h = rw (h.stored, h.by_tree) refl
 
-pub medium_first : IsNext medium_shape medium_shown (λ x. x.id) (codes "SELECT * FROM sheet_media ORDER BY id LIMIT 1") [] (λ x. true)
-medium_first = record { test = _; by = _; selects = medium_first_text; planned = medium_first_plan; given = refl; pass = _; listed = _; is = λ spelling. refl; shows = λ v x. refl; passing = λ v x. refl; keyed = λ v x. refl }
+pub medium_first : IsNext medium_shape medium_shown (λ x. x.id)
+    (codes "SELECT * FROM sheet_media ORDER BY id LIMIT 1") [] (λ x. true)
+medium_first = record {
+  test = _;
+  by = _;
+  selects = medium_first_text;
+  planned = medium_first_plan;
+  given =
+      refl;
+  pass = _;
+  listed = _;
+  is = λ spelling. refl;
+  shows = λ v x. refl;
+  passing = λ v x. refl;
+  keyed =
+      λ v x. refl;
+}
 
-medium_after_text : (spelling : Spelling) → IsFirst (codes "SELECT * FROM sheet_media WHERE id > ?1 ORDER BY id LIMIT 1") (spelled sheet_media spelling) (compares Gt 0 0) ((col 1 0, ascending) ∷ [])
+medium_after_text : (spelling : Spelling)
+    → IsFirst (codes "SELECT * FROM sheet_media WHERE id > ?1 ORDER BY id LIMIT 1") (spelled sheet_media spelling)
+    (compares Gt 0 0) ((col 1 0, ascending) ∷ [])
 unfolding everything
 medium_after_text spelling = record {
   parse = _;
@@ -109,14 +162,31 @@ medium_after_text spelling = record {
   sorted = λ schema at. (_, refl, refl);
 }
 
-medium_after_plan : (spelling : Spelling) → IsPlannedFirst (spelled sheet_media spelling) (compares Gt 0 0) ((col 1 0, ascending) ∷ [])
+medium_after_plan : (spelling : Spelling) → IsPlannedFirst (spelled sheet_media spelling) (compares Gt 0 0)
+    ((col 1 0, ascending) ∷ [])
 unfolding resolving
 medium_after_plan spelling schema at h = rw (h.stored, h.by_tree) refl
 
-pub medium_after : (id : ℤ) → IsNext medium_shape medium_shown (λ x. x.id) (codes "SELECT * FROM sheet_media WHERE id > ?1 ORDER BY id LIMIT 1") (Int id ∷ []) (λ x. is_gt (int_cmp x.id id))
-medium_after id = record { test = _; by = _; selects = medium_after_text; planned = medium_after_plan; given = refl; pass = _; listed = _; is = λ spelling. refl; shows = λ v x. refl; passing = λ v x. above_number x.id id; keyed = λ v x. refl }
+pub medium_after : (id : ℤ) → IsNext medium_shape medium_shown (λ x. x.id)
+    (codes "SELECT * FROM sheet_media WHERE id > ?1 ORDER BY id LIMIT 1") (Int id ∷ []) (λ x. is_gt (int_cmp x.id id))
+medium_after id = record {
+  test = _;
+  by = _;
+  selects = medium_after_text;
+  planned = medium_after_plan;
+  given =
+      refl;
+  pass = _;
+  listed = _;
+  is = λ spelling. refl;
+  shows = λ v x. refl;
+  passing =
+      λ v x. above_number x.id id;
+  keyed = λ v x. refl;
+}
 
-attributes_first_text : (spelling : Spelling) → IsFirst (codes "SELECT * FROM sheet_rows ORDER BY id LIMIT 1") (spelled sheet_rows spelling) always ((col 1 0, ascending) ∷ [])
+attributes_first_text : (spelling : Spelling) → IsFirst (codes "SELECT * FROM sheet_rows ORDER BY id LIMIT 1")
+    (spelled sheet_rows spelling) always ((col 1 0, ascending) ∷ [])
 unfolding everything
 attributes_first_text spelling = record {
   parse = _;
@@ -134,14 +204,32 @@ attributes_first_text spelling = record {
   sorted = λ schema at. (_, refl, refl);
 }
 
-attributes_first_plan : (spelling : Spelling) → IsPlannedFirst (spelled sheet_rows spelling) always ((col 1 0, ascending) ∷ [])
+attributes_first_plan : (spelling : Spelling) → IsPlannedFirst (spelled sheet_rows spelling) always
+    ((col 1 0, ascending) ∷ [])
 unfolding resolving
 attributes_first_plan spelling schema at h = rw (h.stored, h.by_tree) refl
 
-pub attributes_first : IsNext attribute_shape attribute_shown (λ x. x.id) (codes "SELECT * FROM sheet_rows ORDER BY id LIMIT 1") [] (λ x. true)
-attributes_first = record { test = _; by = _; selects = attributes_first_text; planned = attributes_first_plan; given = refl; pass = _; listed = _; is = λ spelling. refl; shows = λ v x. refl; passing = λ v x. refl; keyed = λ v x. refl }
+pub attributes_first : IsNext attribute_shape attribute_shown (λ x. x.id)
+    (codes "SELECT * FROM sheet_rows ORDER BY id LIMIT 1") [] (λ x. true)
+attributes_first = record {
+  test = _;
+  by = _;
+  selects = attributes_first_text;
+  planned =
+      attributes_first_plan;
+  given = refl;
+  pass = _;
+  listed = _;
+  is = λ spelling. refl;
+  shows = λ v x. refl;
+  passing =
+      λ v x. refl;
+  keyed = λ v x. refl;
+}
 
-attributes_after_text : (spelling : Spelling) → IsFirst (codes "SELECT * FROM sheet_rows WHERE id > ?1 ORDER BY id LIMIT 1") (spelled sheet_rows spelling) (compares Gt 0 0) ((col 1 0, ascending) ∷ [])
+attributes_after_text : (spelling : Spelling) → IsFirst (codes
+    "SELECT * FROM sheet_rows WHERE id > ?1 ORDER BY id LIMIT 1") (spelled sheet_rows spelling) (compares Gt 0 0)
+    ((col 1 0, ascending) ∷ [])
 unfolding everything
 attributes_after_text spelling = record {
   parse = _;
@@ -159,9 +247,25 @@ attributes_after_text spelling = record {
   sorted = λ schema at. (_, refl, refl);
 }
 
-attributes_after_plan : (spelling : Spelling) → IsPlannedFirst (spelled sheet_rows spelling) (compares Gt 0 0) ((col 1 0, ascending) ∷ [])
+attributes_after_plan : (spelling : Spelling) → IsPlannedFirst (spelled sheet_rows spelling) (compares Gt 0 0)
+    ((col 1 0, ascending) ∷ [])
 unfolding resolving
 attributes_after_plan spelling schema at h = rw (h.stored, h.by_tree) refl
 
-pub attributes_after : (id : ℤ) → IsNext attribute_shape attribute_shown (λ x. x.id) (codes "SELECT * FROM sheet_rows WHERE id > ?1 ORDER BY id LIMIT 1") (Int id ∷ []) (λ x. is_gt (int_cmp x.id id))
-attributes_after id = record { test = _; by = _; selects = attributes_after_text; planned = attributes_after_plan; given = refl; pass = _; listed = _; is = λ spelling. refl; shows = λ v x. refl; passing = λ v x. above_number x.id id; keyed = λ v x. refl }
+pub attributes_after : (id : ℤ) → IsNext attribute_shape attribute_shown (λ x. x.id)
+    (codes "SELECT * FROM sheet_rows WHERE id > ?1 ORDER BY id LIMIT 1") (Int id ∷ []) (λ x. is_gt (int_cmp x.id id))
+attributes_after id = record {
+  test = _;
+  by = _;
+  selects = attributes_after_text;
+  planned =
+      attributes_after_plan;
+  given = refl;
+  pass = _;
+  listed = _;
+  is = λ spelling. refl;
+  shows = λ v x. refl;
+  passing =
+      λ v x. above_number x.id id;
+  keyed = λ v x. refl;
+}

@@ -12,8 +12,11 @@ use Rattle.std.proofs.lemmas.List.Folds.{list_any_none, list_any_at}
 use Rattle.std.proofs.lemmas.List.Sorted.{searchable_from_sorted}
 
 -- found where some key is equal, and only there
-pub searched_any : {K : Type 0} {R : K → K → Ordering} → IsTotalOrder R → (xs : List K) (x : K) (r : Result ℕ ℕ) → IsSorted R xs → IsSearchInRange r (length xs) → IsBinarySearchResult (λ y. R y x) xs r → is_ok r ≡ list_any (λ k. eq_by_cmp R k x) xs
-searched_any {R = R} order xs x (Ok i) sorted within found = sym (list_any_at (λ k. eq_by_cmp R k x) xs i x within (ap is_eq (found x)))
+pub searched_any : {K : Type 0} {R : K → K → Ordering} → IsTotalOrder R → (xs : List K) (x : K) (r : Result ℕ ℕ)
+    → IsSorted R xs → IsSearchInRange r (length xs) → IsBinarySearchResult (λ y. R y x) xs r
+    → is_ok r ≡ list_any (λ k. eq_by_cmp R k x) xs
+searched_any {R = R} order xs x (Ok i) sorted within found =
+    sym (list_any_at (λ k. eq_by_cmp R k x) xs i x within (ap is_eq (found x)))
 searched_any {K} {R} order xs x (Err i) sorted within found = sym (list_any_none (λ k. eq_by_cmp R k x) xs none)
   where
     parts : IsPartitionPoint (λ y. R y x ≡ Less) (λ y. R y x ≡ Greater) xs i

@@ -26,48 +26,65 @@ first b = sym (or-false (b || false) ∙ or-false b)
 last : (b : Bool) → b ≡ (b || false)
 last b = sym (or-false b)
 
-pub tile_row : (kind number : ℤ) (t : Tables) → kind ≡ pos 1 → list_any (λ r. int_eq r.id number) t.tiles ≡ has_row kind number t
-tile_row kind number t e = subst (λ k. list_any (λ r. int_eq r.id number) t.tiles ≡ has_row k number t) (sym e) (first (list_any (λ r. int_eq r.id number) t.tiles))
+pub tile_row : (kind number : ℤ) (t : Tables) → kind ≡ pos 1
+    → list_any (λ r. int_eq r.id number) t.tiles ≡ has_row kind number t
+tile_row kind number t e = subst (λ k. list_any (λ r. int_eq r.id number) t.tiles ≡ has_row k number t) (sym e)
+    (first (list_any (λ r. int_eq r.id number) t.tiles))
 
-pub medium_row : (kind number : ℤ) (t : Tables) → kind ≡ pos 2 → list_any (λ r. int_eq r.id number) t.media ≡ has_row kind number t
-medium_row kind number t e = subst (λ k. list_any (λ r. int_eq r.id number) t.media ≡ has_row k number t) (sym e) (last (list_any (λ r. int_eq r.id number) t.media))
+pub medium_row : (kind number : ℤ) (t : Tables) → kind ≡ pos 2
+    → list_any (λ r. int_eq r.id number) t.media ≡ has_row kind number t
+medium_row kind number t e = subst (λ k. list_any (λ r. int_eq r.id number) t.media ≡ has_row k number t) (sym e)
+    (last (list_any (λ r. int_eq r.id number) t.media))
 
-pub attributes_row : (kind number : ℤ) (t : Tables) → kind ≡ pos 3 → list_any (λ r. int_eq r.id number) t.rows ≡ has_row kind number t
-attributes_row kind number t e = subst (λ k. list_any (λ r. int_eq r.id number) t.rows ≡ has_row k number t) (sym e) refl
+pub attributes_row : (kind number : ℤ) (t : Tables) → kind ≡ pos 3
+    → list_any (λ r. int_eq r.id number) t.rows ≡ has_row kind number t
+attributes_row kind number t e = subst (λ k. list_any (λ r. int_eq r.id number) t.rows ≡ has_row k number t) (sym e)
+    refl
 
 -- ---- the ends of mapping rows
 
 -- where rows have identities and identities rows, a kind and a number have a row where they have an identity
-row_taken : (t : Tables) → RowsHaveIdentities t → (kind number : ℤ) → has_row kind number t ≡ true → is_taken kind number t ≡ true
+row_taken : (t : Tables) → RowsHaveIdentities t → (kind number : ℤ) → has_row kind number t ≡ true
+    → is_taken kind number t ≡ true
 row_taken t named kind number h = elim (which kind number t h) [
-  | inl e ↦ let y = any_at (λ x. int_eq x.id number) t.tiles e.1 in from (pos 1) y.0.id e.0 (int_same y.0.id number y.2) (All-In (λ r. is_taken (pos 1) r.id t ≡ true) y.0 t.tiles named.tiles y.1)
+  | inl e ↦ let y = any_at (λ x. int_eq x.id number) t.tiles e.1 in from (pos 1) y.0.id e.0
+      (int_same y.0.id number y.2) (All-In (λ r. is_taken (pos 1) r.id t ≡ true) y.0 t.tiles named.tiles y.1)
   | inr other ↦ elim other [
-    | inl e ↦ let y = any_at (λ x. int_eq x.id number) t.media e.1 in from (pos 2) y.0.id e.0 (int_same y.0.id number y.2) (All-In (λ r. is_taken (pos 2) r.id t ≡ true) y.0 t.media named.media y.1)
-    | inr e ↦ let y = any_at (λ x. int_eq x.id number) t.rows e.1 in from (pos 3) y.0.id e.0 (int_same y.0.id number y.2) (All-In (λ r. is_taken (pos 3) r.id t ≡ true) y.0 t.rows named.rows y.1)
+    | inl e ↦ let y = any_at (λ x. int_eq x.id number) t.media e.1 in from (pos 2) y.0.id e.0
+        (int_same y.0.id number y.2) (All-In (λ r. is_taken (pos 2) r.id t ≡ true) y.0 t.media named.media y.1)
+    | inr e ↦ let y = any_at (λ x. int_eq x.id number) t.rows e.1 in from (pos 3) y.0.id e.0
+        (int_same y.0.id number y.2) (All-In (λ r. is_taken (pos 3) r.id t ≡ true) y.0 t.rows named.rows y.1)
   ]
 ]
   where
     from : (k n : ℤ) → kind ≡ k → n ≡ number → is_taken k n t ≡ true → is_taken kind number t ≡ true
     from k n e g taken = subst (λ x. is_taken x number t ≡ true) (sym e) (subst (λ x. is_taken k x t ≡ true) g taken)
 
-taken_row : (t : Tables) → AllByRecursion (λ r. has_row r.kind r.local_id t ≡ true) t.identities → (kind number : ℤ) → is_taken kind number t ≡ true → has_row kind number t ≡ true
+taken_row : (t : Tables) → AllByRecursion (λ r. has_row r.kind r.local_id t ≡ true) t.identities → (kind number : ℤ)
+    → is_taken kind number t ≡ true → has_row kind number t ≡ true
 taken_row t there kind number h =
     let r = any_at (λ x. int_eq x.kind kind && int_eq x.local_id number) t.identities h in
     let both = and_parts (int_eq r.0.kind kind) (int_eq r.0.local_id number) r.2 in
     let row = All-In (λ x. has_row x.kind x.local_id t ≡ true) r.0 t.identities there r.1 in
-    subst (λ n. has_row kind n t ≡ true) (int_same r.0.local_id number both.1) (subst (λ k. has_row k r.0.local_id t ≡ true) (int_same r.0.kind kind both.0) row)
+    subst (λ n. has_row kind n t ≡ true) (int_same r.0.local_id number both.1)
+    (subst (λ k. has_row k r.0.local_id t ≡ true) (int_same r.0.kind kind both.0) row)
 
-pub pairs_tied : (t : Tables) → AllByRecursion (λ r. has_row r.kind r.local_id t ≡ true) t.identities → (m : Mapping) → PairsHaveIdentities m t → AllByRecursion (λ r. has_ends m t r ≡ true) (mapping_rows m t)
+pub pairs_tied : (t : Tables) → AllByRecursion (λ r. has_row r.kind r.local_id t ≡ true) t.identities → (m : Mapping)
+    → PairsHaveIdentities m t → AllByRecursion (λ r. has_ends m t r ≡ true) (mapping_rows m t)
 pairs_tied t there m h = All-weaker _ _ (λ r e.
-    let both = and_parts (is_taken (pos (kind_number (base_kind m))) r.base_id t) (is_taken (pos (kind_number (other_kind m))) r.related_id t) e in
+    let both = and_parts (is_taken (pos (kind_number (base_kind m))) r.base_id t)
+    (is_taken (pos (kind_number (other_kind m))) r.related_id t) e in
     and_from _ _ (taken_row t there _ r.base_id both.0) (taken_row t there _ r.related_id both.1)) (mapping_rows m t) h
 
-pairs_named : (t : Tables) → RowsHaveIdentities t → (m : Mapping) → AllByRecursion (λ r. has_ends m t r ≡ true) (mapping_rows m t) → PairsHaveIdentities m t
+pairs_named : (t : Tables) → RowsHaveIdentities t → (m : Mapping)
+    → AllByRecursion (λ r. has_ends m t r ≡ true) (mapping_rows m t) → PairsHaveIdentities m t
 pairs_named t named m h = All-weaker _ _ (λ r e.
-    let both = and_parts (has_row (pos (kind_number (base_kind m))) r.base_id t) (has_row (pos (kind_number (other_kind m))) r.related_id t) e in
+    let both = and_parts (has_row (pos (kind_number (base_kind m))) r.base_id t)
+    (has_row (pos (kind_number (other_kind m))) r.related_id t) e in
     and_from _ _ (row_taken t named _ r.base_id both.0) (row_taken t named _ r.related_id both.1)) (mapping_rows m t) h
 
-pub all_tied : (t : Tables) → RowsHaveIdentities t → AllByRecursion (λ r. has_row r.kind r.local_id t ≡ true) t.identities → AllPairsHaveIdentities t → AreTied t
+pub all_tied : (t : Tables) → RowsHaveIdentities t → AllByRecursion (λ r. has_row r.kind r.local_id t ≡ true)
+    t.identities → AllPairsHaveIdentities t → AreTied t
 all_tied t named there pairs = record {
   tiles = named.tiles;
   media = named.media;

@@ -29,4 +29,6 @@ pub record HoldsItems (f : Frame) (t : Tables) : Type 0 where
 
 -- The tables of a formed database do, where the frame is good and their rows are in range, tied and unique.
 abbrev pub SaysWhatItHolds : Type 0
-SaysWhatItHolds = (f : Frame) (db : Database) → is_good_frame f ≡ true → AreFormed db → AreItemsInRange f (tables_of db) → AreTied (tables_of db) → AreUnique (tables_of db) → HoldsItems f (tables_of db)
+SaysWhatItHolds = (f : Frame) (db : Database) → is_good_frame f ≡ true → AreFormed db
+    → AreItemsInRange f (tables_of db) → AreTied (tables_of db) → AreUnique (tables_of db)
+    → HoldsItems f (tables_of db)

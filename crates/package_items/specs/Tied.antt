@@ -1,4 +1,5 @@
--- Whether rows and identities of a store belong together, and mapping rows to both (OGC 18-000, user-defined mapping tables; identities are profile); and what the UNIQUE constraints of the tables exclude.
+-- Whether rows and identities of a store belong together, and mapping rows to both (OGC 18-000, user-defined mapping
+-- tables; identities are profile); and what the UNIQUE constraints of the tables exclude.
 use Rattle.std.specs.Prelude.{◌≡◌, ℤ, pos, Bool, true, ◌&&◌, ◌||◌, bytes_eq}
 use Rattle.std.specs.List.{AllByRecursion, IsDistinct, list_any}
 use Rattle.std.specs.Ordering.{int_eq}
@@ -20,7 +21,8 @@ has_row kind number t =
 
 -- both numbers of a mapping row are those of rows, each of the table that the mapping relates
 abbrev pub has_ends : Mapping → Tables → MappingRow → Bool
-has_ends m t r = has_row (pos (kind_number (base_kind m))) r.base_id t && has_row (pos (kind_number (other_kind m))) r.related_id t
+has_ends m t r = has_row (pos (kind_number (base_kind m))) r.base_id t && has_row (pos (kind_number (other_kind m)))
+    r.related_id t
 
 -- each row has an identity, each identity a row, and each mapping row the rows of its numbers
 pub record AreTied (t : Tables) : Type 0 where
@@ -43,7 +45,8 @@ is_same_uuid a b = bytes_eq a.uuid b.uuid
 
 -- two tiles in one place
 abbrev pub is_same_place : TileRow → TileRow → Bool
-is_same_place a b = int_eq a.zoom_level b.zoom_level && int_eq a.tile_column b.tile_column && int_eq a.tile_row b.tile_row
+is_same_place a b = int_eq a.zoom_level b.zoom_level && int_eq a.tile_column b.tile_column && int_eq a.tile_row
+    b.tile_row
 
 -- no identity, no place and no pair is there twice
 pub record AreUnique (t : Tables) : Type 0 where

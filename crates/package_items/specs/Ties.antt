@@ -37,7 +37,8 @@ pub record AreKeysOf (t : Tables) (keys : TieKeys) : Type 0 where
 
 -- both numbers of a mapping row are among these, each with the kind that the mapping relates
 abbrev pub has_names : List (ℤ × ℤ) → Mapping → MappingRow → Bool
-has_names names m r = has_key names (pos (kind_number (base_kind m)), r.base_id) && has_key names (pos (kind_number (other_kind m)), r.related_id)
+has_names names m r = has_key names (pos (kind_number (base_kind m)), r.base_id) && has_key names
+    (pos (kind_number (other_kind m)), r.related_id)
 
 -- ---- the same of tables
 
@@ -49,7 +50,8 @@ pub record RowsHaveIdentities (t : Tables) : Type 0 where
 
 -- both numbers of a mapping row have identities, each of the kind that the mapping relates
 abbrev pub has_identities : Mapping → Tables → MappingRow → Bool
-has_identities m t r = is_taken (pos (kind_number (base_kind m))) r.base_id t && is_taken (pos (kind_number (other_kind m))) r.related_id t
+has_identities m t r = is_taken (pos (kind_number (base_kind m))) r.base_id t && is_taken
+    (pos (kind_number (other_kind m))) r.related_id t
 
 abbrev pub PairsHaveIdentities : Mapping → Tables → Type 0
 PairsHaveIdentities m t = AllByRecursion (λ r. has_identities m t r ≡ true) (mapping_rows m t)

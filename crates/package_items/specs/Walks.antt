@@ -14,7 +14,8 @@ use Rattle.package_tables.specs.Mappings.{mapping_rows}
 use Rattle.package_tables.specs.Package.{Tables}
 use Rattle.identity_register.specs.Gathered.{tile_placed, medium_placed, attributes_placed}
 use Rattle.identity_register.specs.declared.whole.Placed.{Placed}
-use Rattle.package_items.specs.Ranges.{is_local, is_tile_in_range, is_medium_in_range, is_row_in_range, is_pair_in_range}
+use Rattle.package_items.specs.Ranges.{is_local, is_tile_in_range, is_medium_in_range, is_row_in_range}
+use Rattle.package_items.specs.Ranges.{is_pair_in_range}
 use Rattle.package_items.specs.declared.user_tables.UserTable.{UserTable}
 use Rattle.package_items.specs.declared.user_tables.UserTable.TheVariants.{TileTable, MediaTable, RowTable}
 

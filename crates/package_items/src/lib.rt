@@ -1,4 +1,5 @@
-//! Whether tiles, media, attribute rows, identities and mapping rows of a store that may be damaged are in their ranges and belong together, and what they then say.
+//! Whether tiles, media, attribute rows, identities and mapping rows of a store that may be damaged
+//! are in their ranges and belong together, and what they then say.
 #![tactic(auto)]
 
 pub mod laws;

@@ -21,7 +21,8 @@ fn tile_past<S: Alter>(
     last: Option<i64>,
 ) -> Result<Option<TileRow>, Fault>
     requires { Rests (state S.Store conn.old) }
-    ensures { LooksUp (λ t. IsLeast (λ x. x.id) (filter (λ x. is_past last x.id) t.tiles)) (state S.Store conn.old) (state S.Store conn.new) result }
+    ensures { LooksUp (λ t. IsLeast (λ x. x.id) (filter (λ x. is_past last x.id) t.tiles)) (state S.Store conn.old)
+        (state S.Store conn.new) result }
 {
     match last {
         None => first_of(conn.query_all("SELECT * FROM sheet_tiles ORDER BY id LIMIT 1", &[])),
@@ -38,7 +39,8 @@ fn medium_past<S: Alter>(
     last: Option<i64>,
 ) -> Result<Option<MediaRow>, Fault>
     requires { Rests (state S.Store conn.old) }
-    ensures { LooksUp (λ t. IsLeast (λ x. x.id) (filter (λ x. is_past last x.id) t.media)) (state S.Store conn.old) (state S.Store conn.new) result }
+    ensures { LooksUp (λ t. IsLeast (λ x. x.id) (filter (λ x. is_past last x.id) t.media)) (state S.Store conn.old)
+        (state S.Store conn.new) result }
 {
     match last {
         None => first_of(conn.query_all("SELECT * FROM sheet_media ORDER BY id LIMIT 1", &[])),
@@ -55,7 +57,8 @@ fn attributes_past<S: Alter>(
     last: Option<i64>,
 ) -> Result<Option<AttributeRow>, Fault>
     requires { Rests (state S.Store conn.old) }
-    ensures { LooksUp (λ t. IsLeast (λ x. x.id) (filter (λ x. is_past last x.id) t.rows)) (state S.Store conn.old) (state S.Store conn.new) result }
+    ensures { LooksUp (λ t. IsLeast (λ x. x.id) (filter (λ x. is_past last x.id) t.rows)) (state S.Store conn.old)
+        (state S.Store conn.new) result }
 {
     match last {
         None => first_of(conn.query_all("SELECT * FROM sheet_rows ORDER BY id LIMIT 1", &[])),

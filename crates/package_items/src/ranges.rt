@@ -1,4 +1,5 @@
-//! Whether the rows of items and links are in their ranges. An error is want of memory, or a store that failed; the store holds what it held.
+//! Whether the rows of items and links are in their ranges. An error is want of memory, or a store
+//! that failed; the store holds what it held.
 ghost use Rattle.std.specs.Prelude.{◌≡◌, ◌==◌, pos, true, IsTrue};
 ghost use Rattle.std.specs.List.{AllByRecursion, list_all, list_any};
 ghost use Rattle.sqlite.specs.Held.{state};
@@ -7,8 +8,10 @@ ghost use Rattle.sheet_types.specs.Matrix.{is_good_frame, is_within};
 ghost use Rattle.sheet_types.specs.Refuse.{is_printable};
 ghost use Rattle.package_tables.specs.Calls.{LooksUp};
 ghost use Rattle.package_items.specs.Answers.{Decides};
-ghost use Rattle.package_items.specs.Ranges.{AreItemsInRange, IsIdentityInRange, IsUuidText, is_local, is_pair_in_range};
-ghost use Rattle.package_items.specs.Walks.{is_content_in_range, is_placed_in_range, AreUserRowsInRange, ArePairsIn, ArePairsInRange, AreRowsInRange};
+ghost use Rattle.package_items.specs.Ranges.{AreItemsInRange, IsIdentityInRange, IsUuidText, is_local};
+ghost use Rattle.package_items.specs.Ranges.{is_pair_in_range};
+ghost use Rattle.package_items.specs.Walks.{is_content_in_range, is_placed_in_range, AreUserRowsInRange, ArePairsIn};
+ghost use Rattle.package_items.specs.Walks.{ArePairsInRange, AreRowsInRange};
 
 use crate::next_rows::next_row;
 use crate::user_tables::UserTable;
@@ -48,7 +51,8 @@ fn has_line_feed(text: &str) -> bool
     text.as_bytes().iter().any(|byte| *byte == b'\n')
 }
 
-/// Whether a tile has a place in the frame, a content type is printable, a point lies in the frame and its label has no line feed.
+/// Whether a tile has a place in the frame, a content type is printable, a point lies in the frame
+/// and its label has no line feed.
 fn is_content_in_range(frame: &Frame, content: &Content) -> bool
     requires { IsTrue (is_good_frame frame.now) }
     ensures { result ≡ is_content_in_range frame.now content.now }
@@ -83,7 +87,8 @@ fn rows_in_range<S: Alter>(
 ) -> Result<bool, Fault>
     requires rests { Rests (state S.Store conn.old) }
     requires good { IsTrue (is_good_frame frame.now) }
-    ensures { LooksUp (λ t. Decides (AreRowsInRange frame.now table t)) (state S.Store conn.old) (state S.Store conn.new) result }
+    ensures { LooksUp (λ t. Decides (AreRowsInRange frame.now table t)) (state S.Store conn.old)
+        (state S.Store conn.new) result }
 {
     let mut last = None;
     for _ in 0..u64::MAX {
@@ -104,7 +109,8 @@ fn rows_in_range<S: Alter>(
 fn user_rows_in_range<S: Alter>(conn: &mut Connection<S>, frame: &Frame) -> Result<bool, Fault>
     requires rests { Rests (state S.Store conn.old) }
     requires good { IsTrue (is_good_frame frame.now) }
-    ensures { LooksUp (λ t. Decides (AreUserRowsInRange frame.now t)) (state S.Store conn.old) (state S.Store conn.new) result }
+    ensures { LooksUp (λ t. Decides (AreUserRowsInRange frame.now t)) (state S.Store conn.old)
+        (state S.Store conn.new) result }
 {
     if !rows_in_range(conn, UserTable::TileTable, frame)? {
         return Ok(false);
@@ -157,7 +163,8 @@ fn are_identities_in_range(rows: &[IdentityRow]) -> bool
 /// Whether the identity rows of the store are in their ranges.
 fn identities_in_range<S: Alter>(conn: &mut Connection<S>, alloc: Global) -> Result<bool, Fault>
     requires { Rests (state S.Store conn.old) }
-    ensures { LooksUp (λ t. Decides (AllByRecursion IsIdentityInRange t.identities)) (state S.Store conn.old) (state S.Store conn.new) result }
+    ensures { LooksUp (λ t. Decides (AllByRecursion IsIdentityInRange t.identities)) (state S.Store conn.old)
+        (state S.Store conn.new) result }
 {
     let rows = all_identities(conn, alloc)?;
     Ok(are_identities_in_range(&rows))
@@ -209,7 +216,8 @@ fn all_pairs_in_range<S: Alter>(conn: &mut Connection<S>, alloc: Global) -> Resu
     pairs_in_range(conn, Mapping::RowsTiles, alloc)
 }
 
-/// Whether the rows of tiles, media, attributes, identities and mappings are all in their ranges. Contents are read one at a time.
+/// Whether the rows of tiles, media, attributes, identities and mappings are all in their ranges.
+/// Contents are read one at a time.
 pub fn are_in_range<S: Alter>(
     conn: &mut Connection<S>,
     alloc: Global,
@@ -217,7 +225,8 @@ pub fn are_in_range<S: Alter>(
 ) -> Result<bool, Fault>
     requires rests { Rests (state S.Store conn.old) }
     requires good { IsTrue (is_good_frame frame.now) }
-    ensures { LooksUp (λ t. Decides (AreItemsInRange frame.now t)) (state S.Store conn.old) (state S.Store conn.new) result }
+    ensures { LooksUp (λ t. Decides (AreItemsInRange frame.now t)) (state S.Store conn.old) (state S.Store conn.new)
+        result }
 {
     if !user_rows_in_range(conn, frame)? {
         return Ok(false);

@@ -1,4 +1,6 @@
-//! Whether rows, identities and mapping rows belong together: their numbers are read, a statement a table, and compared in memory. An error is want of memory, or a store that failed; the store holds what it held.
+//! Whether rows, identities and mapping rows belong together: their numbers are read, a statement a
+//! table, and compared in memory. An error is want of memory, or a store that failed; the store
+//! holds what it held.
 ghost use Rattle.std.specs.Prelude.{◌≡◌, ◌++◌, pos, map, true, IfOk, IsPermutation, IsSorted};
 ghost use Rattle.std.specs.List.{AllByRecursion};
 ghost use Rattle.sqlite.specs.Held.{state};
@@ -22,7 +24,8 @@ use sheet_types::command::Mapping;
 use sqlite::{Alter, Connection};
 use std::alloc::Global;
 
-/// All by which a store's tables are tied: the kinds and numbers of its identities and of its rows, and its mapping rows.
+/// All by which a store's tables are tied: the kinds and numbers of its identities and of its rows,
+/// and its mapping rows.
 #[derive(Drop)]
 struct TieKeys {
     names: Vec<(i64, i64)>,
@@ -43,7 +46,8 @@ fn names_of(alloc: Global, rows: Vec<IdentityRow>) -> Result<Vec<(i64, i64)>, Fa
 /// The kinds and numbers of all identities.
 fn read_names<S: Alter>(conn: &mut Connection<S>, alloc: Global) -> Result<Vec<(i64, i64)>, Fault>
     requires { Rests (state S.Store conn.old) }
-    ensures { LooksUp (λ t names. IsPermutation (map name_key t.identities) names.items) (state S.Store conn.old) (state S.Store conn.new) result }
+    ensures { LooksUp (λ t names. IsPermutation (map name_key t.identities) names.items) (state S.Store conn.old)
+        (state S.Store conn.new) result }
 {
     let rows = all_identities(conn, alloc)?;
     names_of(alloc, rows)
@@ -56,7 +60,8 @@ fn keys_of(
     media: Vec<i64>,
     rows: Vec<i64>,
 ) -> Result<Vec<(i64, i64)>, Fault>
-    ensures { IfOk result (λ keys. keys.items ≡ map (λ n. (pos 1, n)) tiles.items ++ map (λ n. (pos 2, n)) media.items ++ map (λ n. (pos 3, n)) rows.items) }
+    ensures { IfOk result (λ keys. keys.items ≡ map (λ n. (pos 1, n)) tiles.items ++ map (λ n. (pos 2, n)) media.items
+        ++ map (λ n. (pos 3, n)) rows.items) }
 {
     let tiles = tiles.into_iter().map(|number| (TILE, number));
     let media = media.into_iter().map(|number| (MEDIUM, number));
@@ -67,7 +72,8 @@ fn keys_of(
 /// The kinds and numbers of all rows of the user tables.
 fn read_rows<S: Alter>(conn: &mut Connection<S>, alloc: Global) -> Result<Vec<(i64, i64)>, Fault>
     requires { Rests (state S.Store conn.old) }
-    ensures { LooksUp (λ t keys. IsPermutation (row_keys t) keys.items) (state S.Store conn.old) (state S.Store conn.new) result }
+    ensures { LooksUp (λ t keys. IsPermutation (row_keys t) keys.items) (state S.Store conn.old)
+        (state S.Store conn.new) result }
 {
     let tiles = tile_ids(conn, alloc)?;
     let media = medium_ids(conn, alloc)?;
@@ -134,7 +140,9 @@ fn are_tied_by(keys: TieKeys) -> bool
     rows_have_names & names_have_rows & tiles_media & rows_media & rows_tiles
 }
 
-/// Whether each row of the user tables has an identity, each identity a row, and each mapping row the rows of its numbers. What is compared is in memory: two numbers a row, an identity and a mapping row.
+/// Whether each row of the user tables has an identity, each identity a row, and each mapping row
+/// the rows of its numbers. What is compared is in memory: two numbers a row, an identity and a
+/// mapping row.
 pub fn are_tied<S: Alter>(conn: &mut Connection<S>, alloc: Global) -> Result<bool, Fault>
     requires { Rests (state S.Store conn.old) }
     ensures { LooksUp (λ t. Decides (AreTied t)) (state S.Store conn.old) (state S.Store conn.new) result }

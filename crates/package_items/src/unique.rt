@@ -1,4 +1,6 @@
-//! What the UNIQUE constraints of the tables exclude, seen for itself before anything rests on it. An error is want of memory, or a store that failed or in which something is there twice; the store holds what it held.
+//! What the UNIQUE constraints of the tables exclude, seen for itself before anything rests on it.
+//! An error is want of memory, or a store that failed or in which something is there twice; the
+//! store holds what it held.
 ghost use Rattle.std.specs.Prelude.{◌≡◌, map, true, IfOk};
 ghost use Rattle.std.specs.BTreeSet.{IsFromIterResult};
 ghost use Rattle.std.specs.List.{IsDistinct};
@@ -117,7 +119,8 @@ fn see_mapping<S: Alter>(
     alloc: Global,
 ) -> Result<(), Fault>
     requires { Rests (state S.Store conn.old) }
-    ensures { LooksUp (λ t _. IsDistinct is_pair (mapping_rows mapping t)) (state S.Store conn.old) (state S.Store conn.new) result }
+    ensures { LooksUp (λ t _. IsDistinct is_pair (mapping_rows mapping t)) (state S.Store conn.old)
+        (state S.Store conn.new) result }
 {
     let pairs = all_pairs(conn, mapping, alloc)?;
     see_pairs(alloc, &pairs)
@@ -194,7 +197,8 @@ fn see_spots(alloc: Global, spots: &[Spot]) -> Result<(), Fault>
 /// Sees that no two tiles of the store are in one place. Their data are in memory one at a time.
 fn see_places<S: Alter>(conn: &mut Connection<S>, alloc: Global) -> Result<(), Fault>
     requires { Rests (state S.Store conn.old) }
-    ensures { LooksUp (λ t _. IsDistinct is_same_place t.tiles) (state S.Store conn.old) (state S.Store conn.new) result }
+    ensures { LooksUp (λ t _. IsDistinct is_same_place t.tiles) (state S.Store conn.old) (state S.Store conn.new)
+        result }
 {
     let mut spots = Vec::new(alloc);
     let mut last = None;

@@ -16,7 +16,8 @@ ascending-right R (x ∷ xs) ys up = ascending-right R xs ys up.1
 pub filter-append : {A : Type 0} (p : A → Bool) (xs ys : List A) → filter p (xs ++ ys) ≡ filter p xs ++ filter p ys
 filter-append p [] ys = refl
 filter-append p (x ∷ xs) ys =
-    elim (p x) as (λ b. cond b (x ∷ filter p (xs ++ ys)) (filter p (xs ++ ys)) ≡ cond b (x ∷ filter p xs) (filter p xs) ++ filter p ys) [
+    elim (p x) as (λ b. cond b (x ∷ filter p (xs ++ ys)) (filter p (xs ++ ys))
+    ≡ cond b (x ∷ filter p xs) (filter p xs) ++ filter p ys) [
       | true ↦ ap (λ l. x ∷ l) (filter-append p xs ys)
       | false ↦ filter-append p xs ys
     ]
@@ -28,7 +29,8 @@ pub int_eq_itself : (a : ℤ) → int_eq a a ≡ true
 int_eq_itself a = (signed_Decides a a).1 refl
 
 pub int_eq_apart : (a b : ℤ) → (a ≡ b → ⊥) → int_eq a b ≡ false
-int_eq_apart a b differ = elim (int_eq a b) as (λ v. int_eq a b ≡ v → v ≡ false) [ true ↦ λ e. absurd (differ (int_eq_at a b e)) | false ↦ λ e. refl ] refl
+int_eq_apart a b differ = elim (int_eq a b) as (λ v. int_eq a b ≡ v → v ≡ false)
+    [ true ↦ λ e. absurd (differ (int_eq_at a b e)) | false ↦ λ e. refl ] refl
 
 -- ---- two lists that rise and have each number equally often are one
 
@@ -41,18 +43,33 @@ least x z (w ∷ l) h n =
       | false ↦ λ e. least x z l h.1 (omega (arith, n, count-cons (int_eq z) w l false e))
     ] refl
 
-same_counts : (xs ys : List ℤ) → IsAscending (λ a b. a ≤ℤ b) xs → IsAscending (λ a b. a ≤ℤ b) ys → ((z : ℤ) → count_by (int_eq z) xs ≡ count_by (int_eq z) ys) → xs ≡ ys
+same_counts : (xs ys : List ℤ) → IsAscending (λ a b. a ≤ℤ b) xs → IsAscending (λ a b. a ≤ℤ b) ys
+    → ((z : ℤ) → count_by (int_eq z) xs ≡ count_by (int_eq z) ys) → xs ≡ ys
 same_counts [] [] a b n = refl
 same_counts [] (y ∷ ys) a b n = absurd (omega (arith, n y, count-cons (int_eq y) y ys true (int_eq_itself y)))
 same_counts (x ∷ xs) [] a b n = absurd (omega (arith, n x, count-cons (int_eq x) x xs true (int_eq_itself x)))
 same_counts (x ∷ xs) (y ∷ ys) a b n =
     let own : x ≤ℤ x = omega (arith, ints) in
     let own' : y ≤ℤ y = omega (arith, ints) in
-    let up : x ≤ℤ y = least x y (x ∷ xs) (own, a.0) (omega (arith, n y, count-cons (int_eq y) y ys true (int_eq_itself y))) in
-    let down : y ≤ℤ x = least y x (y ∷ ys) (own', b.0) (omega (arith, n x, count-cons (int_eq x) x xs true (int_eq_itself x))) in
+    let up : x ≤ℤ y = least x y (x ∷ xs) (own, a.0) (omega (
+      arith,
+      n y,
+      count-cons (int_eq y) y ys true
+          (int_eq_itself y),
+    )) in
+    let down : y ≤ℤ x = least y x (y ∷ ys) (own', b.0) (omega
+    (arith, n x, count-cons (int_eq x) x xs true (int_eq_itself x))) in
     let e : x ≡ y = omega (arith, ints, up, down) in
-    let rest : xs ≡ ys = same_counts xs ys a.1 b.1 (λ z. omega (arith, n z, count-cons (int_eq z) x xs (int_eq z y) (ap (int_eq z) e), count-cons (int_eq z) y ys (int_eq z y) refl)) in
+    let rest : xs ≡ ys = same_counts xs ys a.1 b.1 (λ z. omega (
+      arith,
+      n z,
+      count-cons (int_eq z) x xs (int_eq z y) (ap (int_eq z) e),
+      count-cons (int_eq z) y ys
+          (int_eq z y) refl,
+    )) in
     λ k. e k ∷ rest k
 
-pub same_sorted : (xs ys : List ℤ) → IsAscending (λ a b. a ≤ℤ b) xs → IsAscending (λ a b. a ≤ℤ b) ys → IsPermutation xs ys → xs ≡ ys
-same_sorted xs ys a b moved = same_counts xs ys a b (λ z. sym (sum_by-IsPermutation (λ y. cond (int_eq z y) 1 0) xs ys moved))
+pub same_sorted : (xs ys : List ℤ) → IsAscending (λ a b. a ≤ℤ b) xs → IsAscending (λ a b. a ≤ℤ b) ys
+    → IsPermutation xs ys → xs ≡ ys
+same_sorted xs ys a b moved = same_counts xs ys a b (λ z. sym
+    (sum_by-IsPermutation (λ y. cond (int_eq z y) 1 0) xs ys moved))

@@ -1,5 +1,6 @@
 -- What rows in their ranges say. Profile.
-use Rattle.std.specs.Prelude.{◌≡◌, ◌⊎◌, ℕ, ◌+◌, ℤ, ◌<ℤ◌, ◌≤ℤ◌, Bool, true, not, ◌&&◌, pos, if◌then◌else◌, List, [], ◌∷◌, map, flat_map, IsPermutation}
+use Rattle.std.specs.Prelude.{◌≡◌, ◌⊎◌, ℕ, ◌+◌, ℤ, ◌<ℤ◌, ◌≤ℤ◌, Bool, true, not, ◌&&◌, pos, if◌then◌else◌, List, []}
+use Rattle.std.specs.Prelude.{◌∷◌, map, flat_map, IsPermutation}
 use Rattle.std.specs.List.{AllByRecursion, enumerate_from}
 use Rattle.sqlite_trees.specs.Tree.{IsAscending}
 use Rattle.sheet_types.specs.Ordered.{IsArranged}
@@ -39,7 +40,8 @@ pub record HasSums (row : ReceiptRow) (s : Sums) : Type 0 where
 -- Rows in their ranges stand under this number at this place and those after it, in turn.
 abbrev pub StandFrom : ℤ → ℕ → List MovedRow → Type 0
 StandFrom seq n [] = Unit {0}
-StandFrom seq n (row ∷ rows) = IsMovedInRange row × (row.seq ≡ seq) × (row.position ≡ pos n) × StandFrom seq (n + 1) rows
+StandFrom seq n (row ∷ rows) = IsMovedInRange row × (row.seq ≡ seq) × (row.position ≡ pos n)
+    × StandFrom seq (n + 1) rows
 
 -- the rows of things under a number, at this place and those after it
 abbrev pub things_rows : ℤ → ℕ → List Moved → List MovedRow
@@ -93,4 +95,6 @@ pub record AreSaid (t : Tables) (entered : List Receipt) : Type 0 where
 
 -- Rows of both tables, in order and in their ranges, are those of some receipts.
 abbrev pub RowsSayReceipts : Type 0
-RowsSayReceipts = (receipts : List ReceiptRow) (moved : List MovedRow) → IsAscending IsEarlier receipts → IsAscending InTurn moved → AreReceiptsInRange receipts moved → (entered : List Receipt) × AreReceipts receipts moved entered
+RowsSayReceipts = (receipts : List ReceiptRow) (moved : List MovedRow) → IsAscending IsEarlier receipts
+    → IsAscending InTurn moved → AreReceiptsInRange receipts moved → (entered : List Receipt)
+    × AreReceipts receipts moved entered

@@ -1,4 +1,5 @@
-//! The receipts of a store that may be damaged: whether its rows of receipts, and of what they moved, are in their ranges, and the receipts that they then say.
+//! The receipts of a store that may be damaged: whether its rows of receipts, and of what they
+//! moved, are in their ranges, and the receipts that they then say.
 #![tactic(auto)]
 
 pub mod laws;
@@ -44,7 +45,8 @@ fn in_turn(mut moved: Vec<MovedRow>) -> Vec<MovedRow>
     moved
 }
 
-/// The receipts that rows say, which stand in the order of the receipts' numbers; `None` where the rows are not in their ranges.
+/// The receipts that rows say, which stand in the order of the receipts' numbers; `None` where the
+/// rows are not in their ranges.
 fn receipts_in(
     alloc: Global,
     rows: Vec<ReceiptRow>,
@@ -60,7 +62,9 @@ fn receipts_in(
     receipts_of(alloc, rows.into_iter(), &moved)
 }
 
-/// The receipts of a store at rest whose tables have their form, in the order of their numbers; `None` where its rows of receipts, and of what they moved, are not in their ranges. Each of the two tables is read once; their rows are in memory.
+/// The receipts of a store at rest whose tables have their form, in the order of their numbers;
+/// `None` where its rows of receipts, and of what they moved, are not in their ranges. Each of the
+/// two tables is read once; their rows are in memory.
 ///
 /// # Errors
 ///
@@ -70,21 +74,24 @@ pub fn receipts<S: Alter>(
     alloc: Global,
 ) -> Result<Option<Vec<Receipt>>, Fault>
     requires { Rests (state S.Store conn.old) }
-    ensures { LooksUp (λ t found. MatchOption found (AreReceiptsInRange t.receipts t.moved → ⊥) (λ entered. AreSaid t entered.items)) (state S.Store conn.old) (state S.Store conn.new) result }
+    ensures { LooksUp (λ t found. MatchOption found (AreReceiptsInRange t.receipts t.moved → ⊥)
+        (λ entered. AreSaid t entered.items)) (state S.Store conn.old) (state S.Store conn.new) result }
 {
     let rows = all_receipts(conn, alloc)?;
     let moved = all_moved(conn, alloc)?;
     receipts_in(alloc, rows, moved)
 }
 
-/// Whether the rows of receipts, and of what they moved, are in their ranges, of a store at rest whose tables have their form.
+/// Whether the rows of receipts, and of what they moved, are in their ranges, of a store at rest
+/// whose tables have their form.
 ///
 /// # Errors
 ///
 /// Those of `receipts`.
 pub fn are_in_range<S: Alter>(conn: &mut Connection<S>, alloc: Global) -> Result<bool, Fault>
     requires { Rests (state S.Store conn.old) }
-    ensures { LooksUp (λ t answer. IsTrue answer ↔ AreReceiptsInRange t.receipts t.moved) (state S.Store conn.old) (state S.Store conn.new) result }
+    ensures { LooksUp (λ t answer. IsTrue answer ↔ AreReceiptsInRange t.receipts t.moved) (state S.Store conn.old)
+        (state S.Store conn.new) result }
 {
     let found = receipts(conn, alloc)?;
     Ok(found.is_some())

@@ -7,7 +7,8 @@ ghost use Rattle.sheet_types.specs.Lines.{IsUuid, is_bytes};
 ghost use Rattle.sheet_types.specs.Reading.{optional_uuid_text};
 ghost use Rattle.sheet_types.specs.Texts.{is_moment, uuid_text};
 ghost use Rattle.identity_register.specs.Reads.{IsFitReceipt, is_fit_end, is_fit_moved, receipt_row};
-ghost use Rattle.package_receipts.specs.Ranges.{AreCounts, IsUuidText, IsEndText, IsDigestText, IsReceiptInRange, IsMovedInRange, is_item_number, is_seq};
+ghost use Rattle.package_receipts.specs.Ranges.{AreCounts, IsUuidText, IsEndText, IsDigestText, IsReceiptInRange};
+ghost use Rattle.package_receipts.specs.Ranges.{IsMovedInRange, is_item_number, is_seq};
 ghost use Rattle.package_receipts.specs.Read.{HasSums, IsThingOf, has_parts};
 
 use identity_register::fitting::fits;
@@ -181,7 +182,8 @@ struct Named {
 }
 
 /// What a row names; `None` where its number, its moment or a name is out of its range.
-// What is read of a row stands in values that need no drop, so that the row and its things are alive at two exits alone.
+// What is read of a row stands in values that need no drop, so that the row and its things are
+// alive at two exits alone.
 fn named_by(row: &ReceiptRow) -> Option<Named>
     ensures seq { IfSome result (λ named. row.now.seq ≡ pos named.seq) }
     ensures request { IfSome result (λ named. row.now.request ≡ uuid_text named.request) }

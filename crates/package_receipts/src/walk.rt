@@ -1,5 +1,6 @@
 //! All rows of receipts, and of what they moved, in the order of the receipts' numbers and of the places.
-ghost use Rattle.std.specs.Prelude.{◌≡◌, ◌+◌, ◌<◌, ◌≤◌, ◌<ℤ◌, ◌≤ℤ◌, ◌↔◌, pos, take, length, slice_index_or, IsTrue, IfOk, IfSome, IfNone};
+ghost use Rattle.std.specs.Prelude.{◌≡◌, ◌+◌, ◌<◌, ◌≤◌, ◌<ℤ◌, ◌≤ℤ◌, ◌↔◌, pos, take, length, slice_index_or, IsTrue};
+ghost use Rattle.std.specs.Prelude.{IfOk, IfSome, IfNone};
 ghost use Rattle.std.specs.List.{AllByRecursion};
 ghost use Rattle.std.specs.Vec.Iter.{into_iter_items, into_iter_len};
 ghost use Rattle.sqlite_trees.specs.Tree.{IsAscending};
@@ -22,7 +23,8 @@ fn stands_at(row: &MovedRow, seq: i64, place: usize) -> bool
     row.seq == seq && row.position >= 0 && row.position as u64 == place as u64
 }
 
-/// The things of rows that stand under a number at 0 and the places after it; `None` where a row does not, or is out of its ranges.
+/// The things of rows that stand under a number at 0 and the places after it; `None` where a row
+/// does not, or is out of its ranges.
 // The ends are read here, since the borrow checker plans a loop over the types alone that its body names.
 fn things_of(alloc: Global, seq: i64, rows: &[MovedRow]) -> Result<Option<MovedList>, Fault>
     ensures some { IfOk result (λ found. IfSome found (AreThingsOf seq rows.now)) }
@@ -48,7 +50,8 @@ fn things_of(alloc: Global, seq: i64, rows: &[MovedRow]) -> Result<Option<MovedL
     Ok(Some(MovedList::from_vec(things)))
 }
 
-/// The receipt of a row and of the rows of what it moved; `None` where a row is out of its ranges, or does not stand at its place.
+/// The receipt of a row and of the rows of what it moved; `None` where a row is out of its ranges,
+/// or does not stand at its place.
 fn receipt_at(alloc: Global, row: ReceiptRow, moved: &[MovedRow]) -> Result<Option<Receipt>, Fault>
     ensures some { IfOk result (λ found. IfSome found (IsReceiptAt row moved.now)) }
     ensures none { IfOk result (λ found. IfNone found (IsReceiptInRange row → StandFrom row.seq 0 moved.now → ⊥)) }
@@ -82,7 +85,8 @@ pub(crate) fn receipts_of(
     requires long { into_iter_len rows ≡ length (into_iter_items rows) }
     requires rising { IsAscending IsEarlier (into_iter_items rows) }
     requires order { IsAscending InTurn moved.now }
-    ensures some { IfOk result (λ found. IfSome found (λ entered. AreReceipts (into_iter_items rows) moved.now entered.items)) }
+    ensures some { IfOk result (λ found. IfSome found (λ entered. AreReceipts (into_iter_items rows) moved.now
+        entered.items)) }
     ensures none { IfOk result (λ found. IfNone found (AreReceiptsInRange (into_iter_items rows) moved.now → ⊥)) }
 {
     let mut entered = Vec::new(alloc);

@@ -13,7 +13,11 @@ pub all_pass : {X : Type 0} (xs : List X) → filter (λ x. true) xs ≡ xs
 all_pass [] = refl
 all_pass (x ∷ xs) = ap (λ l. x ∷ l) (all_pass xs)
 
-pub dated_moved : (rows found : List ContentsRow) (b : Bool) → AreThose (λ x. true) rows found → (IsTrue b ↔ AllByRecursion HasMoment found) → IsTrue b ↔ AllByRecursion HasMoment rows
+pub dated_moved : (rows found : List ContentsRow) (b : Bool) → AreThose (λ x. true) rows found
+    → (IsTrue b ↔ AllByRecursion HasMoment found) → IsTrue b ↔ AllByRecursion HasMoment rows
 dated_moved rows found b those h =
-    let moves : IsPermutation rows found = subst (λ l. IsPermutation l found) (all_pass rows) those in
-    (λ yes. all-permutation HasMoment found rows (IsPermutation-sym rows found moves) (h.0 yes), λ all. h.1 (all-permutation HasMoment rows found moves all))
+    let moves : IsPermutation rows found = subst (λ l. IsPermutation l found) (all_pass rows) those in (
+      λ yes. all-permutation HasMoment found rows (IsPermutation-sym rows found moves) (h.0 yes),
+      λ all. h.1
+          (all-permutation HasMoment rows found moves all),
+    )

@@ -1,5 +1,6 @@
 -- A row that its table lets in, and that has no NULL, is one of values of the columns' kinds.
-use Rattle.std.proofs.Common.{◌≡◌, ℕ, suc, ◌+◌, List, [], ◌∷◌, Bool, true, false, Option, Some, None, refl, ap, subst, ◌∙◌, arith, drop}
+use Rattle.std.proofs.Common.{◌≡◌, ℕ, suc, ◌+◌, List, [], ◌∷◌, Bool, true, false, Option, Some, None, refl, ap, subst}
+use Rattle.std.proofs.Common.{◌∙◌, arith, drop}
 use Rattle.std.specs.Prelude.{not, ◌&&◌, ◌||◌, if◌then◌else◌}
 use Rattle.std.proofs.lemmas.Bool.{true≢false, false≢true, and_parts}
 use Rattle.sqlite.specs.Order.{Row, column}
@@ -14,7 +15,8 @@ use Rattle.sqlite_schema.specs.Rules.{is_of, has_affinity, suits, are_typed, are
 use Rattle.sqlite_schema.specs.declared.schema.Column.{Column}
 use Rattle.sqlite_schema.specs.declared.schema.Kind.{Kind}
 use Rattle.sqlite_schema.specs.declared.schema.Kind.TheVariants as kind
-use Rattle.package_schema.specs.Rows.{is_kept, are_kept, as_kind, as_columns, as_rowid, as_row, are_filled, is_filled, ends_otherwise, are_needed}
+use Rattle.package_schema.specs.Rows.{is_kept, are_kept, as_kind, as_columns, as_rowid, as_row, are_filled, is_filled}
+use Rattle.package_schema.specs.Rows.{ends_otherwise, are_needed}
 
 -- a value of a kind
 of_kind : (k : Kind) (v : Value) → is_kept k ≡ true → is_of k v ≡ true → is_null v ≡ false → as_kind k v ≡ v
@@ -48,19 +50,23 @@ not_true true h = absurd (false≢true h)
 not_true false h = refl
 
 -- the value of one column
-value_is : (key : Option ℕ) (at : ℕ) (c : Column) (v : Value) → (c.is_strict && is_kept c.kind) ≡ true → (if is_key key at then is_null v else suits c v) ≡ true → (is_key key at || not (is_null v)) ≡ true
+value_is : (key : Option ℕ) (at : ℕ) (c : Column) (v : Value) → (c.is_strict && is_kept c.kind) ≡ true
+    → (if is_key key at then is_null v else suits c v) ≡ true → (is_key key at || not (is_null v)) ≡ true
     → (if is_key key at then Null else as_kind c.kind v) ≡ v
 value_is key at c v kept typed filled = one (is_key key at) typed filled
   where
-    one : (b : Bool) → (if b then is_null v else suits c v) ≡ true → (b || not (is_null v)) ≡ true → (if b then Null else as_kind c.kind v) ≡ v
+    one : (b : Bool) → (if b then is_null v else suits c v) ≡ true → (b || not (is_null v)) ≡ true
+        → (if b then Null else as_kind c.kind v) ≡ v
     one true t f = is_nothing v t
     one false t f =
         let both = and_parts c.is_strict (is_kept c.kind) kept in
-        let of : is_of c.kind v ≡ true = subst (λ s. (if s then is_of c.kind v else has_affinity c.kind v) ≡ true) both.0 t in
+        let of : is_of c.kind v ≡ true = subst (λ s. (if s then is_of c.kind v else has_affinity c.kind v) ≡ true)
+        both.0 t in
         of_kind c.kind v both.1 of (not_true (is_null v) f)
 
 -- a row that lacks its last columns has a NULL
-short : (key : Option ℕ) (at : ℕ) (c : Column) (cs : List Column) (r : Row) → ((k : ℕ) → column r (at + 1 + k) ≡ Null) → ends_otherwise key at (c ∷ cs) ≡ true → are_filled key at (c ∷ cs) r ≡ true → ⊥
+short : (key : Option ℕ) (at : ℕ) (c : Column) (cs : List Column) (r : Row) → ((k : ℕ) → column r (at + 1 + k) ≡ Null)
+    → ends_otherwise key at (c ∷ cs) ≡ true → are_filled key at (c ∷ cs) r ≡ true → ⊥
 short key at c [] r none ends filled =
     let here : column r (at + 1) ≡ Null = ap (column r) (omega arith) ∙ none 0 in
     let f = (and_parts _ _ filled).0 in
@@ -71,13 +77,17 @@ short key at c [] r none ends filled =
     one true e h = true≢false e
     one false e h = false≢true h
 short key at c (d ∷ cs) r none ends filled =
-    short key (at + 1) d cs r (λ k. let e : (at + 1) + 1 + k ≡ at + 1 + suc k = omega arith in ap (column r) e ∙ none (suc k)) ends (and_parts _ _ filled).1
+    short key (at + 1) d cs r (λ k. let e : (at + 1) + 1 + k ≡ at + 1 + suc k =
+    omega arith in ap (column r) e ∙ none (suc k)) ends (and_parts _ _ filled).1
 
-rest_ends : (key : Option ℕ) (at : ℕ) (c : Column) (cs : List Column) → ends_otherwise key at (c ∷ cs) ≡ true → ends_otherwise key (at + 1) cs ≡ true
+rest_ends : (key : Option ℕ) (at : ℕ) (c : Column) (cs : List Column) → ends_otherwise key at (c ∷ cs) ≡ true
+    → ends_otherwise key (at + 1) cs ≡ true
 rest_ends key at c [] h = refl
 rest_ends key at c (d ∷ cs) h = h
 
-columns_are : (key : Option ℕ) (at : ℕ) (cs : List Column) (r vs : Row) → ((k : ℕ) → column r (at + 1 + k) ≡ column vs k) → are_kept cs ≡ true → ends_otherwise key at cs ≡ true → are_typed key at cs vs ≡ true → are_filled key at cs r ≡ true
+columns_are : (key : Option ℕ) (at : ℕ) (cs : List Column) (r vs : Row)
+    → ((k : ℕ) → column r (at + 1 + k) ≡ column vs k) → are_kept cs ≡ true → ends_otherwise key at cs ≡ true
+    → are_typed key at cs vs ≡ true → are_filled key at cs r ≡ true
     → as_columns key at cs r ≡ vs
 columns_are key at [] r [] same kept ends typed filled = refl
 columns_are key at [] r (v ∷ vs) same kept ends typed filled = absurd (false≢true typed)
@@ -87,9 +97,11 @@ columns_are key at (c ∷ cs) r (v ∷ vs) same kept ends typed filled =
     let k = and_parts (c.is_strict && is_kept c.kind) (are_kept cs) kept in
     let t = and_parts (if is_key key at then is_null v else suits c v) (are_typed key (at + 1) cs vs) typed in
     let f = and_parts (is_key key at || not (is_null (column r (at + 1)))) (are_filled key (at + 1) cs r) filled in
-    let g : (is_key key at || not (is_null v)) ≡ true = subst (λ w. (is_key key at || not (is_null w)) ≡ true) here f.0 in
+    let g : (is_key key at || not (is_null v)) ≡ true = subst (λ w. (is_key key at || not (is_null w)) ≡ true) here
+    f.0 in
     let first = ap (λ w. if is_key key at then Null else as_kind c.kind w) here ∙ value_is key at c v k.0 t.0 g in
-    let more = columns_are key (at + 1) cs r vs (λ n. let e : (at + 1) + 1 + n ≡ at + 1 + suc n = omega arith in ap (column r) e ∙ same (suc n)) k.1 (rest_ends key at c cs ends) t.1 f.1 in
+    let more = columns_are key (at + 1) cs r vs (λ n. let e : (at + 1) + 1 + n ≡ at + 1 + suc n =
+    omega arith in ap (column r) e ∙ same (suc n)) k.1 (rest_ends key at c cs ends) t.1 f.1 in
     ap (λ w. w ∷ as_columns key (at + 1) cs r) first ∙ ap (λ l. v ∷ l) more
 
 rowid_is : (key : Option ℕ) (w : Value) (vs : Row) → is_int w ≡ true → as_rowid key (w ∷ vs) ≡ w
@@ -101,19 +113,25 @@ rowid_is (Some at) (Text t) vs h = absurd (false≢true h)
 rowid_is (Some at) (Blob b) vs h = absurd (false≢true h)
 
 -- the whole row
-pub row_is : (t : Table) (r : Row) → are_kept t.columns ≡ true → ends_otherwise t.key 0 t.columns ≡ true → is_int (rowid r) ≡ true → are_typed t.key 0 t.columns (drop 1 r) ≡ true → is_filled t r ≡ true → as_row t r ≡ r
+pub row_is : (t : Table) (r : Row) → are_kept t.columns ≡ true → ends_otherwise t.key 0 t.columns ≡ true
+    → is_int (rowid r) ≡ true → are_typed t.key 0 t.columns (drop 1 r) ≡ true → is_filled t r ≡ true → as_row t r ≡ r
 row_is t [] kept ends int typed filled = absurd (false≢true int)
 row_is t (w ∷ vs) kept ends int typed filled =
     ap (λ v. v ∷ as_columns t.key 0 t.columns (w ∷ vs)) (rowid_is t.key w vs int)
-    ∙ ap (λ l. w ∷ l) (columns_are t.key 0 t.columns (w ∷ vs) vs (λ k. let e : 0 + 1 + k ≡ suc k = omega arith in ap (column (w ∷ vs)) e) kept ends typed filled)
+    ∙ ap (λ l. w ∷ l) (columns_are t.key 0 t.columns (w ∷ vs) vs
+    (λ k. let e : 0 + 1 + k ≡ suc k = omega arith in ap (column (w ∷ vs)) e) kept ends typed filled)
 
 -- where each column has to have a value, a row that the table lets in has no NULL
-pub needed_filled : (key : Option ℕ) (at : ℕ) (cs : List Column) (r : Row) → are_needed key at cs ≡ true → are_present key at cs r ≡ true → are_filled key at cs r ≡ true
+pub needed_filled : (key : Option ℕ) (at : ℕ) (cs : List Column) (r : Row) → are_needed key at cs ≡ true
+    → are_present key at cs r ≡ true → are_filled key at cs r ≡ true
 needed_filled key at [] r needed present = refl
 needed_filled key at (c ∷ cs) r needed present =
     let n = and_parts (is_key key at || c.not_null) (are_needed key (at + 1) cs) needed in
-    let p = and_parts (is_key key at || not c.not_null || not (is_null (column r (at + 1)))) (are_present key (at + 1) cs r) present in
-    both (is_key key at || not (is_null (column r (at + 1)))) (are_filled key (at + 1) cs r) (one (is_key key at) c.not_null (not (is_null (column r (at + 1)))) n.0 p.0) (needed_filled key (at + 1) cs r n.1 p.1)
+    let p = and_parts (is_key key at || not c.not_null || not (is_null (column r (at + 1))))
+    (are_present key (at + 1) cs r) present in
+    both (is_key key at || not (is_null (column r (at + 1)))) (are_filled key (at + 1) cs r)
+    (one (is_key key at) c.not_null (not (is_null (column r (at + 1)))) n.0 p.0)
+    (needed_filled key (at + 1) cs r n.1 p.1)
   where
     one : (a b c : Bool) → (a || b) ≡ true → (a || not b || c) ≡ true → (a || c) ≡ true
     one true b c h k = refl

@@ -7,18 +7,25 @@ use Rattle.sqlite.specs.Effect.{Database, IsDatabase}
 use Rattle.store_sql.specs.Writing.{AreKeyed}
 use Rattle.package_tables.specs.Package.{AreFormed}
 use Rattle.package_tables.specs.Shape.{Shape, stored_rows}
-use Rattle.package_tables.specs.Shapes.{spatial_ref_sys_shape, contents_shape, tile_matrix_set_shape, tile_matrix_shape, relation_shape, tile_shape, medium_shape, attribute_shape, tiles_media_shape, rows_media_shape, rows_tiles_shape, head_shape, identity_shape, receipt_shape, moved_shape}
+use Rattle.package_tables.specs.Shapes.{spatial_ref_sys_shape, contents_shape, tile_matrix_set_shape}
+use Rattle.package_tables.specs.Shapes.{tile_matrix_shape, relation_shape, tile_shape, medium_shape, attribute_shape}
+use Rattle.package_tables.specs.Shapes.{tiles_media_shape, rows_media_shape, rows_tiles_shape, head_shape}
+use Rattle.package_tables.specs.Shapes.{identity_shape, receipt_shape, moved_shape}
 use Rattle.package_schema.specs.Forms.{HasFirstForm}
 use Rattle.package_schema.specs.Placing.{AreAllPlaced, AreFirstPlaced}
 use Rattle.package_schema.specs.Rows.{is_filled, AreFilled}
 use Rattle.package_schema.proofs.Forming.{formed_filled, formed_needed, filled_formed}
-use Rattle.package_schema.proofs.Plain.{systems_plain, contents_plain, matrix_sets_plain, matrices_plain, relations_plain, tiles_plain, media_plain, attributes_plain, tiles_media_plain, rows_media_plain, rows_tiles_plain, heads_plain, identities_plain, receipts_plain, moved_plain}
+use Rattle.package_schema.proofs.Plain.{systems_plain, contents_plain, matrix_sets_plain, matrices_plain}
+use Rattle.package_schema.proofs.Plain.{relations_plain, tiles_plain, media_plain, attributes_plain}
+use Rattle.package_schema.proofs.Plain.{tiles_media_plain, rows_media_plain, rows_tiles_plain, heads_plain}
+use Rattle.package_schema.proofs.Plain.{identities_plain, receipts_plain, moved_plain}
 
 -- no row of the table has a NULL
 abbrev pub HasValues : {R : Type 0} → Shape R → Database → Type 0
 HasValues shape db = AllByRecursion (λ r. is_filled (shape.table 0) r ≡ true) (stored_rows shape db)
 
-pub all_formed : (db : Database) → IsDatabase db → AreKeyed db → AreAllPlaced db.schema → HasValues spatial_ref_sys_shape db → HasValues contents_shape db → AreFormed db
+pub all_formed : (db : Database) → IsDatabase db → AreKeyed db → AreAllPlaced db.schema
+    → HasValues spatial_ref_sys_shape db → HasValues contents_shape db → AreFormed db
 all_formed db sound keyed placed systems contents = record {
   sound = sound;
   quiet = placed.0;
@@ -57,20 +64,29 @@ contents_values db f = filled_formed contents_shape contents_plain db f.contents
 
 -- the tables were looked for, and then the reference systems
 abbrev pub Tried : Bool → Bool → Database → Type 0
-Tried placed filled db = (IsDatabase db × (IsTrue placed ↔ AreAllPlaced db.schema)) × (AreKeyed db → AreFilled spatial_ref_sys_shape db filled)
+Tried placed filled db = (IsDatabase db × (IsTrue placed ↔ AreAllPlaced db.schema))
+    × (AreKeyed db → AreFilled spatial_ref_sys_shape db filled)
 
-pub not_filled : (db : Database) (placed filled : Bool) → Tried placed filled db → filled ≡ false → AreKeyed db → (IsTrue false ↔ AreFormed db)
-not_filled db placed filled tried is keyed = (λ h. absurd (false≢true h), λ formed. absurd (false≢true (sym is ∙ (tried.1 keyed formed.spatial_ref_sys.placed).1 (systems_values db formed))))
+pub not_filled : (db : Database) (placed filled : Bool) → Tried placed filled db → filled ≡ false → AreKeyed db
+    → (IsTrue false ↔ AreFormed db)
+not_filled db placed filled tried is keyed = (
+  λ h. absurd (false≢true h),
+  λ formed. absurd
+      (false≢true (sym is ∙ (tried.1 keyed formed.spatial_ref_sys.placed).1 (systems_values db formed))),
+)
 
-pub last_tells : (db : Database) (placed filled full : Bool) → Tried placed filled db → placed ≡ true → filled ≡ true → (AreKeyed db → AreFilled contents_shape db full) → AreKeyed db → (IsTrue full ↔ AreFormed db)
+pub last_tells : (db : Database) (placed filled full : Bool) → Tried placed filled db → placed ≡ true → filled ≡ true
+    → (AreKeyed db → AreFilled contents_shape db full) → AreKeyed db → (IsTrue full ↔ AreFormed db)
 last_tells db placed filled full tried there has last keyed = (
-  λ h. let all = tried.0.1.0 there in all_formed db tried.0.0 keyed all ((tried.1 keyed all.1.0).0 has) ((last keyed all.1.1).0 h),
+  λ h. let all = tried.0.1.0 there in all_formed db tried.0.0 keyed all ((tried.1 keyed all.1.0).0 has)
+      ((last keyed all.1.1).0 h),
   λ formed. (last keyed formed.contents.placed).1 (contents_values db formed),
 )
 
 -- ---- the first version
 
-pub first_formed : (db : Database) → IsDatabase db → AreKeyed db → AreFirstPlaced db.schema → HasValues spatial_ref_sys_shape db → HasValues contents_shape db → HasFirstForm db
+pub first_formed : (db : Database) → IsDatabase db → AreKeyed db → AreFirstPlaced db.schema
+    → HasValues spatial_ref_sys_shape db → HasValues contents_shape db → HasFirstForm db
 first_formed db sound keyed placed systems contents = (
   record {
     quiet = placed.0.0;
@@ -105,14 +121,22 @@ first_placed db (f, free) = (
 )
 
 abbrev pub TriedFirst : Bool → Bool → Database → Type 0
-TriedFirst placed filled db = (IsDatabase db × (IsTrue placed ↔ AreFirstPlaced db.schema)) × (AreKeyed db → AreFilled spatial_ref_sys_shape db filled)
+TriedFirst placed filled db = (IsDatabase db × (IsTrue placed ↔ AreFirstPlaced db.schema))
+    × (AreKeyed db → AreFilled spatial_ref_sys_shape db filled)
 
-pub first_not_filled : (db : Database) (placed filled : Bool) → TriedFirst placed filled db → filled ≡ false → AreKeyed db → (IsTrue false ↔ HasFirstForm db)
-first_not_filled db placed filled tried is keyed =
-    (λ h. absurd (false≢true h), λ formed. absurd (false≢true (sym is ∙ (tried.1 keyed formed.0.spatial_ref_sys.placed).1 (filled_formed spatial_ref_sys_shape systems_plain db formed.0.spatial_ref_sys))))
+pub first_not_filled : (db : Database) (placed filled : Bool) → TriedFirst placed filled db → filled ≡ false
+    → AreKeyed db → (IsTrue false ↔ HasFirstForm db)
+first_not_filled db placed filled tried is keyed = (
+  λ h. absurd (false≢true h),
+  λ formed. absurd (false≢true
+      (sym is ∙ (tried.1 keyed formed.0.spatial_ref_sys.placed).1
+      (filled_formed spatial_ref_sys_shape systems_plain db formed.0.spatial_ref_sys))),
+)
 
-pub first_tells : (db : Database) (placed filled full : Bool) → TriedFirst placed filled db → placed ≡ true → filled ≡ true → (AreKeyed db → AreFilled contents_shape db full) → AreKeyed db → (IsTrue full ↔ HasFirstForm db)
+pub first_tells : (db : Database) (placed filled full : Bool) → TriedFirst placed filled db → placed ≡ true
+    → filled ≡ true → (AreKeyed db → AreFilled contents_shape db full) → AreKeyed db → (IsTrue full ↔ HasFirstForm db)
 first_tells db placed filled full tried there has last keyed = (
-  λ h. let all = tried.0.1.0 there in first_formed db tried.0.0 keyed all ((tried.1 keyed all.0.1.0).0 has) ((last keyed all.0.1.1).0 h),
+  λ h. let all = tried.0.1.0 there in first_formed db tried.0.0 keyed all ((tried.1 keyed all.0.1.0).0 has)
+      ((last keyed all.0.1.1).0 h),
   λ formed. (last keyed formed.0.contents.placed).1 (filled_formed contents_shape contents_plain db formed.0.contents),
 )

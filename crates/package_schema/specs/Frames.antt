@@ -7,7 +7,8 @@ use Rattle.sheet_types.specs.Texts.{is_moment}
 use Rattle.sheet_types.specs.declared.frame.Frame.{Frame}
 use Rattle.package_tables.specs.Package.{Tables}
 use Rattle.package_tables.specs.Calls.{AreAll, AreThose}
-use Rattle.package_tables.specs.Fixed.{HasFixed, systems_of, contents_of, undated, matrix_set, levels_of, mapping_relations}
+use Rattle.package_tables.specs.Fixed.{HasFixed, systems_of, contents_of, undated, matrix_set, levels_of}
+use Rattle.package_tables.specs.Fixed.{mapping_relations}
 use Rattle.package_tables.specs.declared.rows.SpatialRefSysRow.{SpatialRefSysRow}
 use Rattle.package_tables.specs.declared.rows.ContentsRow.{ContentsRow}
 use Rattle.package_tables.specs.declared.rows.TileMatrixSetRow.{TileMatrixSetRow}

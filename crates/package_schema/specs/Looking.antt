@@ -13,6 +13,7 @@ Sees Says x old new = (new ≡ old) × Says old x
 abbrev pub SaysOf : {X : Type 0} → (Database → X → Type 0) → X → Database → Database → Type 0
 SaysOf Says x old new = (new ≡ old) × (AreKeyed old → Says old x)
 
--- The call answered this of any database. Whether it did or failed, the store is at rest and, where it is open, holds what it held.
+-- The call answered this of any database. Whether it did or failed, the store is at rest and, where it is open, holds
+-- what it held.
 abbrev pub LooksAt : {X E : Type 0} → (Database → X → Type 0) → State → State → Result X E → Type 0
 LooksAt Says old new result = Looks (SaysOf Says) old new result

@@ -1,5 +1,6 @@
 -- Which rows of a table its columns let in, and which of them stand for values.
-use Rattle.std.specs.Prelude.{◌≡◌, ℕ, ◌+◌, Bool, true, false, not, ◌&&◌, ◌||◌, if◌then◌else◌, List, [], ◌∷◌, Option, Some, None, IsTrue, ◌↔◌}
+use Rattle.std.specs.Prelude.{◌≡◌, ℕ, ◌+◌, Bool, true, false, not, ◌&&◌, ◌||◌, if◌then◌else◌, List, [], ◌∷◌, Option}
+use Rattle.std.specs.Prelude.{Some, None, IsTrue, ◌↔◌}
 use Rattle.std.specs.List.{AllByRecursion}
 use Rattle.sqlite.specs.Table.{Table}
 use Rattle.sqlite.specs.Effect.{Database}
@@ -37,7 +38,8 @@ as_kind _ v = Null
 -- the values from a column on, each as one of its kind; NULL stands where the rowid is the column
 abbrev pub as_columns : Option ℕ → ℕ → List Column → Row → Row
 as_columns key at [] r = []
-as_columns key at (c ∷ cs) r = (if is_key key at then Null else as_kind c.kind (column r (at + 1))) ∷ as_columns key (at + 1) cs r
+as_columns key at (c ∷ cs) r = (if is_key key at then Null else as_kind c.kind (column r (at + 1)))
+    ∷ as_columns key (at + 1) cs r
 
 abbrev pub as_rowid : Option ℕ → Row → Value
 as_rowid (Some at) r = Int (int_of (column r 0))
@@ -72,4 +74,5 @@ IsFull r = AllByRecursion (λ v. is_null v ≡ false) r
 
 -- whether no row of the table has a NULL, where the table is there
 abbrev pub AreFilled : {R : Type 0} → Shape R → Database → Bool → Type 0
-AreFilled shape db filled = IsPlaced db.schema shape.table → (IsTrue filled ↔ AllByRecursion (λ r. is_filled (shape.table 0) r ≡ true) (stored_rows shape db))
+AreFilled shape db filled = IsPlaced db.schema shape.table →
+    (IsTrue filled ↔ AllByRecursion (λ r. is_filled (shape.table 0) r ≡ true) (stored_rows shape db))

@@ -47,14 +47,16 @@ fn in_order(claims: Vec<StoreClaim>) -> Result<Vec<StoreClaim>, AllocError>
     Ok(sorted)
 }
 
-/// What the receipts of the store claim, in their ranges or not, where their table has its form; nothing in every other store.
+/// What the receipts of the store claim, in their ranges or not, where their table has its form;
+/// nothing in every other store.
 ///
 /// # Errors
 ///
 /// `OutOfMemory` where a growth was refused, and `StoreFault` where the store failed or a text is no UTF-8.
 pub fn claims<S: Alter>(conn: &mut Connection<S>, alloc: Global) -> Result<Vec<StoreClaim>, Fault>
     requires { Rests (state S.Store conn.old) }
-    ensures { LooksAt (λ db found. ReadsClaims db (map claim_said found.items)) (state S.Store conn.old) (state S.Store conn.new) result }
+    ensures { LooksAt (λ db found. ReadsClaims db (map claim_said found.items)) (state S.Store conn.old)
+        (state S.Store conn.new) result }
 {
     if !is_placed(conn, &RECEIPTS)? {
         return Ok(Vec::new(alloc));

@@ -1,4 +1,5 @@
-//! Which frame the fixed rows of a store of the first version are of, and whether they are dated. Each look asks for its own table alone.
+//! Which frame the fixed rows of a store of the first version are of, and whether they are dated.
+//! Each look asks for its own table alone.
 ghost use Rattle.std.specs.Prelude.{◌↔◌, pos, true, IsTrue};
 ghost use Rattle.std.specs.Ordering.{on, int_cmp};
 ghost use Rattle.sqlite.specs.Held.{state};
@@ -7,7 +8,8 @@ ghost use Rattle.package_tables.specs.Calls.{AreAll, AreThose};
 ghost use Rattle.package_tables.specs.Damaged.{AreFormedAt};
 ghost use Rattle.package_tables.specs.Package.{tables_of};
 ghost use Rattle.package_tables.specs.Shape.{rows_of, IsFormed};
-ghost use Rattle.package_tables.specs.Shapes.{contents_shape, relation_shape, spatial_ref_sys_shape, tile_matrix_set_shape, tile_matrix_shape};
+ghost use Rattle.package_tables.specs.Shapes.{contents_shape, relation_shape, spatial_ref_sys_shape};
+ghost use Rattle.package_tables.specs.Shapes.{tile_matrix_set_shape, tile_matrix_shape};
 ghost use Rattle.package_schema.specs.Frames.{AreDated, AreRead, ReadsFirstFrame};
 ghost use Rattle.package_schema.specs.Looking.{Sees};
 
@@ -29,7 +31,9 @@ fn read_systems<S: Alter>(
     alloc: Global,
 ) -> Result<Vec<SpatialRefSysRow>, Fault>
     requires { Rests (state S.Store conn.old) }
-    ensures { Looks (Sees (λ db found. IsFormed spatial_ref_sys_shape db → AreAll (on (λ x. x.srs_id) int_cmp) (rows_of spatial_ref_sys_shape db) found.items)) (state S.Store conn.old) (state S.Store conn.new) result }
+    ensures { Looks (Sees (λ db found. IsFormed spatial_ref_sys_shape db
+        → AreAll (on (λ x. x.srs_id) int_cmp) (rows_of spatial_ref_sys_shape db) found.items))
+        (state S.Store conn.old) (state S.Store conn.new) result }
 {
     all_of(
         alloc,
@@ -42,7 +46,9 @@ fn read_contents<S: Alter>(
     alloc: Global,
 ) -> Result<Vec<ContentsRow>, Fault>
     requires { Rests (state S.Store conn.old) }
-    ensures { Looks (Sees (λ db found. IsFormed contents_shape db → AreThose (λ _. true) (rows_of contents_shape db) found.items)) (state S.Store conn.old) (state S.Store conn.new) result }
+    ensures { Looks (Sees (λ db found. IsFormed contents_shape db
+        → AreThose (λ _. true) (rows_of contents_shape db) found.items)) (state S.Store conn.old)
+        (state S.Store conn.new) result }
 {
     all_of(
         alloc,
@@ -55,7 +61,9 @@ fn read_sets<S: Alter>(
     alloc: Global,
 ) -> Result<Vec<TileMatrixSetRow>, Fault>
     requires { Rests (state S.Store conn.old) }
-    ensures { Looks (Sees (λ db found. IsFormed tile_matrix_set_shape db → AreThose (λ _. true) (rows_of tile_matrix_set_shape db) found.items)) (state S.Store conn.old) (state S.Store conn.new) result }
+    ensures { Looks (Sees (λ db found. IsFormed tile_matrix_set_shape db
+        → AreThose (λ _. true) (rows_of tile_matrix_set_shape db) found.items)) (state S.Store conn.old)
+        (state S.Store conn.new) result }
 {
     all_of(
         alloc,
@@ -71,7 +79,9 @@ fn read_levels<S: Alter>(
     alloc: Global,
 ) -> Result<Vec<TileMatrixRow>, Fault>
     requires { Rests (state S.Store conn.old) }
-    ensures { Looks (Sees (λ db found. IsFormed tile_matrix_shape db → AreAll (on (λ x. x.zoom_level) int_cmp) (rows_of tile_matrix_shape db) found.items)) (state S.Store conn.old) (state S.Store conn.new) result }
+    ensures { Looks (Sees (λ db found. IsFormed tile_matrix_shape db
+        → AreAll (on (λ x. x.zoom_level) int_cmp) (rows_of tile_matrix_shape db) found.items))
+        (state S.Store conn.old) (state S.Store conn.new) result }
 {
     all_of(
         alloc,
@@ -84,7 +94,9 @@ fn read_relations<S: Alter>(
     alloc: Global,
 ) -> Result<Vec<RelationRow>, Fault>
     requires { Rests (state S.Store conn.old) }
-    ensures { Looks (Sees (λ db found. IsFormed relation_shape db → AreAll (on (λ x. x.id) int_cmp) (rows_of relation_shape db) found.items)) (state S.Store conn.old) (state S.Store conn.new) result }
+    ensures { Looks (Sees (λ db found. IsFormed relation_shape db
+        → AreAll (on (λ x. x.id) int_cmp) (rows_of relation_shape db) found.items)) (state S.Store conn.old)
+        (state S.Store conn.new) result }
 {
     all_of(
         alloc,
@@ -95,7 +107,8 @@ fn read_relations<S: Alter>(
 /// All rows of the tables that are the same in every package but for the frame.
 fn first_rows<S: Alter>(conn: &mut Connection<S>, alloc: Global) -> Result<FixedRows, Fault>
     requires { Rests (state S.Store conn.old) }
-    ensures { Looks (Sees (λ db found. AreFormedAt (pos 1) db → AreRead (tables_of db) found)) (state S.Store conn.old) (state S.Store conn.new) result }
+    ensures { Looks (Sees (λ db found. AreFormedAt (pos 1) db → AreRead (tables_of db) found))
+        (state S.Store conn.old) (state S.Store conn.new) result }
 {
     let systems = read_systems(conn, alloc)?;
     let listed = read_contents(conn, alloc)?;
@@ -111,7 +124,8 @@ fn first_rows<S: Alter>(conn: &mut Connection<S>, alloc: Global) -> Result<Fixed
     })
 }
 
-/// The frame whose fixed rows a store of the first version has, in a store whose fourteen tables have their form; none where there is no such frame.
+/// The frame whose fixed rows a store of the first version has, in a store whose fourteen tables
+/// have their form; none where there is no such frame.
 ///
 /// # Errors
 ///
@@ -121,7 +135,8 @@ pub fn read_first_frame<S: Alter>(
     alloc: Global,
 ) -> Result<Option<Frame>, Fault>
     requires { Rests (state S.Store conn.old) }
-    ensures { Looks (Sees (λ db found. AreFormedAt (pos 1) db → ReadsFirstFrame (tables_of db) found)) (state S.Store conn.old) (state S.Store conn.new) result }
+    ensures { Looks (Sees (λ db found. AreFormedAt (pos 1) db → ReadsFirstFrame (tables_of db) found))
+        (state S.Store conn.old) (state S.Store conn.new) result }
 {
     let found = first_rows(conn, alloc)?;
     Ok(frame_of(&found, alloc, Version::First)?)
@@ -134,7 +149,8 @@ pub fn read_first_frame<S: Alter>(
 /// Those of `read_first_frame`.
 pub fn is_dated<S: Alter>(conn: &mut Connection<S>, alloc: Global) -> Result<bool, Fault>
     requires { Rests (state S.Store conn.old) }
-    ensures { Looks (Sees (λ db dated. IsFormed contents_shape db → (IsTrue dated ↔ AreDated (tables_of db)))) (state S.Store conn.old) (state S.Store conn.new) result }
+    ensures { Looks (Sees (λ db dated. IsFormed contents_shape db → (IsTrue dated ↔ AreDated (tables_of db))))
+        (state S.Store conn.old) (state S.Store conn.new) result }
 {
     let rows = read_contents(conn, alloc)?;
     Ok(have_moments(&rows))

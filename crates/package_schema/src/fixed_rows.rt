@@ -1,7 +1,8 @@
 //! Whether rows are those that each package has of reference systems, contents and relations, in any order.
 ghost use Rattle.std.specs.Prelude.{◌≡◌, ◌↔◌, IsTrue, IfOk, IsPermutation, [], true};
 ghost use Rattle.std.specs.List.{list_any};
-ghost use Rattle.package_tables.specs.Fixed.{is_standard, system, systems_of, content, contents_of, undated, relation, mapping_relations};
+ghost use Rattle.package_tables.specs.Fixed.{is_standard, system, systems_of, content, contents_of, undated, relation};
+ghost use Rattle.package_tables.specs.Fixed.{mapping_relations};
 ghost use Rattle.package_schema.specs.Frames.{same_system, same_content, same_relation, relations_at};
 ghost use Rattle.package_v1.specs.FirstVersion.{first_relations};
 
@@ -136,7 +137,8 @@ fn has_relation(
     name: &str,
     mapping: &str,
 ) -> bool
-    ensures { result ≡ list_any (λ r. same_relation r (relation number base.now related.now name.now mapping.now)) rows.now }
+    ensures { result ≡ list_any (λ r. same_relation r (relation number base.now related.now name.now mapping.now))
+        rows.now }
 {
     rows.iter().any(|row| is_relation(row, number, base, related, name, mapping))
 }

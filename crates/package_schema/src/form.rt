@@ -45,7 +45,8 @@ fn are_full(rows: &[Row]) -> bool
 /// Whether no reference system has a NULL, which their columns would let in.
 fn are_systems_filled<S: Alter>(conn: &mut Connection<S>) -> Result<bool, Fault>
     requires { Rests (state S.Store conn.old) }
-    ensures { LooksAt (λ db filled. AreFilled spatial_ref_sys_shape db filled) (state S.Store conn.old) (state S.Store conn.new) result }
+    ensures { LooksAt (λ db filled. AreFilled spatial_ref_sys_shape db filled) (state S.Store conn.old)
+        (state S.Store conn.new) result }
 {
     let rows = conn.query_all("SELECT * FROM gpkg_spatial_ref_sys ORDER BY srs_id", &[])?;
     Ok(are_full(&rows))
@@ -54,13 +55,15 @@ fn are_systems_filled<S: Alter>(conn: &mut Connection<S>) -> Result<bool, Fault>
 /// Whether no row of the contents has a NULL, which their columns would let in.
 fn are_contents_filled<S: Alter>(conn: &mut Connection<S>) -> Result<bool, Fault>
     requires { Rests (state S.Store conn.old) }
-    ensures { LooksAt (λ db filled. AreFilled contents_shape db filled) (state S.Store conn.old) (state S.Store conn.new) result }
+    ensures { LooksAt (λ db filled. AreFilled contents_shape db filled) (state S.Store conn.old)
+        (state S.Store conn.new) result }
 {
     let rows = conn.query_all("SELECT * FROM gpkg_contents ORDER BY table_name", &[])?;
     Ok(are_full(&rows))
 }
 
-/// Whether the store has the fifteen tables of a package in their form, whatever else it has. The constraints that the columns of
+/// Whether the store has the fifteen tables of a package in their form, whatever else it has. The
+/// constraints that the columns of
 /// most of them have are kept by any store, so only two of them are read.
 ///
 /// # Errors
@@ -68,7 +71,8 @@ fn are_contents_filled<S: Alter>(conn: &mut Connection<S>) -> Result<bool, Fault
 /// `OutOfMemory` where a growth was refused, and `StoreFault` where the store failed.
 pub fn has_form<S: Alter>(conn: &mut Connection<S>) -> Result<bool, Fault>
     requires { Rests (state S.Store conn.old) }
-    ensures { LooksAt (λ db formed. IsTrue formed ↔ AreFormed db) (state S.Store conn.old) (state S.Store conn.new) result }
+    ensures { LooksAt (λ db formed. IsTrue formed ↔ AreFormed db) (state S.Store conn.old) (state S.Store conn.new)
+        result }
 {
     if !are_placed(conn)? {
         return Ok(false);
@@ -79,14 +83,16 @@ pub fn has_form<S: Alter>(conn: &mut Connection<S>) -> Result<bool, Fault>
     are_contents_filled(conn)
 }
 
-/// Whether the store has the fourteen tables of the first version in their form, and no object has a name that the second needs. No store has the form of both.
+/// Whether the store has the fourteen tables of the first version in their form, and no object has
+/// a name that the second needs. No store has the form of both.
 ///
 /// # Errors
 ///
 /// Those of `has_form`.
 pub fn has_first_form<S: Alter>(conn: &mut Connection<S>) -> Result<bool, Fault>
     requires { Rests (state S.Store conn.old) }
-    ensures { LooksAt (λ db formed. IsTrue formed ↔ HasFirstForm db) (state S.Store conn.old) (state S.Store conn.new) result }
+    ensures { LooksAt (λ db formed. IsTrue formed ↔ HasFirstForm db) (state S.Store conn.old) (state S.Store conn.new)
+        result }
 {
     if !are_first_placed(conn)? {
         return Ok(false);

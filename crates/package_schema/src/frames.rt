@@ -35,7 +35,8 @@ pub(crate) fn have_moments(rows: &[ContentsRow]) -> bool
     rows.iter().all(has_moment)
 }
 
-/// Whether the last change of each table has a moment (`last_change`, OGC GeoPackage 1.3, 1.1.3), in a store whose tables have their form.
+/// Whether the last change of each table has a moment (`last_change`, OGC GeoPackage 1.3, 1.1.3),
+/// in a store whose tables have their form.
 ///
 /// # Errors
 ///
@@ -67,7 +68,8 @@ fn read_rows<S: Alter>(conn: &mut Connection<S>, alloc: Global) -> Result<FixedR
     })
 }
 
-/// The frame whose fixed rows the store has, in a store whose tables have their form; none where there is no such frame (OGC GeoPackage 1.3: 1.1.2, 1.1.3, 2.2.6, 2.2.7; OGC 18-000, relations).
+/// The frame whose fixed rows the store has, in a store whose tables have their form; none where
+/// there is no such frame (OGC GeoPackage 1.3: 1.1.2, 1.1.3, 2.2.6, 2.2.7; OGC 18-000, relations).
 ///
 /// # Errors
 ///

@@ -12,7 +12,8 @@ ghost use Rattle.package_tables.specs.Calls.{AreAll};
 ghost use Rattle.package_tables.specs.Shape.{rows_of, IsFormed};
 ghost use Rattle.package_tables.specs.Shapes.{head_shape};
 ghost use Rattle.package_schema.specs.Looking.{Sees, LooksAt};
-ghost use Rattle.package_schema.specs.Heads.{head_said, version_number, IsLevel, IsMarked, IsHeadOfAt, IsHeadRowAt, ReadsHead, ReadsHeadAt};
+ghost use Rattle.package_schema.specs.Heads.{head_said, version_number, IsLevel, IsMarked, IsHeadOfAt, IsHeadRowAt};
+ghost use Rattle.package_schema.specs.Heads.{ReadsHead, ReadsHeadAt};
 
 use crate::own_forms::HEADS;
 use crate::placing::is_placed;
@@ -145,7 +146,9 @@ fn read_rows(rows: &[HeadRow], version: Version) -> Option<StoreHead>
 /// The rows of the table of heads, by their ids.
 fn head_rows<S: Alter>(conn: &mut Connection<S>, alloc: Global) -> Result<Vec<HeadRow>, Fault>
     requires { Rests (state S.Store conn.old) }
-    ensures { Looks (Sees (λ db found. IsFormed head_shape db → AreAll (on (λ x. x.id) int_cmp) (rows_of head_shape db) found.items)) (state S.Store conn.old) (state S.Store conn.new) result }
+    ensures { Looks (Sees (λ db found. IsFormed head_shape db
+        → AreAll (on (λ x. x.id) int_cmp) (rows_of head_shape db) found.items)) (state S.Store conn.old)
+        (state S.Store conn.new) result }
 {
     all_of(
         alloc,
@@ -153,7 +156,8 @@ fn head_rows<S: Alter>(conn: &mut Connection<S>, alloc: Global) -> Result<Vec<He
     )
 }
 
-/// Whose the store says that it is at this version, where its table of heads has its form and one row, in its ranges; none in every other store.
+/// Whose the store says that it is at this version, where its table of heads has its form and one
+/// row, in its ranges; none in every other store.
 ///
 /// # Errors
 ///
@@ -164,7 +168,8 @@ pub fn head_at<S: Alter>(
     version: Version,
 ) -> Result<Option<StoreHead>, Fault>
     requires { Rests (state S.Store conn.old) }
-    ensures { LooksAt (λ db found. ReadsHeadAt (version_number version) db (option_map head_said found)) (state S.Store conn.old) (state S.Store conn.new) result }
+    ensures { LooksAt (λ db found. ReadsHeadAt (version_number version) db (option_map head_said found))
+        (state S.Store conn.old) (state S.Store conn.new) result }
 {
     if !is_placed(conn, &HEADS)? {
         return Ok(None);
@@ -180,7 +185,8 @@ pub fn head_at<S: Alter>(
 /// Those of `head_at`.
 pub fn head<S: Alter>(conn: &mut Connection<S>, alloc: Global) -> Result<Option<StoreHead>, Fault>
     requires { Rests (state S.Store conn.old) }
-    ensures { LooksAt (λ db found. ReadsHead db (option_map head_said found)) (state S.Store conn.old) (state S.Store conn.new) result }
+    ensures { LooksAt (λ db found. ReadsHead db (option_map head_said found)) (state S.Store conn.old)
+        (state S.Store conn.new) result }
 {
     head_at(conn, alloc, Version::Second)
 }

@@ -6,7 +6,8 @@ ghost use Rattle.store_sql.specs.Forms.{table_of};
 ghost use Rattle.store_sql.specs.Transactions.{Rests, Looks};
 ghost use Rattle.package_tables.specs.Form.{IsPlaced};
 ghost use Rattle.package_schema.specs.Looking.{Sees};
-ghost use Rattle.package_schema.specs.Placing.{AreNamedPlaced, AreUsersPlaced, AreOwnPlaced, AreAllPlaced, AreFirstUsersPlaced, AreFirstPlaced};
+ghost use Rattle.package_schema.specs.Placing.{AreNamedPlaced, AreUsersPlaced, AreOwnPlaced, AreAllPlaced};
+ghost use Rattle.package_schema.specs.Placing.{AreFirstUsersPlaced, AreFirstPlaced};
 
 use crate::named_forms::{
     CONTENTS, RELATIONS, SPATIAL_REFERENCE_SYSTEMS, TILE_MATRICES, TILE_MATRIX_SETS,
@@ -76,7 +77,8 @@ fn has_all_tables(schema: &Schema) -> bool
     quiet & named & users & own
 }
 
-/// Whether the schema has the fourteen tables of the first version and no foreign key that acts, and nothing has a name that the second needs.
+/// Whether the schema has the fourteen tables of the first version and no foreign key that acts,
+/// and nothing has a name that the second needs.
 fn has_first_tables(schema: &Schema) -> bool
     ensures { IsTrue result ↔ AreFirstPlaced schema.now }
 {
@@ -103,7 +105,8 @@ pub(crate) fn is_placed<S: Alter>(
     form: &TableForm<'_>,
 ) -> Result<bool, Fault>
     requires { Rests (state S.Store conn.old) }
-    ensures { Looks (Sees (λ db found. IsDatabase db × (IsTrue found ↔ IsPlaced db.schema (table_of form.now)))) (state S.Store conn.old) (state S.Store conn.new) result }
+    ensures { Looks (Sees (λ db found. IsDatabase db × (IsTrue found ↔ IsPlaced db.schema (table_of form.now))))
+        (state S.Store conn.old) (state S.Store conn.new) result }
 {
     answer_nothing(conn)?;
     Ok(has_table(conn.schema(), form))
@@ -112,16 +115,19 @@ pub(crate) fn is_placed<S: Alter>(
 /// Whether the store has all fifteen tables, and no foreign key that acts.
 pub(crate) fn are_placed<S: Alter>(conn: &mut Connection<S>) -> Result<bool, Fault>
     requires { Rests (state S.Store conn.old) }
-    ensures { Looks (Sees (λ db found. IsDatabase db × (IsTrue found ↔ AreAllPlaced db.schema))) (state S.Store conn.old) (state S.Store conn.new) result }
+    ensures { Looks (Sees (λ db found. IsDatabase db × (IsTrue found ↔ AreAllPlaced db.schema)))
+        (state S.Store conn.old) (state S.Store conn.new) result }
 {
     answer_nothing(conn)?;
     Ok(has_all_tables(conn.schema()))
 }
 
-/// Whether the store has the fourteen tables of the first version and no foreign key that acts, and nothing has a name that the second needs.
+/// Whether the store has the fourteen tables of the first version and no foreign key that acts, and
+/// nothing has a name that the second needs.
 pub(crate) fn are_first_placed<S: Alter>(conn: &mut Connection<S>) -> Result<bool, Fault>
     requires { Rests (state S.Store conn.old) }
-    ensures { Looks (Sees (λ db found. IsDatabase db × (IsTrue found ↔ AreFirstPlaced db.schema))) (state S.Store conn.old) (state S.Store conn.new) result }
+    ensures { Looks (Sees (λ db found. IsDatabase db × (IsTrue found ↔ AreFirstPlaced db.schema)))
+        (state S.Store conn.old) (state S.Store conn.new) result }
 {
     answer_nothing(conn)?;
     Ok(has_first_tables(conn.schema()))

@@ -19,7 +19,9 @@ pub fn receipt_rows<S: Alter>(
     alloc: Global,
 ) -> Result<Vec<ReceiptRow>, Fault>
     requires { Rests (state S.Store conn.old) }
-    ensures { Looks (Sees (λ db found. IsFormed receipt_shape db → AreAll (on (λ x. x.seq) int_cmp) (rows_of receipt_shape db) found.items)) (state S.Store conn.old) (state S.Store conn.new) result }
+    ensures { Looks (Sees (λ db found. IsFormed receipt_shape db
+        → AreAll (on (λ x. x.seq) int_cmp) (rows_of receipt_shape db) found.items)) (state S.Store conn.old)
+        (state S.Store conn.new) result }
 {
     all_of(
         alloc,
@@ -30,7 +32,9 @@ pub fn receipt_rows<S: Alter>(
 /// The rows of what receipts moved, by the numbers of the receipts.
 pub fn moved_rows<S: Alter>(conn: &mut Connection<S>, alloc: Global) -> Result<Vec<MovedRow>, Fault>
     requires { Rests (state S.Store conn.old) }
-    ensures { Looks (Sees (λ db found. IsFormed moved_shape db → AreAll (on (λ x. x.seq) int_cmp) (rows_of moved_shape db) found.items)) (state S.Store conn.old) (state S.Store conn.new) result }
+    ensures { Looks (Sees (λ db found. IsFormed moved_shape db
+        → AreAll (on (λ x. x.seq) int_cmp) (rows_of moved_shape db) found.items)) (state S.Store conn.old)
+        (state S.Store conn.new) result }
 {
     all_of(
         alloc,

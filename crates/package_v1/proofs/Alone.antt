@@ -10,5 +10,6 @@ first_reads_alone f p q db one two = one_package f (brought (first_tables_of db)
 
 pub reads_at_one_version : ReadsAtOneVersion
 reads_at_one_version f g p q db one two =
-    let versions : pos 1 ∷ [] ≡ pos 2 ∷ [] = sym one.says.version ∙ ap (map (λ (h : HeadRow). h.version)) two.says.head in
+    let versions : pos 1 ∷ [] ≡ pos 2 ∷ [] = sym one.says.version
+    ∙ ap (map (λ (h : HeadRow). h.version)) two.says.head in
     let e = versions in cc

@@ -33,11 +33,13 @@ First _ = Brings
 abbrev Either : Unit {0} → Database → Database → Type 0
 Either _ = BringsIfFirst
 
-would : (old : Database) → AreFree old.schema → (trees : Trees) → WouldLeave First old trees → WouldLeave Either old trees
+would : (old : Database) → AreFree old.schema → (trees : Trees) → WouldLeave First old trees
+    → WouldLeave Either old trees
 would old free trees (x, new, brings, same) = (x, new, brings_either old new free brings, same)
 
 -- the turn of a store whose names are free
-pub turn_brought : (old new : State) (r : Done) → AreFree old.now.schema → Turns First old new r → Turns Either old new r
+pub turn_brought : (old new : State) (r : Done) → AreFree old.now.schema → Turns First old new r
+    → Turns Either old new r
 turn_brought old new r free turn = record {
   rests = turn.rests;
   done = λ clean. at r (turn.done clean);
@@ -59,12 +61,14 @@ turn_brought old new r free turn = record {
   };
 }
   where
-    at : (r : Done) → IfOk r (λ x. Brings old.now new.now × Holds new new.now) → IfOk r (λ x. BringsIfFirst old.now new.now × Holds new new.now)
+    at : (r : Done) → IfOk r (λ x. Brings old.now new.now × Holds new new.now)
+        → IfOk r (λ x. BringsIfFirst old.now new.now × Holds new new.now)
     at (Ok x) it = (brings_either old.now new.now free it.0, it.1)
     at (Err e) it = it
 
 -- and of one whose names are not, which is left as it is
-module _ {S : Type 0} (g : Ghosts S) (shuts : Shuts g) (settles : Settles g) (h : Held S) (rests : Rests (state g h)) (is_open : IsTrue (state g h).is_open) (taken : AreFree (state g h).now.schema → ⊥) where
+module _ {S : Type 0} (g : Ghosts S) (shuts : Shuts g) (settles : Settles g) (h : Held S) (rests : Rests (state g h))
+    (is_open : IsTrue (state g h).is_open) (taken : AreFree (state g h).now.schema → ⊥) where
   pub turn_stays : Turns Either (state g h) (state g h) done
   turn_stays =
       let holds = at_rest g shuts settles h rests is_open in
@@ -74,5 +78,13 @@ module _ {S : Type 0} (g : Ghosts S) (shuts : Shuts g) (settles : Settles g) (h 
         done = λ clean. (stays_either (state g h).now taken, holds);
         undone = tt;
         left = λ clean opened trees may. inl (holds.left trees may);
-        survives = record { clean = same.clean; shield = same.shield; counts = same.counts; limit = same.limit; closes = same.closes; crash = λ clean trees may. inl may };
+        survives = record {
+          clean = same.clean;
+          shield = same.shield;
+          counts = same.counts;
+          limit =
+              same.limit;
+          closes = same.closes;
+          crash = λ clean trees may. inl may;
+        };
       }

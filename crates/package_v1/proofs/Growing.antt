@@ -1,5 +1,6 @@
 -- A schema to which the table of the third mapping, or its index, comes.
-use Rattle.std.proofs.Common.{◌≡◌, ℕ, ◌+◌, ◌<◌, ◌^◌, nat_le, ◌==◌, List, [], ◌∷◌, length, false, Some, None, refl, sym, ap, subst, ◌∙◌, arith, codes, inl, inr}
+use Rattle.std.proofs.Common.{◌≡◌, ℕ, ◌+◌, ◌<◌, ◌^◌, nat_le, ◌==◌, List, [], ◌∷◌, length, false, Some, None, refl}
+use Rattle.std.proofs.Common.{sym, ap, subst, ◌∙◌, arith, codes, inl, inr}
 use Rattle.std.specs.Prelude.{find}
 use Rattle.std.specs.List.{AllZip, list_any}
 use Rattle.std.proofs.Math.Bool.{and-false}
@@ -26,7 +27,8 @@ use Rattle.package_v1.proofs.Positions.{position_left, position_last, position_n
 
 -- ---- the number of a tree is small, where the trees list the schema
 
-low_tree : (rows : List Row) (tables : List Table) → AllZip IsTableRow rows tables → (t : Table) → Has tables t → t.tree < 65536
+low_tree : (rows : List Row) (tables : List Table) → AllZip IsTableRow rows tables → (t : Table) → Has tables t
+    → t.tree < 65536
 low_tree [] [] zip t has = absurd has
 low_tree [] (u ∷ tables) zip t has = absurd zip
 low_tree (r ∷ rows) [] zip t has = absurd zip
@@ -58,11 +60,19 @@ module _ (S : Schema) where
   }
 
   pub still_quiet : IsQuiet S → IsQuiet with_third
-  still_quiet quiet = record { seq_at = quiet.seq_at; seq = quiet.seq; counts = still_there quiet.seq_at (counters quiet.seq) quiet.counts; inert = all-append _ S.tables (third ∷ []) quiet.inert (tt, tt) }
+  still_quiet quiet = record {
+    seq_at = quiet.seq_at;
+    seq = quiet.seq;
+    counts =
+        still_there quiet.seq_at (counters quiet.seq) quiet.counts;
+    inert =
+        all-append _ S.tables (third ∷ []) quiet.inert (tt, tt);
+  }
 
   -- the count is there, so none is made
   pub has_sequence : IsQuiet S → lacks_sequence with_third ≡ false
-  has_sequence quiet = let h = (still_quiet quiet).counts in rw (h.named, h.there) (and-false (list_any (λ (t : Table). t.is_counted) with_third.tables))
+  has_sequence quiet = let h = (still_quiet quiet).counts in rw (h.named, h.there)
+      (and-false (list_any (λ (t : Table). t.is_counted) with_third.tables))
 
   module _ (db : Trees) (sound : IsSound with_third db) (free : table_named S (codes "rows_tiles") ≡ None) where
     has_third : Has with_third.tables third
@@ -71,11 +81,14 @@ module _ (S : Schema) where
     -- and so is the new one, at the end
     pub third_there : HasTable with_third (length S.tables) third
     third_there = record {
-      named = position_last (λ (t : Table). same_name t.name (codes "rows_tiles")) 0 S.tables third free (same_itself (codes "rows_tiles")) ∙ ap Some (omega arith);
+      named = position_last (λ (t : Table). same_name t.name (codes "rows_tiles")) 0 S.tables third free
+          (same_itself (codes "rows_tiles")) ∙ ap Some (omega arith);
       there = slice_last S.tables third;
       stored = not_great (next_tree S) (low_tree _ with_third.tables sound.lists.listed.tables third has_third);
       by_tree = find-append (λ (t : Table). t.tree == next_tree S) S.tables (third ∷ [])
-          ∙ rw (find_none (λ (t : Table). t.tree == next_tree S) S.tables (all_from (λ (t : Table). (t.tree == next_tree S) ≡ false) S.tables (λ t has. other_tree t.tree (next_tree S) (table_below S t has)))) (last_found third);
+          ∙ rw (find_none (λ (t : Table). t.tree == next_tree S) S.tables
+          (all_from (λ (t : Table). (t.tree == next_tree S) ≡ false) S.tables
+          (λ t has. other_tree t.tree (next_tree S) (table_below S t has)))) (last_found third);
     }
       where
         last_found : (t : Table) → find (λ (u : Table). u.tree == t.tree) (t ∷ []) ≡ Some t
@@ -86,21 +99,31 @@ module _ (S : Schema) where
   unfolding same_name
   other_table = refl
 
-  other_index : (tree : ℕ) → same_name (automatic (rows_tiles tree) 0 (1 ∷ 2 ∷ []) (tree + 1)).name (codes "by_rows_tiles") ≡ false
+  other_index : (tree : ℕ) → same_name (automatic (rows_tiles tree) 0 (1 ∷ 2 ∷ []) (tree + 1)).name
+      (codes "by_rows_tiles") ≡ false
   unfolding same_name digits
   other_index tree = refl
 
   pub index_still_free : IsFree S (codes "by_rows_tiles") → IsFree with_third (codes "by_rows_tiles")
   index_still_free free = record {
-    table = position_none (λ (t : Table). same_name t.name (codes "by_rows_tiles")) 0 S.tables third free.table other_table;
+    table = position_none (λ (t : Table). same_name t.name (codes "by_rows_tiles")) 0 S.tables third free.table
+        other_table;
     view = free.view;
-    index = position_none (λ (i : Index). same_name i.name (codes "by_rows_tiles")) 0 S.indexes (automatic third 0 (1 ∷ 2 ∷ []) (next_tree S + 1)) free.index (other_index (next_tree S));
+    index = position_none (λ (i : Index). same_name i.name (codes "by_rows_tiles")) 0 S.indexes
+        (automatic third 0 (1 ∷ 2 ∷ []) (next_tree S + 1)) free.index (other_index (next_tree S));
   }
 
 -- ---- an index comes
 
-pub still_indexed : (S : Schema) (t : Table) (i : Index) (at : ℕ) (u : Table) → HasTable S at u → HasTable (indexed S t i) at u
+pub still_indexed : (S : Schema) (t : Table) (i : Index) (at : ℕ) (u : Table) → HasTable S at u
+    → HasTable (indexed S t i) at u
 still_indexed S t i at u h = record { named = h.named; there = h.there; stored = h.stored; by_tree = h.by_tree }
 
 pub quiet_indexed : (S : Schema) (t : Table) (i : Index) → IsQuiet S → IsQuiet (indexed S t i)
-quiet_indexed S t i quiet = record { seq_at = quiet.seq_at; seq = quiet.seq; counts = still_indexed S t i quiet.seq_at (counters quiet.seq) quiet.counts; inert = quiet.inert }
+quiet_indexed S t i quiet = record {
+  seq_at = quiet.seq_at;
+  seq = quiet.seq;
+  counts =
+      still_indexed S t i quiet.seq_at (counters quiet.seq) quiet.counts;
+  inert = quiet.inert;
+}

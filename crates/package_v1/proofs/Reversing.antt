@@ -36,9 +36,20 @@ use Rattle.package_v1.proofs.Dropping.{drop_text, Dropped, dropped, still_known}
 
 -- ---- the text of the deletion
 
-pub delete_text : (spelling : Spelling) → IsDelete (codes "DELETE FROM gpkgext_relations WHERE id = ?1") (spelled gpkgext_relations spelling) (equals 0 0)
+pub delete_text : (spelling : Spelling) → IsDelete (codes "DELETE FROM gpkgext_relations WHERE id = ?1")
+    (spelled gpkgext_relations spelling) (equals 0 0)
 unfolding everything
-delete_text spelling = record { parse = _; where' = _; parsed = refl; statement = refl; formats = refl; named = refl; condition = (_, refl, (_, _, _, _, refl, refl, refl, refl, refl, refl, refl)); enough = refl }
+delete_text spelling = record {
+  parse = _;
+  where' = _;
+  parsed = refl;
+  statement = refl;
+  formats = refl;
+  named =
+      refl;
+  condition = (_, refl, (_, _, _, _, refl, refl, refl, refl, refl, refl, refl));
+  enough = refl;
+}
 
 pub delete_plan : (spelling : Spelling) → IsPlannedDelete (spelled gpkgext_relations spelling) (equals 0 0)
 unfolding resolving
@@ -49,32 +60,52 @@ delete_plan spelling schema at h = rw (h.stored, h.by_tree) refl
 not_third : List ℕ → Bool
 not_third name = is_other name (codes "rows_tiles")
 
-module _ (old new : Database) (at : ℕ) (spelling : Spelling) (has : HasTable old.schema at (spelled rows_tiles spelling)) (it : Dropped (spelled rows_tiles spelling) old new) where
-  stays_at : (be : ℕ) (u : Table) → is_other u.name (codes "rows_tiles") ≡ true → HasTable old.schema be u → (k : ℕ) × HasTable (without_table old.schema spelling.tree) k u
-  stays_at be u other h = still_known old.schema spelling.tree be u (apart_in old.schema be at u (spelled rows_tiles spelling) h has other) h
+module _ (old new : Database) (at : ℕ) (spelling : Spelling)
+    (has : HasTable old.schema at (spelled rows_tiles spelling))
+    (it : Dropped (spelled rows_tiles spelling) old new) where
+  stays_at : (be : ℕ) (u : Table) → is_other u.name (codes "rows_tiles") ≡ true → HasTable old.schema be u → (k : ℕ)
+      × HasTable (without_table old.schema spelling.tree) k u
+  stays_at be u other h = still_known old.schema spelling.tree be u
+      (apart_in old.schema be at u (spelled rows_tiles spelling) h has other) h
 
   drop_carries : Carries (λ name. is_other name (codes "rows_tiles")) old new
   drop_carries = record {
-    has = λ be u other h. let k = stays_at be u other h in (k.0, subst (λ (s : Schema). HasTable s k.0 u) (sym it.schema) k.1);
-    rows = λ be u other h. all_has (λ (t : Table). new.trees t.tree ≡ old.trees t.tree) (without_table old.schema spelling.tree).tables u it.rows (let k = stays_at be u other h in is_in (without_table old.schema spelling.tree) k.0 u k.1);
+    has = λ be u other h. let k = stays_at be u other h in (
+      k.0,
+      subst (λ (s : Schema). HasTable s k.0 u)
+          (sym it.schema) k.1,
+    );
+    rows = λ be u other h. all_has (λ (t : Table). new.trees t.tree ≡ old.trees t.tree)
+        (without_table old.schema spelling.tree).tables u it.rows
+        (let k = stays_at be u other h in is_in (without_table old.schema spelling.tree) k.0 u k.1);
     quiet = λ q. subst IsQuiet (sym it.schema) (quiet_without q);
   }
     where
       quiet_without : IsQuiet old.schema → IsQuiet (without_table old.schema spelling.tree)
       quiet_without q =
           let k = stays_at q.seq_at (counters q.seq) refl q.counts in
-          record { seq_at = k.0; seq = q.seq; counts = k.1; inert = all-filter _ (λ t. not (t.tree == spelling.tree)) old.schema.tables q.inert }
+          record {
+            seq_at = k.0;
+            seq = q.seq;
+            counts = k.1;
+            inert =
+                all-filter _ (λ t. not (t.tree == spelling.tree)) old.schema.tables q.inert;
+          }
 
   drops_third : DropsThird old new
   drops_third formed = (
-    still_formed (λ name. is_other name (codes "rows_tiles")) old new drop_carries (λ name other. other) (first_of old formed),
-    still_said (λ name. is_other name (codes "rows_tiles")) old new drop_carries (λ name other. other) (first_of old formed) [],
+    still_formed (λ name. is_other name (codes "rows_tiles")) old new drop_carries (λ name other. other)
+        (first_of old formed),
+    still_said (λ name. is_other name (codes "rows_tiles")) old new drop_carries (λ name other. other)
+        (first_of old formed) [],
   )
 
-pub third_dropped : (old new : State) (count : ℕ) → Executes drop_text [] old new (Ok count) → DropsThird old.now new.now
+pub third_dropped : (old new : State) (count : ℕ) → Executes drop_text [] old new (Ok count)
+    → DropsThird old.now new.now
 third_dropped old new count h formed =
     let p = formed.rows_tiles.placed in
-    drops_third old.now new.now p.at p.spelling p.has (dropped old new p.at (spelled rows_tiles p.spelling) p.has refl formed.quiet.inert refl count h) formed
+    drops_third old.now new.now p.at p.spelling p.has (dropped old new p.at (spelled rows_tiles p.spelling) p.has refl
+    formed.quiet.inert refl count h) formed
 
 -- ---- the whole
 
@@ -94,10 +125,19 @@ takes old new (one, set, (two, deleted, gone)) f p reads none free =
     let second = deleted first.0 in
     let third = gone second.0 in
     let keeps = λ (x : RelationRow). not (int_eq x.id (pos 3)) in
-    let said : tables_of two ≡ record (tables_of old) { heads = with_version (pos 1) mine ∷ []; relations = first_relations } =
+    let said : tables_of two ≡ record (tables_of old) {
+      heads = with_version (pos 1) mine ∷ [];
+      relations =
+          first_relations;
+    } =
     second.1 ∙ ap (λ (t : Tables). record t { relations = filter keeps t.relations }) first.1
-    ∙ ap (λ (l : List RelationRow). record (tables_of old) { heads = with_version (pos 1) mine ∷ []; relations = filter keeps l }) says.fixed.relations in
-    let now : first_tables_of new ≡ record (first_tables_of old) { heads = with_version (pos 1) mine ∷ []; relations = first_relations } =
+    ∙ ap (λ (l : List RelationRow). record (tables_of old) {
+      heads = with_version (pos 1) mine ∷ [];
+      relations =
+          filter keeps l;
+    }) says.fixed.relations in
+    let now : first_tables_of new ≡ record (first_tables_of old)
+    { heads = with_version (pos 1) mine ∷ []; relations = first_relations } =
     third.1 ∙ ap (λ (t : Tables). record t { rows_tiles = [] }) said in
     let back : brought (first_tables_of new) ≡ tables_of old =
     ap brought now
@@ -112,6 +152,9 @@ takes old new (one, set, (two, deleted, gone)) f p reads none free =
       };
     }
 
-pub takes_steps : {old a b new : State} {r : Done} → Steps {X = Unit {0}} {E = Fault} (λ _. SetsVersion (pos 1)) old a done → Steps {X = Unit {0}} {E = Fault} (λ _. OnTables DropsThirdRelation) a b done
-    → Steps {X = Unit {0}} {E = Fault} (λ _. DropsThird) b new r → Steps {X = Unit {0}} {E = Fault} (λ _. TakesBack) old new r
-takes_steps {old} {a} {b} {new} one two three = steps_weaker (λ _. TakesBack) (λ _ it. takes old.now new.now it) (steps_then one (steps_then two three))
+pub takes_steps : {old a b new : State} {r : Done} → Steps {X = Unit {0}} {E = Fault} (λ _. SetsVersion (pos 1)) old a
+    done → Steps {X = Unit {0}} {E = Fault} (λ _. OnTables DropsThirdRelation) a b done
+    → Steps {X = Unit {0}} {E = Fault} (λ _. DropsThird) b new r
+    → Steps {X = Unit {0}} {E = Fault} (λ _. TakesBack) old new r
+takes_steps {old} {a} {b} {new} one two three = steps_weaker (λ _. TakesBack) (λ _ it. takes old.now new.now it)
+    (steps_then one (steps_then two three))

@@ -34,7 +34,8 @@ use Rattle.package_tables.proofs.Written.{pairs_listed}
 use Rattle.package_v1.specs.FirstVersion.{AreFree}
 use Rattle.package_v1.specs.Migrating.{HasThird, MakesThird, IndexesThird}
 use Rattle.package_v1.proofs.Positions.{slice_last}
-use Rattle.package_v1.proofs.Growing.{still_there, still_quiet, has_sequence, third_there, index_still_free, still_indexed, quiet_indexed}
+use Rattle.package_v1.proofs.Growing.{still_there, still_quiet, has_sequence, third_there, index_still_free}
+use Rattle.package_v1.proofs.Growing.{still_indexed, quiet_indexed}
 use Rattle.package_v1.proofs.Carrying.{Carries, still_formed, still_said, with_last, fifteen_carried}
 use Rattle.package_v1.proofs.Texts.{table_text, table_made, index_text, index_made}
 
@@ -42,58 +43,84 @@ use Rattle.package_v1.proofs.Texts.{table_text, table_made, index_text, index_ma
 
 third_carries : (old new : Database) → Created (rows_tiles 0) old new → Carries (λ name. true) old new
 third_carries old new made = record {
-  has = λ at u passes h. (at, subst (λ (s : Schema). HasTable s at u) (sym made.schema) (still_there old.schema at u h));
-  rows = λ at u passes h. all_has (λ (t : Table). new.trees t.tree ≡ old.trees t.tree) old.schema.tables u made.rows (is_in old.schema at u h);
+  has = λ at u passes h. (
+    at,
+    subst (λ (s : Schema). HasTable s at u) (sym made.schema)
+        (still_there old.schema at u h),
+  );
+  rows = λ at u passes h. all_has (λ (t : Table). new.trees t.tree ≡ old.trees t.tree) old.schema.tables u made.rows
+      (is_in old.schema at u h);
   quiet = λ q. subst IsQuiet (sym made.schema) (still_quiet old.schema q);
 }
 
-third_formed : (old new : Database) → Created (rows_tiles 0) old new → IsDatabase new → IsFree old.schema (codes "rows_tiles") → IsFormed rows_tiles_shape new × (rows_of rows_tiles_shape new ≡ [])
+third_formed : (old new : Database) → Created (rows_tiles 0) old new → IsDatabase new
+    → IsFree old.schema (codes "rows_tiles") → IsFormed rows_tiles_shape new × (rows_of rows_tiles_shape new ≡ [])
 third_formed old new made sound free =
-    let listed = subst (λ (s : Schema). HasTable s (length old.schema.tables) (rows_tiles (next_tree old.schema))) (sym made.schema)
-    (third_there old.schema new.trees (subst (λ (s : Schema). IsDatabase (record { schema = s; trees = new.trees })) made.schema sound) free.table) in
-    let none : stored_rows rows_tiles_shape new ≡ [] = rows_placed rows_tiles_shape (pairs_listed RowsTiles).laws new (length old.schema.tables) (own rows_tiles (next_tree old.schema)) listed ∙ made.empty in (
+    let listed = subst (λ (s : Schema). HasTable s (length old.schema.tables) (rows_tiles (next_tree old.schema)))
+    (sym made.schema)
+    (third_there old.schema new.trees (subst (λ (s : Schema). IsDatabase (record { schema = s; trees = new.trees }))
+    made.schema sound) free.table) in
+    let none : stored_rows rows_tiles_shape new ≡ [] = rows_placed rows_tiles_shape (pairs_listed RowsTiles).laws new
+    (length old.schema.tables) (own rows_tiles (next_tree old.schema)) listed ∙ made.empty in (
       record {
-        placed = own_placed new.schema rows_tiles (plain_keys (rows_tiles 0).uniques) (length old.schema.tables) (next_tree old.schema) listed;
+        placed = own_placed new.schema rows_tiles (plain_keys (rows_tiles 0).uniques) (length old.schema.tables)
+            (next_tree old.schema) listed;
         keyed = subst IsKeyed (sym none) (record { ints = refl; rises = tt });
         stored = subst (AllByRecursion (IsStored rows_tiles_shape)) (sym none) tt;
       },
       ap (λ l. arranged rows_tiles_shape.key (map rows_tiles_shape.typed l)) none,
     )
 
-has_it : (old new : Database) → Created (rows_tiles 0) old new → IsDatabase new → AreFormedAt (pos 1) old → AreFree old.schema → HasThird old new
+has_it : (old new : Database) → Created (rows_tiles 0) old new → IsDatabase new → AreFormedAt (pos 1) old
+    → AreFree old.schema → HasThird old new
 has_it old new made sound formed free =
     let last = third_formed old new made sound free.table in
     let carries = third_carries old new made in
     record {
       formed = with_last new sound (still_formed (λ name. true) old new carries (λ name other. refl) formed) last.0;
-      says = ap (λ l. record (tables_of new) { rows_tiles = l }) last.1 ∙ still_said (λ name. true) old new carries (λ name other. refl) formed [];
-      free = subst (λ (s : Schema). IsFree s (codes "by_rows_tiles")) (sym made.schema) (index_still_free old.schema free.index);
+      says = ap (λ l. record (tables_of new) { rows_tiles = l }) last.1
+          ∙ still_said (λ name. true) old new carries (λ name other. refl) formed [];
+      free = subst (λ (s : Schema). IsFree s (codes "by_rows_tiles")) (sym made.schema)
+          (index_still_free old.schema free.index);
     }
 
 pub third_made : (old new : State) (count : ℕ) → Executes table_text [] old new (Ok count) → MakesThird old.now new.now
 third_made old new count h formed free =
     let made = makes old new table_text table_made.0 table_made.1 (rows_tiles 0) count table_made.2 free.table h in
-    let known = (understood_is old.now.schema table_text _ (creates_in old.now.schema table_text table_made.0 table_made.1 (rows_tiles 0) table_made.2 (subst (IsFree old.now.schema) (sym table_made.2.name) free.table))).0 in
-    let sound : IsDatabase new.now = (runs_as table_text [] old new old.now.schema refl CreateTable (ap command_of known) (subst IsPlain (sym known) (refl, refl)) count h).sound in
-    let same : new.now ≡ made.0 = plain_of made.0 new.now (ap lacks_sequence made.1.schema ∙ has_sequence old.now.schema formed.quiet) made.2 in
+    let known = (understood_is old.now.schema table_text _ (creates_in old.now.schema table_text table_made.0
+    table_made.1 (rows_tiles 0) table_made.2 (subst (IsFree old.now.schema) (sym table_made.2.name)
+    free.table))).0 in
+    let sound : IsDatabase new.now = (runs_as table_text [] old new old.now.schema refl CreateTable
+    (ap command_of known) (subst IsPlain (sym known) (refl, refl)) count h).sound in
+    let same : new.now ≡ made.0 = plain_of made.0 new.now (ap lacks_sequence made.1.schema
+    ∙ has_sequence old.now.schema formed.quiet) made.2 in
     has_it old.now new.now (subst (Created (rows_tiles 0) old.now) (sym same) made.1) sound formed free
 
 -- ---- the index
 
-index_carries : (t : Table) (old new : Database) → Indexed t (by_rows_tiles t.tree 0) old new → Carries (λ name. true) old new
+index_carries : (t : Table) (old new : Database) → Indexed t (by_rows_tiles t.tree 0) old new
+    → Carries (λ name. true) old new
 index_carries t old new made = record {
-  has = λ at u passes h. (at, subst (λ (s : Schema). HasTable s at u) (sym made.schema) (still_indexed old.schema t (by_rows_tiles t.tree 0) at u h));
-  rows = λ at u passes h. all_has (λ (t : Table). new.trees t.tree ≡ old.trees t.tree) old.schema.tables u made.rows (is_in old.schema at u h);
+  has = λ at u passes h. (
+    at,
+    subst (λ (s : Schema). HasTable s at u) (sym made.schema)
+        (still_indexed old.schema t (by_rows_tiles t.tree 0) at u h),
+  );
+  rows = λ at u passes h. all_has (λ (t : Table). new.trees t.tree ≡ old.trees t.tree) old.schema.tables u made.rows
+      (is_in old.schema at u h);
   quiet = λ q. subst IsQuiet (sym made.schema) (quiet_indexed old.schema t (by_rows_tiles t.tree 0) q);
 }
 
-pub third_indexed : (old new : State) (count : ℕ) → Executes index_text [] old new (Ok count) → IndexesThird old.now new.now
+pub third_indexed : (old new : State) (count : ℕ) → Executes index_text [] old new (Ok count)
+    → IndexesThird old.now new.now
 third_indexed old new count h formed free =
     let p = formed.rows_tiles.placed in
     let it = index_made p.spelling in
-    let made = makes_index old new index_text it.0 it.1 p.at (spelled rows_tiles p.spelling) (by_rows_tiles p.spelling.tree 0) count it.2 p.has free h in
+    let made = makes_index old new index_text it.0 it.1 p.at (spelled rows_tiles p.spelling)
+    (by_rows_tiles p.spelling.tree 0) count it.2 p.has free h in
     let carries = index_carries (spelled rows_tiles p.spelling) old.now new.now made in
-    let sound = index_sound old new index_text it.0 it.1 p.at (spelled rows_tiles p.spelling) (by_rows_tiles p.spelling.tree 0) count it.2 p.has free h in
+    let sound = index_sound old new index_text it.0 it.1 p.at (spelled rows_tiles p.spelling)
+    (by_rows_tiles p.spelling.tree 0) count it.2 p.has free h in
     let both = fifteen_carried old.now new.now carries sound formed in
     let has = carries.has p.at (spelled rows_tiles p.spelling) refl p.has in
     let last = by_rows_tiles p.spelling.tree (next_tree old.now.schema) in (
@@ -104,6 +131,8 @@ third_indexed old new count h formed free =
         spelling = p.spelling;
         has = has.1;
         index = next_tree old.now.schema;
-        indexed = subst (λ (s : Schema). Has s.indexes last) (sym made.schema) (has_got (old.now.schema.indexes ++ last ∷ []) (length old.now.schema.indexes) last (slice_last old.now.schema.indexes last));
+        indexed = subst (λ (s : Schema). Has s.indexes last) (sym made.schema)
+            (has_got (old.now.schema.indexes ++ last ∷ []) (length old.now.schema.indexes) last
+            (slice_last old.now.schema.indexes last));
       },
     )

@@ -11,7 +11,8 @@ use Rattle.package_tables.specs.Listed.{relations}
 use Rattle.package_tables.specs.declared.rows.HeadRow.{HeadRow}
 use Rattle.package_tables.specs.declared.rows.RelationRow.{RelationRow}
 use Rattle.identity_register.specs.Reads.{Reads}
-use Rattle.package_v1.specs.FirstVersion.{AreFree, HasThirdIndex, first_tables_of, with_version, brought, ReadsAtVersionOne, ReadsAtOne}
+use Rattle.package_v1.specs.FirstVersion.{AreFree, HasThirdIndex, first_tables_of, with_version, brought}
+use Rattle.package_v1.specs.FirstVersion.{ReadsAtVersionOne, ReadsAtOne}
 
 -- ---- the steps
 

@@ -51,7 +51,18 @@ fn insert_relation<S: Alter>(
     mapping: &str,
 ) -> Result<(), Fault>
     ensures same_reference { tx.new.conn.ghost_name ≡ tx.old.conn.ghost_name }
-    ensures steps { Steps (λ _. AddsRelation (record { id = id; base_table_name = base.now; base_primary_column = base_column.now; related_table_name = related.now; related_primary_column = related_column.now; relation_name = name.now; mapping_table_name = mapping.now })) (state S.Store tx.old.conn.now) (state S.Store tx.new.conn.now) result }
+    ensures steps { Steps (λ _. AddsRelation (record {
+      id = id;
+      base_table_name = base.now;
+      base_primary_column =
+          base_column.now;
+      related_table_name = related.now;
+      related_primary_column =
+          related_column.now;
+      relation_name = name.now;
+      mapping_table_name = mapping.now;
+    }))
+        (state S.Store tx.old.conn.now) (state S.Store tx.new.conn.now) result }
 {
     settled(tx.execute(
         "INSERT INTO gpkgext_relations VALUES (?1, ?2, ?3, ?4, ?5, ?6, ?7)",
@@ -70,7 +81,8 @@ fn insert_relation<S: Alter>(
 /// Enters the third mapping into the relations (OGC 18-000, extended relations).
 pub(crate) fn insert_third_relation<S: Alter>(tx: &mut Transaction<'_, S>) -> Result<(), Fault>
     ensures same_reference { tx.new.conn.ghost_name ≡ tx.old.conn.ghost_name }
-    ensures steps { Steps (λ _. AddsRelation third_relation) (state S.Store tx.old.conn.now) (state S.Store tx.new.conn.now) result }
+    ensures steps { Steps (λ _. AddsRelation third_relation) (state S.Store tx.old.conn.now)
+        (state S.Store tx.new.conn.now) result }
 {
     insert_relation(
         tx,
@@ -87,7 +99,8 @@ pub(crate) fn insert_third_relation<S: Alter>(tx: &mut Transaction<'_, S>) -> Re
 /// Says the version of the package in its head.
 pub(crate) fn set_version<S: Alter>(tx: &mut Transaction<'_, S>, version: i64) -> Result<(), Fault>
     ensures same_reference { tx.new.conn.ghost_name ≡ tx.old.conn.ghost_name }
-    ensures steps { Steps (λ _. SetsVersion version) (state S.Store tx.old.conn.now) (state S.Store tx.new.conn.now) result }
+    ensures steps { Steps (λ _. SetsVersion version) (state S.Store tx.old.conn.now) (state S.Store tx.new.conn.now)
+        result }
 {
     settled(tx.execute("UPDATE sheet_package SET version = ?1", params![version]))
 }
@@ -95,7 +108,8 @@ pub(crate) fn set_version<S: Alter>(tx: &mut Transaction<'_, S>, version: i64) -
 /// Takes the third mapping out of the relations.
 pub(crate) fn delete_third_relation<S: Alter>(tx: &mut Transaction<'_, S>) -> Result<(), Fault>
     ensures same_reference { tx.new.conn.ghost_name ≡ tx.old.conn.ghost_name }
-    ensures steps { Steps (λ _. OnTables DropsThirdRelation) (state S.Store tx.old.conn.now) (state S.Store tx.new.conn.now) result }
+    ensures steps { Steps (λ _. OnTables DropsThirdRelation) (state S.Store tx.old.conn.now)
+        (state S.Store tx.new.conn.now) result }
 {
     settled(tx.execute("DELETE FROM gpkgext_relations WHERE id = ?1", params![3i64]))
 }

@@ -15,7 +15,8 @@ use Rattle.sheet_kept_laws.specs.Laws.{Reply}
 use Rattle.world_changes.specs.Leaving.{AreClean}
 use Rattle.world_decisions.specs.Deciding.{child_asked}
 use Rattle.world_members.specs.declared.members.Member.{Member}
-use Rattle.world.specs.Asked.{AsksFor, AreStepsWith, IsHomeBy, IsNewTo, IsRunWith, IsStepWith, MayReturn, UsesFor, child_returned}
+use Rattle.world.specs.Asked.{AsksFor, AreStepsWith, IsHomeBy, IsNewTo, IsRunWith, IsStepWith, MayReturn, UsesFor}
+use Rattle.world.specs.Asked.{child_returned}
 use Rattle.world.specs.Worlds.{Seen}
 use Rattle.promises.specs.Clean.{
   IsGivenBy,
@@ -234,4 +235,5 @@ module _ {S : Type 0} (g : Ghosts S) where
     pub given_by_run : {Fails : H → ℕ} (qs : List Request) (old : Seen S) (replies : List Reply) (new : Seen S)
         (failed fails : ℕ) (s t : H) (it : IsRunWith g Asked Taken Fails qs old replies new failed fails s t)
         → GivenFor (IsGivenByEach Asked Taken qs) s t it.run.gone
-    given_by_run {Fails} qs old replies new failed fails s t it = given_by_steps Fails qs old replies new it.run.gone s t it.uses
+    given_by_run {Fails} qs old replies new failed fails s t it =
+        given_by_steps Fails qs old replies new it.run.gone s t it.uses

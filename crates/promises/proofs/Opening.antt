@@ -55,7 +55,8 @@ module _ {S : Type 0} (g : Ghosts S) where
   refuses_with_cause stores refused is clean = (is.fault clean, is.others_read clean)
 
   module _ {H : Type 0} (Asked : List ℕ → H → H → Type 0) (Taken : List ℕ → S → H → H → Type 0) where
-    pub opens_again : {Fails : H → ℕ} → laws.OpensAgain g → laws.LeftIsStores g → (stores : List (Held S)) (found : Recovered S)
+    pub opens_again : {Fails : H → ℕ} → laws.OpensAgain g → laws.LeftIsStores g
+        → (stores : List (Held S)) (found : Recovered S)
         (requests : List Request) (resumed : Resumed S) (failed fails : ℕ) (s t : H)
         → resumed.strays.items ≡ found.strays.items → HaveTypes requests → IsRecovered g stores found
         → IsRunWith g Asked Taken Fails requests found.world resumed.replies.items resumed.world failed fails s t

@@ -28,7 +28,8 @@ use Rattle.promises.proofs.Given.{
 
 module _ {S : Type 0} (g : Ghosts S) {H : Type 0} (Asked : List ℕ → H → H → Type 0)
     (Taken : List ℕ → S → H → H → Type 0) where
-  pub runs_twice : {Fails : H → ℕ} (q : Request) (others : List Request) (old one two new : Seen S) (first again : Reply)
+  pub runs_twice : {Fails : H → ℕ} (q : Request) (others : List Request) (old one two new : Seen S)
+      (first again : Reply)
       (between : List Reply) (failed fails : ℕ) (s t u v : H) → IsStepWith g Asked Taken Fails q old first one s t
       → IsRunWith g Asked Taken Fails others one between two failed fails t u
       → IsStepWith g Asked Taken Fails q two again new u v

@@ -69,7 +69,8 @@ module _ {S : Type 0} (g : Ghosts S) where
     pub answers : AllClean g new.members → (w : World) → StandsFor g old w → StandsFor g new w × IsToldOf w p told
 
   -- a request, others, and the request again, each as the one-world machine has it
-  pub record RunsTwice (w : World) (q : Request) (others : List Request) (replies : Replies) (new : Seen S) : Type 0 where
+  pub record RunsTwice (w : World) (q : Request) (others : List Request) (replies : Replies) (new : Seen S) :
+      Type 0 where
     pub given : World
     pub first : Step w q replies.first given
     pub between : List Reply

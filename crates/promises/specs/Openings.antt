@@ -26,7 +26,8 @@ module _ {S : Type 0} (g : Ghosts S) where
       (views : List StoreSight) × AreViewsOf g stores views × ((w : World) × StoresStandFor views w × IsKeptWorld w
       × StandsFor g found.world w × AllOpen g found.world.members)
 
-  -- Where none is opened, the fault that is told is the first that holds, or memory or a store gave out; and no store was
+  -- Where none is opened, the fault that is told is the first that holds, or memory or a store gave out; and no store
+  -- was
   -- changed but that one which reads as a package may have been brought to the second version.
   abbrev pub RefusesWithCause : List (Held S) → Unopened S → Type 0
   RefusesWithCause stores refused = AreClean g refused.stores.items →

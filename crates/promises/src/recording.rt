@@ -4,7 +4,8 @@ ghost use Rattle.promises.specs.Clean.{IsGivenNone, IsRecorded};
 use sqlite::Alter;
 use store_shelf::shelf::Shelf;
 
-/// The stores that a promise speaks of stand in whatever record a shelf keeps of what it is given. All others there were given back as those of children that splits ask for.
+/// The stores that a promise speaks of stand in whatever record a shelf keeps of what it is given.
+/// All others there were given back as those of children that splits ask for.
 pub fn given_is_recorded<S: Alter, H: Shelf<S>>()
     ensures { IsRecorded H.asks H.takes }
 {}

@@ -45,7 +45,8 @@ pub fn open<S: Alter + Drop, W: Watcher>(
     }
 }
 
-/// Stores that a crash left are opened, and requests go on. None where no world was opened, or there was no room for the replies.
+/// Stores that a crash left are opened, and requests go on. None where no world was opened, or
+/// there was no room for the replies.
 pub fn open_and_run<S: Alter + Drop, H: Shelf<S>, W: Watcher>(
     alloc: Global,
     stores: Vec<Connection<S>>,

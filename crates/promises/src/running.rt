@@ -42,7 +42,8 @@ pub struct Shown<S: Alter + Drop> {
     pub told: Told,
 }
 
-/// A new world, of an archive with nothing in it. None where memory or the store gave out, or the frame or the moment is not good.
+/// A new world, of an archive with nothing in it. None where memory or the store gave out, or the
+/// frame or the moment is not good.
 pub fn begin<S: Alter + Drop, H: Shelf<S>>(
     alloc: Global,
     archive: Uuid,

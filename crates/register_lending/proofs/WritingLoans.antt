@@ -24,72 +24,94 @@ use Rattle.register_lending.specs.declared.turn_fault.TurnFault.TheVariants.{Bef
 
 -- ---- a child is filled
 
-pub filled_then : {E F : Type 0} (s : Selection) (at : List ℕ) (source : State) (db : Database) {old mid new : State} {x : Unit {0}} {q : Result (Unit {0}) F} → Steps {E = E} (λ _. FromClean source (CarriesOver s db)) old mid (Ok x) → Steps (λ _. Dates at) mid new q
+pub filled_then : {E F : Type 0} (s : Selection) (at : List ℕ) (source : State) (db : Database) {old mid new : State}
+    {x : Unit {0}} {q : Result (Unit {0}) F} → Steps {E = E} (λ _. FromClean source (CarriesOver s db)) old mid (Ok x)
+    → Steps (λ _. Dates at) mid new q
     → Steps (λ _. FromClean source (Fills s at db)) old new q
 filled_then s at source db first next =
     steps_weaker (λ _. FromClean source (Fills s at db))
-    (λ _ chain clean moment c f from p selected read part reads come. let it = chain.2 moment f (with_cut c p) (chain.1 clean c f from p selected read part reads come) in (it.0, it.1))
+    (λ _ chain clean moment c f from p selected read part reads come. let it =
+    chain.2 moment f (with_cut c p) (chain.1 clean c f from p selected read part reads come) in (it.0, it.1))
     (steps_then first next)
 
 -- ---- a parent lends
 
 -- what is selected leaves it, and the receipt is entered
 abbrev pub TakesAndEnters : Receipt → Selection → Database → Database → Type 0
-TakesAndEnters r s old new = (c : Cut) (f : Frame) (p : Package) → IsSelectionOf c s → Reads f p old → IsPart c p → IsNewReceipt r (less c p) → Reads f (lent r c p) new
+TakesAndEnters r s old new = (c : Cut) (f : Frame) (p : Package) → IsSelectionOf c s → Reads f p old → IsPart c p
+    → IsNewReceipt r (less c p) → Reads f (lent r c p) new
 
-pub taken_then : {E F : Type 0} (r : Receipt) (s : Selection) {old mid new : State} {x : Unit {0}} {q : Result (Unit {0}) F} → Steps {E = E} (λ _. TakesOut s) old mid (Ok x) → Steps (λ _. Becomes (IsNewReceipt r) (with_receipt r)) mid new q → Steps (λ _. TakesAndEnters r s) old new q
+pub taken_then : {E F : Type 0} (r : Receipt) (s : Selection) {old mid new : State} {x : Unit {0}}
+    {q : Result (Unit {0}) F} → Steps {E = E} (λ _. TakesOut s) old mid (Ok x)
+    → Steps (λ _. Becomes (IsNewReceipt r) (with_receipt r)) mid new q → Steps (λ _. TakesAndEnters r s) old new q
 taken_then r s first next =
     steps_weaker (λ _. TakesAndEnters r s)
     (λ _ chain c f p selected reads part receipt. chain.2 f (less c p) (chain.1 c f p selected reads part) receipt)
     (steps_then first next)
 
-pub lent_then : {E F : Type 0} (r : Receipt) (s : Selection) {old mid new : State} {x : Unit {0}} {q : Result (Unit {0}) F} → Steps {E = E} (λ _. TakesAndEnters r s) old mid (Ok x) → Steps (λ _. Dates r.at) mid new q → Steps (λ _. Lends r s) old new q
+pub lent_then : {E F : Type 0} (r : Receipt) (s : Selection) {old mid new : State} {x : Unit {0}}
+    {q : Result (Unit {0}) F} → Steps {E = E} (λ _. TakesAndEnters r s) old mid (Ok x)
+    → Steps (λ _. Dates r.at) mid new q → Steps (λ _. Lends r s) old new q
 lent_then r s first next =
     steps_weaker (λ _. Lends r s)
-    (λ _ chain c f p selected reads part receipt. let it = chain.2 receipt.moment f (lent r c p) (chain.1 c f p selected reads part receipt) in (it.0, it.1))
+    (λ _ chain c f p selected reads part receipt. let it = chain.2 receipt.moment f (lent r c p)
+    (chain.1 c f p selected reads part receipt) in (it.0, it.1))
     (steps_then first next)
 
 -- ---- a parent takes home
 
 -- a source that was read once is read again
-pub brought_then : {E F : Type 0} (s : Selection) (source then_source last_source : State) {old mid new : State} {x : Unit {0}} {q : Result (Unit {0}) F}
+pub brought_then : {E F : Type 0} (s : Selection) (source then_source last_source : State) {old mid new : State}
+    {x : Unit {0}} {q : Result (Unit {0}) F}
     → Stays source then_source → (HasCleanDisk then_source → IsTrue then_source.is_open) → Stays then_source last_source
-    → Steps {E = E} (λ _. FromClean then_source (CarriesOver s source.now)) old mid (Ok x) → Steps (λ _. FromClean last_source (BringsHome then_source.now)) mid new q
+    → Steps {E = E} (λ _. FromClean then_source (CarriesOver s source.now)) old mid (Ok x)
+    → Steps (λ _. FromClean last_source (BringsHome then_source.now)) mid new q
     → Steps (λ _. FromClean last_source (BringsBoth s source.now)) old new q
 brought_then s source then_source last_source stays opened again first next =
     steps_weaker (λ _. FromClean last_source (BringsBoth s source.now))
     (λ _ chain clean c f child p selected read part reads come apart.
     let before : HasCleanDisk then_source = omega (arith, again.survives.clean, clean) in
     let same : then_source.now ≡ source.now = (stays.holds (opened before)).now_is in
-    (chain.2 clean f child (with_cut c p) (subst (Reads f child) (sym same) read) (chain.1 before c f child p selected read part reads come) apart).0)
+    (chain.2 clean f child (with_cut c p) (subst (Reads f child) (sym same) read)
+    (chain.1 before c f child p selected read part reads come) apart).0)
     (steps_then first next)
 
 -- with the receipt of the merge
 abbrev pub BringsAndEnters : Receipt → Selection → Database → Database → Database → Type 0
-BringsAndEnters r s source old new = (c : Cut) (f : Frame) (child p : Package) → IsSelectionOf c s → Reads f child source → Reads f p old → MayReturn r c child p → Reads f (returned r c child p) new
+BringsAndEnters r s source old new = (c : Cut) (f : Frame) (child p : Package) → IsSelectionOf c s
+    → Reads f child source → Reads f p old → MayReturn r c child p → Reads f (returned r c child p) new
 
-pub entered_then : {E F : Type 0} (r : Receipt) (s : Selection) (source : State) (db : Database) {old mid new : State} {x : Unit {0}} {q : Result (Unit {0}) F} → Steps {E = E} (λ _. FromClean source (BringsBoth s db)) old mid (Ok x)
-    → Steps (λ _. Becomes (IsNewReceipt r) (with_receipt r)) mid new q → Steps (λ _. FromClean source (BringsAndEnters r s db)) old new q
+pub entered_then : {E F : Type 0} (r : Receipt) (s : Selection) (source : State) (db : Database) {old mid new : State}
+    {x : Unit {0}} {q : Result (Unit {0}) F} → Steps {E = E} (λ _. FromClean source (BringsBoth s db)) old mid (Ok x)
+    → Steps (λ _. Becomes (IsNewReceipt r) (with_receipt r)) mid new q
+    → Steps (λ _. FromClean source (BringsAndEnters r s db)) old new q
 entered_then r s source db first next =
     steps_weaker (λ _. FromClean source (BringsAndEnters r s db))
-    (λ _ chain clean c f child p selected read reads may. chain.2 f (with_receipts_of child (with_cut c p)) (chain.1 clean c f child p selected read may.part reads may.come may.apart) may.receipt)
+    (λ _ chain clean c f child p selected read reads may. chain.2 f (with_receipts_of child (with_cut c p))
+    (chain.1 clean c f child p selected read may.part reads may.come may.apart) may.receipt)
     (steps_then first next)
 
-pub home_then : {E F : Type 0} (r : Receipt) (s : Selection) (source : State) (db : Database) {old mid new : State} {x : Unit {0}} {q : Result (Unit {0}) F} → Steps {E = E} (λ _. FromClean source (BringsAndEnters r s db)) old mid (Ok x) → Steps (λ _. Dates r.at) mid new q
+pub home_then : {E F : Type 0} (r : Receipt) (s : Selection) (source : State) (db : Database) {old mid new : State}
+    {x : Unit {0}} {q : Result (Unit {0}) F} → Steps {E = E} (λ _. FromClean source (BringsAndEnters r s db)) old mid
+    (Ok x) → Steps (λ _. Dates r.at) mid new q
     → Steps (λ _. FromClean source (TakesHome r s db)) old new q
 home_then r s source db first next =
     steps_weaker (λ _. FromClean source (TakesHome r s db))
-    (λ _ chain clean c f child p selected read reads may. let it = chain.2 may.receipt.moment f (returned r c child p) (chain.1 clean c f child p selected read reads may) in (it.0, it.1))
+    (λ _ chain clean c f child p selected read reads may. let it =
+    chain.2 may.receipt.moment f (returned r c child p) (chain.1 clean c f child p selected read reads may) in
+    (it.0, it.1))
     (steps_then first next)
 
 -- ---- where a transaction failed
 
 -- an error of the commit is none of before it
-pub committing : {X : Type 0} (r : Result X TurnFault) (made fault : Fault) → IsErrAnd r (λ turn. turn ≡ Committing made) → r ≡ Err (Before fault) → ⊥
+pub committing : {X : Type 0} (r : Result X TurnFault) (made fault : Fault)
+    → IsErrAnd r (λ turn. turn ≡ Committing made) → r ≡ Err (Before fault) → ⊥
 committing (Ok x) made fault told is = absurd (let t = told in cc)
 committing (Err turn) made fault told is = let t = told in cc
 
 -- an error that is handed on is the one that came
-pub same_error : {X : Type 0} (r : Result X TurnFault) (came : TurnFault) (fault : Fault) → IsErrAnd r (λ turn. turn ≡ came) → r ≡ Err (Before fault) → came ≡ Before fault
+pub same_error : {X : Type 0} (r : Result X TurnFault) (came : TurnFault) (fault : Fault)
+    → IsErrAnd r (λ turn. turn ≡ came) → r ≡ Err (Before fault) → came ≡ Before fault
 same_error (Ok x) came fault told is = absurd (let t = told in cc)
 same_error (Err turn) came fault told is = let t = told in cc

@@ -27,7 +27,8 @@ pub record IsPart (c : Cut) (p : Package) : Type 0 where
   pub links : AllByRecursion (λ l. Contains p.links l) c.links
   pub item_order : IsArranged item_key c.items
   pub link_order : IsArranged link_key c.links
-  pub whole : AllByRecursion (λ i. AllByRecursion (λ l. has_end i.identity l ≡ true → has link_key (link_key l) c.links ≡ true) p.links) c.items
+  pub whole : AllByRecursion (λ i. AllByRecursion (λ l. has_end i.identity l ≡ true
+      → has link_key (link_key l) c.links ≡ true) p.links) c.items
 
 -- they are new to the package, and the links have their ends there
 pub record MayCome (c : Cut) (p : Package) : Type 0 where
@@ -37,8 +38,10 @@ pub record MayCome (c : Cut) (p : Package) : Type 0 where
 
 -- What was selected of the package leaves it.
 abbrev pub TakesOut : Selection → Database → Database → Type 0
-TakesOut s old new = (c : Cut) (f : Frame) (p : Package) → IsSelectionOf c s → Reads f p old → IsPart c p → Reads f (less c p) new
+TakesOut s old new = (c : Cut) (f : Frame) (p : Package) → IsSelectionOf c s → Reads f p old → IsPart c p
+    → Reads f (less c p) new
 
 -- What was selected of the package that another database reads as comes to this one.
 abbrev pub CarriesOver : Selection → Database → Database → Database → Type 0
-CarriesOver s source old new = (c : Cut) (f : Frame) (from p : Package) → IsSelectionOf c s → Reads f from source → IsPart c from → Reads f p old → MayCome c p → Reads f (with_cut c p) new
+CarriesOver s source old new = (c : Cut) (f : Frame) (from p : Package) → IsSelectionOf c s → Reads f from source
+    → IsPart c from → Reads f p old → MayCome c p → Reads f (with_cut c p) new

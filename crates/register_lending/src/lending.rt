@@ -1,4 +1,5 @@
-//! What a split writes: the store of the child, which is made, filled and committed first, and then the store of the parent, in one transaction with the receipt.
+//! What a split writes: the store of the child, which is made, filled and committed first, and then
+//! the store of the parent, in one transaction with the receipt.
 ghost use Rattle.std.specs.Prelude.{◌≡◌, Err, IsTrue, OnOk};
 ghost use Rattle.sqlite.specs.Held.{state};
 ghost use Rattle.sqlite.specs.State.{HasCleanDisk, Survives};
@@ -29,7 +30,9 @@ fn fill_inside<S: Alter>(
     ensures same_reference { tx.new.conn.ghost_name ≡ tx.old.conn.ghost_name }
     ensures source { Stays (state S.Store source.old) (state S.Store source.new) }
     ensures opens { HasCleanDisk (state S.Store source.new) → OnOk result (IsTrue (state S.Store source.new).is_open) }
-    ensures steps { Steps (λ _. FromClean (state S.Store source.new) (Fills selection.now at.now (state S.Store source.old).now)) (state S.Store tx.old.conn.now) (state S.Store tx.new.conn.now) result }
+    ensures steps { Steps (λ _. FromClean (state S.Store source.new)
+        (Fills selection.now at.now (state S.Store source.old).now)) (state S.Store tx.old.conn.now)
+        (state S.Store tx.new.conn.now) result }
 {
     carry_over(source, tx, selection)?;
     date_contents(tx, at)
@@ -46,7 +49,9 @@ pub fn fill<S: Alter>(
     requires child { Rests (state S.Store conn.old) }
     ensures source { Stays (state S.Store source.old) (state S.Store source.new) }
     ensures opens { HasCleanDisk (state S.Store source.new) → OnOk result (IsTrue (state S.Store source.new).is_open) }
-    ensures turns { Turns (λ _. FromClean (state S.Store source.new) (Fills selection.now at.now (state S.Store source.old).now)) (state S.Store conn.old) (state S.Store conn.new) result }
+    ensures turns { Turns (λ _. FromClean (state S.Store source.new)
+        (Fills selection.now at.now (state S.Store source.old).now)) (state S.Store conn.old) (state S.Store conn.new)
+        result }
 {
     let mut tx = conn.transaction();
     fill_inside(source, &mut tx, selection, at)?;
@@ -61,7 +66,8 @@ fn lend_inside<S: Alter>(
     receipt: &Receipt,
 ) -> Result<(), Fault>
     ensures same_reference { tx.new.conn.ghost_name ≡ tx.old.conn.ghost_name }
-    ensures steps { Steps (λ _. Lends receipt.now selection.now) (state S.Store tx.old.conn.now) (state S.Store tx.new.conn.now) result }
+    ensures steps { Steps (λ _. Lends receipt.now selection.now) (state S.Store tx.old.conn.now)
+        (state S.Store tx.new.conn.now) result }
 {
     take(tx, selection)?;
     enter(tx, receipt)?;
@@ -79,9 +85,11 @@ pub fn lend<S: Alter>(
     receipt: &Receipt,
 ) -> Result<(), TurnFault>
     requires { Rests (state S.Store conn.old) }
-    ensures turns { Turns (λ _. Lends receipt.now selection.now) (state S.Store conn.old) (state S.Store conn.new) result }
+    ensures turns { Turns (λ _. Lends receipt.now selection.now) (state S.Store conn.old) (state S.Store conn.new)
+        result }
     ensures was_open { IsTrue (state S.Store conn.new).is_open → IsTrue (state S.Store conn.old).is_open }
-    ensures unharmed { (fault : Fault) → result ≡ Err (Before fault) → Survives (state S.Store conn.old) (state S.Store conn.new) (λ _. ⊥) }
+    ensures unharmed { (fault : Fault) → result ≡ Err (Before fault)
+        → Survives (state S.Store conn.old) (state S.Store conn.new) (λ _. ⊥) }
 {
     let mut tx = conn.transaction();
     lend_inside(&mut tx, selection, receipt)?;

@@ -13,7 +13,8 @@ use package_tables::receipts::receipt_after;
 use sheet_types::refusal::Refusal;
 use sqlite::{Alter, Connection, Transaction};
 
-/// A refusal of a transfer as a fault. There is room for what a request that is not refused moves, so a store that has none is one that failed.
+/// A refusal of a transfer as a fault. There is room for what a request that is not refused moves,
+/// so a store that has none is one that failed.
 fn fault_of(why: Refusal) -> Fault {
     match why {
         Refusal::OutOfMemory => Fault::OutOfMemory,
@@ -30,7 +31,9 @@ fn carry<S: Alter>(
     requires { Rests (state S.Store source.old) }
     ensures same_reference { tx.new.conn.ghost_name ≡ tx.old.conn.ghost_name }
     ensures source { Stays (state S.Store source.old) (state S.Store source.new) }
-    ensures steps { Steps (λ _. FromClean (state S.Store source.new) (CarriesOver selection.now (state S.Store source.old).now)) (state S.Store tx.old.conn.now) (state S.Store tx.new.conn.now) result }
+    ensures steps { Steps (λ _. FromClean (state S.Store source.new)
+        (CarriesOver selection.now (state S.Store source.old).now)) (state S.Store tx.old.conn.now)
+        (state S.Store tx.new.conn.now) result }
 {
     match transfer::pages::carry_over(source, tx, selection) {
         Ok(()) => Ok(()),
@@ -48,7 +51,9 @@ pub(crate) fn carry_over<S: Alter>(
     ensures same_reference { tx.new.conn.ghost_name ≡ tx.old.conn.ghost_name }
     ensures source { Stays (state S.Store source.old) (state S.Store source.new) }
     ensures opens { HasCleanDisk (state S.Store source.new) → OnOk result (IsTrue (state S.Store source.new).is_open) }
-    ensures steps { Steps (λ _. FromClean (state S.Store source.new) (CarriesOver selection.now (state S.Store source.old).now)) (state S.Store tx.old.conn.now) (state S.Store tx.new.conn.now) result }
+    ensures steps { Steps (λ _. FromClean (state S.Store source.new)
+        (CarriesOver selection.now (state S.Store source.old).now)) (state S.Store tx.old.conn.now)
+        (state S.Store tx.new.conn.now) result }
 {
     carry(source, tx, selection)?;
     receipt_after(source, i64::MAX)?;
@@ -61,7 +66,8 @@ pub(crate) fn take<S: Alter>(
     selection: &Selection,
 ) -> Result<(), Fault>
     ensures same_reference { tx.new.conn.ghost_name ≡ tx.old.conn.ghost_name }
-    ensures steps { Steps (λ _. TakesOut selection.now) (state S.Store tx.old.conn.now) (state S.Store tx.new.conn.now) result }
+    ensures steps { Steps (λ _. TakesOut selection.now) (state S.Store tx.old.conn.now)
+        (state S.Store tx.new.conn.now) result }
 {
     match transfer::taking::take(tx, selection) {
         Ok(()) => Ok(()),

@@ -1,4 +1,5 @@
-//! What a merge writes: the store of the parent, in one transaction with all that the child holds, its receipts, and the receipt of the merge. The child is only read.
+//! What a merge writes: the store of the parent, in one transaction with all that the child holds,
+//! its receipts, and the receipt of the merge. The child is only read.
 ghost use Rattle.std.specs.Prelude.{◌≡◌, Err, IsTrue, OnOk};
 ghost use Rattle.sqlite.specs.Held.{state};
 ghost use Rattle.sqlite.specs.State.{HasCleanDisk, Survives};
@@ -29,7 +30,9 @@ fn bring_both<S: Alter>(
     ensures same_reference { tx.new.conn.ghost_name ≡ tx.old.conn.ghost_name }
     ensures child { Stays (state S.Store child.old) (state S.Store child.new) }
     ensures opens { HasCleanDisk (state S.Store child.new) → OnOk result (IsTrue (state S.Store child.new).is_open) }
-    ensures steps { Steps (λ _. FromClean (state S.Store child.new) (BringsBoth selection.now (state S.Store child.old).now)) (state S.Store tx.old.conn.now) (state S.Store tx.new.conn.now) result }
+    ensures steps { Steps (λ _. FromClean (state S.Store child.new)
+        (BringsBoth selection.now (state S.Store child.old).now)) (state S.Store tx.old.conn.now)
+        (state S.Store tx.new.conn.now) result }
 {
     carry_over(child, tx, selection)?;
     bring_home(child, tx)
@@ -46,14 +49,17 @@ fn take_home_inside<S: Alter>(
     ensures same_reference { tx.new.conn.ghost_name ≡ tx.old.conn.ghost_name }
     ensures child { Stays (state S.Store child.old) (state S.Store child.new) }
     ensures opens { HasCleanDisk (state S.Store child.new) → OnOk result (IsTrue (state S.Store child.new).is_open) }
-    ensures steps { Steps (λ _. FromClean (state S.Store child.new) (TakesHome receipt.now selection.now (state S.Store child.old).now)) (state S.Store tx.old.conn.now) (state S.Store tx.new.conn.now) result }
+    ensures steps { Steps (λ _. FromClean (state S.Store child.new)
+        (TakesHome receipt.now selection.now (state S.Store child.old).now)) (state S.Store tx.old.conn.now)
+        (state S.Store tx.new.conn.now) result }
 {
     bring_both(child, tx, selection)?;
     enter(tx, receipt)?;
     date_contents(tx, receipt.at.as_str())
 }
 
-/// Puts all that a child holds, its receipts and the receipt of the merge into the store of its parent, in one transaction. The child is only read.
+/// Puts all that a child holds, its receipts and the receipt of the merge into the store of its
+/// parent, in one transaction. The child is only read.
 ///
 /// # Errors
 ///
@@ -68,9 +74,12 @@ pub fn take_home<S: Alter>(
     requires parent { Rests (state S.Store conn.old) }
     ensures child { Stays (state S.Store child.old) (state S.Store child.new) }
     ensures opens { HasCleanDisk (state S.Store child.new) → OnOk result (IsTrue (state S.Store child.new).is_open) }
-    ensures turns { Turns (λ _. FromClean (state S.Store child.new) (TakesHome receipt.now selection.now (state S.Store child.old).now)) (state S.Store conn.old) (state S.Store conn.new) result }
+    ensures turns { Turns (λ _. FromClean (state S.Store child.new)
+        (TakesHome receipt.now selection.now (state S.Store child.old).now)) (state S.Store conn.old)
+        (state S.Store conn.new) result }
     ensures was_open { IsTrue (state S.Store conn.new).is_open → IsTrue (state S.Store conn.old).is_open }
-    ensures unharmed { (fault : Fault) → result ≡ Err (Before fault) → Survives (state S.Store conn.old) (state S.Store conn.new) (λ _. ⊥) }
+    ensures unharmed { (fault : Fault) → result ≡ Err (Before fault)
+        → Survives (state S.Store conn.old) (state S.Store conn.new) (λ _. ⊥) }
 {
     let mut tx = conn.transaction();
     take_home_inside(child, &mut tx, selection, receipt)?;

@@ -1,5 +1,7 @@
 -- The free keys below a bound, gathered from the least up.
-use Rattle.std.proofs.Common.{◌≡◌, ℕ, ℤ, pos, ◌≤◌, ◌<◌, ◌≤ℤ◌, ◌<ℤ◌, ◌+ℤ◌, List, [], ◌∷◌, ◌++◌, Bool, true, false, ◌||◌, ◌⊎◌, inl, inr, ⊎_elim, refl, sym, ap, ◌∙◌, subst, arith, length, FitsSigned, w64, to_z, of_z, to_z-of_z}
+use Rattle.std.proofs.Common.{◌≡◌, ℕ, ℤ, pos, ◌≤◌, ◌<◌, ◌≤ℤ◌, ◌<ℤ◌, ◌+ℤ◌, List, [], ◌∷◌, ◌++◌, Bool, true, false}
+use Rattle.std.proofs.Common.{◌||◌, ◌⊎◌, inl, inr, ⊎_elim, refl, sym, ap, ◌∙◌, subst, arith, length, FitsSigned, w64}
+use Rattle.std.proofs.Common.{to_z, of_z, to_z-of_z}
 use Rattle.std.proofs.lemmas.Bool.{true≢false, and_parts, and_from, false_from_ne_true}
 use Rattle.std.proofs.lemmas.Cmp.{int_eq_equiv}
 use Rattle.std.proofs.lemmas.Int.{ints}
@@ -27,14 +29,16 @@ same_key : (k : ℤ) → int_eq k k ≡ true
 same_key k = (signed_Decides k k).1 refl
 
 other_key : (k y : ℤ) → y <ℤ k → int_eq k y ≡ false
-other_key k y less = false_from_ne_true (int_eq k y) (λ same. let none : y <ℤ y = subst (λ z. y <ℤ z) ((signed_Decides k y).0 same) less in omega (arith, ints))
+other_key k y less = false_from_ne_true (int_eq k y) (λ same. let none : y <ℤ y =
+    subst (λ z. y <ℤ z) ((signed_Decides k y).0 same) less in omega (arith, ints))
 
 from_one : (used : List ℤ) (k : ℤ) → IsFree used k → int_le (pos 1) k ≡ true
 from_one used k free = (and_parts (int_le (pos 1) k) (int_le k (pos 1000000)) free.0).0
 
 -- a key below the next is below this or is this
 below_or_same : (q k : ℤ) → q <ℤ (k +ℤ pos 1) → (q <ℤ k) ⊎ (q ≡ k)
-below_or_same q k less = elim (int_lt q k) as (λ v. int_lt q k ≡ v → (q <ℤ k) ⊎ (q ≡ k)) [ true ↦ λ low. inl (omega (arith, ints)) | false ↦ λ high. inr (omega (arith, ints)) ] refl
+below_or_same q k less = elim (int_lt q k) as (λ v. int_lt q k ≡ v → (q <ℤ k) ⊎ (q ≡ k))
+    [ true ↦ λ low. inl (omega (arith, ints)) | false ↦ λ high. inr (omega (arith, ints)) ] refl
 
 pub least_none : (used : List ℤ) → AreLeast used (pos 1) []
 unfolding IsDistinct
@@ -45,26 +49,37 @@ least_none used = record {
   all = λ k free less. let from = from_one used k free in let none : ⊥ = omega (arith, ints) in absurd none;
 }
 
-pub least_more : (used keys : List ℤ) (k : ℤ) → AreLeast used k keys → int_le k (pos 1000000) ≡ true → list_any (int_eq k) used ≡ false → AreLeast used (k +ℤ pos 1) (keys ++ k ∷ [])
+pub least_more : (used keys : List ℤ) (k : ℤ) → AreLeast used k keys → int_le k (pos 1000000) ≡ true
+    → list_any (int_eq k) used ≡ false → AreLeast used (k +ℤ pos 1) (keys ++ k ∷ [])
 least_more used keys k it most unused = record {
   from = let low = it.from in omega (arith, ints);
-  below = All-snoc (λ y. y <ℤ (k +ℤ pos 1)) keys k (All-weaker (λ y. y <ℤ k) (λ y. y <ℤ (k +ℤ pos 1)) (λ y less. omega (arith, ints)) keys it.below) (omega (arith, ints));
+  below = All-snoc (λ y. y <ℤ (k +ℤ pos 1)) keys k (All-weaker (λ y. y <ℤ k) (λ y. y <ℤ (k +ℤ pos 1))
+      (λ y less. omega (arith, ints)) keys it.below) (omega (arith, ints));
   free = record {
-    distinct = IsDistinct-push int_eq_equiv keys k it.free.distinct (none_any (int_eq k) keys (All-weaker (λ y. y <ℤ k) (λ y. int_eq k y ≡ false) (λ y less. other_key k y less) keys it.below));
-    free = All-snoc (IsFree used) keys k it.free.free (and_from (int_le (pos 1) k) (int_le k (pos 1000000)) (let low = it.from in grind (arith, ints)) most, unused);
+    distinct = IsDistinct-push int_eq_equiv keys k it.free.distinct
+        (none_any (int_eq k) keys (All-weaker (λ y. y <ℤ k) (λ y. int_eq k y ≡ false) (λ y less. other_key k y less)
+        keys it.below));
+    free = All-snoc (IsFree used) keys k it.free.free (
+      and_from (int_le (pos 1) k) (int_le k (pos 1000000))
+          (let low = it.from in grind (arith, ints)) most,
+      unused,
+    );
   };
   all = λ q free less. list_any-append (int_eq q) keys (k ∷ []) ∙ ⊎_elim
       (λ low. ap (λ b. b || (int_eq q k || false)) (it.all q free low))
-      (λ here. ap (λ b. list_any (int_eq q) keys || (b || false)) (ap (int_eq q) (sym here) ∙ same_key q) ∙ or-true (list_any (int_eq q) keys))
+      (λ here. ap (λ b. list_any (int_eq q) keys || (b || false)) (ap (int_eq q) (sym here) ∙ same_key q)
+      ∙ or-true (list_any (int_eq q) keys))
       (below_or_same q k less);
 }
 
-pub least_same : (used keys : List ℤ) (k : ℤ) → AreLeast used k keys → list_any (int_eq k) used ≡ true → AreLeast used (k +ℤ pos 1) keys
+pub least_same : (used keys : List ℤ) (k : ℤ) → AreLeast used k keys → list_any (int_eq k) used ≡ true
+    → AreLeast used (k +ℤ pos 1) keys
 least_same used keys k it is_used = record {
   from = let low = it.from in omega (arith, ints);
   below = All-weaker (λ y. y <ℤ k) (λ y. y <ℤ (k +ℤ pos 1)) (λ y less. omega (arith, ints)) keys it.below;
   free = it.free;
-  all = λ q free less. ⊎_elim (λ low. it.all q free low) (λ here. absurd (true≢false (sym is_used ∙ ap (λ x. list_any (int_eq x) used) (sym here) ∙ free.1))) (below_or_same q k less);
+  all = λ q free less. ⊎_elim (λ low. it.all q free low) (λ here. absurd
+      (true≢false (sym is_used ∙ ap (λ x. list_any (int_eq x) used) (sym here) ∙ free.1))) (below_or_same q k less);
 }
 
 -- the next key, as it is counted
@@ -72,10 +87,15 @@ pub next_key : (k : ℤ) → pos 1 ≤ℤ k → int_le k (pos 1000000) ≡ true 
 next_key k low high = let fits : FitsSigned w64 (k +ℤ pos 1) = omega (arith, ints) in sym (to_z-of_z fits)
 
 -- an element of free keys is free
-one_is_free : (used keys : List ℤ) (q : ℤ) → AllByRecursion (IsFree used) keys → list_any (int_eq q) keys ≡ true → IsFree used q
-one_is_free used keys q free there = let at = any_at (int_eq q) keys there in subst (IsFree used) (sym ((signed_Decides q at.0).0 at.2)) (All-In (IsFree used) at.0 keys free at.1)
+one_is_free : (used keys : List ℤ) (q : ℤ) → AllByRecursion (IsFree used) keys → list_any (int_eq q) keys ≡ true
+    → IsFree used q
+one_is_free used keys q free there = let at = any_at (int_eq q) keys there in subst (IsFree used)
+    (sym ((signed_Decides q at.0).0 at.2)) (All-In (IsFree used) at.0 keys free at.1)
 
 -- where all free keys are too few, no free keys are enough
-pub too_few : (used least : List ℤ) (n : ℕ) → length least < n → ((k : ℤ) → IsFree used k → list_any (int_eq k) least ≡ true) → (keys : List ℤ) → AreFree used keys → length keys < n
+pub too_few : (used least : List ℤ) (n : ℕ) → length least < n
+    → ((k : ℤ) → IsFree used k → list_any (int_eq k) least ≡ true) → (keys : List ℤ) → AreFree used keys
+    → length keys < n
 too_few used least n few all keys free =
-    let most : length keys ≤ length least = length-le_from_is_member int_eq_equiv keys least free.distinct (λ q there. all q (one_is_free used keys q free.free there)) in omega arith
+    let most : length keys ≤ length least = length-le_from_is_member int_eq_equiv keys least free.distinct
+    (λ q there. all q (one_is_free used keys q free.free there)) in omega arith

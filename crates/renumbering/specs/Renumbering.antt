@@ -17,4 +17,5 @@ pub record IsRenumbering (old used : List ℤ) (pairs : List (ℤ × ℤ)) : Typ
 
 -- however many free keys are taken, there are more different keys among the old ones
 abbrev pub HasTooMany : List ℤ → List ℤ → Type 0
-HasTooMany old used = (keys : List ℤ) → AreFree used keys → (some : List ℤ) × IsDistinct int_eq some × AllByRecursion (λ key. list_any (int_eq key) old ≡ true) some × (length keys < length some)
+HasTooMany old used = (keys : List ℤ) → AreFree used keys → (some : List ℤ) × IsDistinct int_eq some
+    × AllByRecursion (λ key. list_any (int_eq key) old ≡ true) some × (length keys < length some)

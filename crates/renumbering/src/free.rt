@@ -13,7 +13,8 @@ use std::alloc::{AllocError, Global};
 /// The different keys of a list, from the least up.
 pub(crate) fn distinct(alloc: Global, keys: &[i64]) -> Result<Vec<i64>, AllocError>
     ensures order { IfOk result (λ sorted. IsStrictlySortedBy int_cmp sorted.items) }
-    ensures same { IfOk result (λ sorted. (key : ℤ) → list_any (int_eq key) sorted.items ≡ list_any (int_eq key) keys.now) }
+    ensures same { IfOk result (λ sorted. (key : ℤ) → list_any (int_eq key) sorted.items
+        ≡ list_any (int_eq key) keys.now) }
 {
     let mut sorted = keys.to_vec(alloc)?;
     sorted.sort_unstable();
@@ -33,7 +34,8 @@ pub(crate) fn is_among(sorted: &[i64], key: i64) -> bool
 fn least_free(alloc: Global, used: &[i64], n: usize) -> Result<Vec<i64>, AllocError>
     ensures free { IfOk result (λ keys. AreFree used.now keys.items) }
     ensures most { IfOk result (λ keys. length keys.items ≤ n) }
-    ensures all { IfOk result (λ keys. length keys.items < n → (key : ℤ) → IsFree used.now key → list_any (int_eq key) keys.items ≡ true) }
+    ensures all { IfOk result (λ keys. length keys.items < n → (key : ℤ) → IsFree used.now key
+        → list_any (int_eq key) keys.items ≡ true) }
 {
     let taken = distinct(alloc, used)?;
     let mut keys = Vec::new(alloc);

@@ -28,7 +28,8 @@ impl Model for Renumber {
 }
 
 impl Renumber {
-    /// A new key for each of the old ones: a free one beside those that are used, and another for each. A key that stands twice among the old ones has one.
+    /// A new key for each of the old ones: a free one beside those that are used, and another for
+    /// each. A key that stands twice among the old ones has one.
     ///
     /// # Errors
     ///
@@ -63,7 +64,8 @@ impl Renumber {
         }
     }
 
-    /// The new keys of the two ends of a link, each by the renumbering of its own kind: this one is of the base's. Takes no memory.
+    /// The new keys of the two ends of a link, each by the renumbering of its own kind: this one is
+    /// of the base's. Takes no memory.
     pub fn carry(&self, related_keys: &Renumber, base: i64, related: i64) -> (i64, i64)
         requires base { IsSome (new_key self.now base) }
         requires related { IsSome (new_key related_keys.now related) }

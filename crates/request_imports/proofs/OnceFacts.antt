@@ -1,5 +1,7 @@
 -- A list that is the same at both readings is carried out as one that is held.
-use Rattle.std.proofs.Common.{◌≡◌, ◌∙◌, ◌⊎◌, ◌-◌, ◌≤◌, ◌++◌, ◌∷◌, [], ℕ, zero, suc, List, Option, Some, None, Result, Ok, Err, IfSome, take, length, length-append, append-nil, ap, refl, sym, subst, inl, inr, arith}
+use Rattle.std.proofs.Common.{◌≡◌, ◌∙◌, ◌⊎◌, ◌-◌, ◌≤◌, ◌++◌, ◌∷◌, [], ℕ, zero, suc, List, Option, Some, None, Result}
+use Rattle.std.proofs.Common.{Ok, Err, IfSome, take, length, length-append, append-nil, ap, refl, sym, subst, inl}
+use Rattle.std.proofs.Common.{inr, arith}
 use Rattle.std.proofs.Math.Logic.{⊎_elim}
 use Rattle.std.proofs.lemmas.List.{take-append-le}
 use Rattle.std.proofs.Math.Seq.{take-append_seam}
@@ -30,25 +32,30 @@ take_within (suc k) [] = omega arith
 take_within (suc k) (x ∷ xs) = omega (arith, take_within k xs)
 
 -- the report of replies is that of the requests that have one
-report_more : (requests rest : List Request) (replies : List (Result Receipt Refusal)) → length replies ≤ length requests
+report_more : (requests rest : List Request) (replies : List (Result Receipt Refusal))
+    → length replies ≤ length requests
     → report_of (requests ++ rest) replies ≡ report_of requests replies
 report_more requests rest replies le = ap (λ l. report_header ++ l) (lines_within 1 requests rest replies le)
 
-before_more : (requests rest : List Request) (replies : List (Result Receipt Refusal)) → length replies ≤ length requests
+before_more : (requests rest : List Request) (replies : List (Result Receipt Refusal))
+    → length replies ≤ length requests
     → report_before (requests ++ rest) replies ≡ report_before requests replies
 before_more requests rest [] le = refl
 before_more requests rest (x ∷ xs) le =
     let fewer = take_within (length (x ∷ xs) - 1) (x ∷ xs) in
-    ap (λ l. report_header ++ l) (lines_within 1 requests rest (take (length (x ∷ xs) - 1) (x ∷ xs)) (omega (arith, le, fewer)))
+    ap (λ l. report_header ++ l) (lines_within 1 requests rest (take (length (x ∷ xs) - 1) (x ∷ xs))
+    (omega (arith, le, fewer)))
 
 -- the list of which some requests are the first
-whole : (text : Option (List ℕ)) (all requests : List Request) → IfSome text (λ t. IsList t all) → IfSome text (λ t. IsBegun t requests)
+whole : (text : Option (List ℕ)) (all requests : List Request) → IfSome text (λ t. IsList t all)
+    → IfSome text (λ t. IsBegun t requests)
     → (list : List Request) × IfSome text (λ t. IsList t list) × ((rest : List Request) × (list ≡ requests ++ rest))
 whole None all requests list begun = (requests, tt, ([], sym (append-nil requests)))
 whole (Some t) all requests list begun = (all, list, list_goes_on t all requests list begun)
 
 -- it is no other at the second reading
-unchanged : (text : Option (List ℕ)) (count : ℕ) (all requests : List Request) → length all ≡ count → IfSome text (λ t. IsList t all) → IfSome text (IsOther count requests)
+unchanged : (text : Option (List ℕ)) (count : ℕ) (all requests : List Request) → length all ≡ count
+    → IfSome text (λ t. IsList t all) → IfSome text (IsOther count requests)
     → IfSome text (λ t. ⊥)
 unchanged None count all requests long list other = tt
 unchanged (Some t) count all requests long list (inl (few, other)) =
@@ -57,11 +64,19 @@ unchanged (Some t) count all requests long list (inl (few, other)) =
 unchanged (Some t) count all requests long list (inr (many, begun, more)) =
     let on = list_goes_on t all (requests ++ more.0 ∷ []) list more.1 in
     let grown : length all ≡ length ((requests ++ more.0 ∷ []) ++ on.0) = ap length on.1 in
-    absurd (omega (arith, grown, length-append (requests ++ more.0 ∷ []) on.0, length-append requests (more.0 ∷ []), many, long))
+    absurd (omega (
+      arith,
+      grown,
+      length-append (requests ++ more.0 ∷ []) on.0,
+      length-append requests (more.0 ∷ []),
+      many,
+      long,
+    ))
 
 -- nor has it a fault
 faultless : (text : Option (List ℕ)) (all : List Request) (fault : ReadFault) → IfSome text (λ t. IsList t all)
-    → (fault ≡ Memory) ⊎ ((fault ≡ Read) ⊎ IfSome text (λ t. MeetsFirst t fault)) → IfSome text (λ t. (fault ≡ Memory) ⊎ (fault ≡ Read))
+    → (fault ≡ Memory) ⊎ ((fault ≡ Read) ⊎ IfSome text (λ t. MeetsFirst t fault))
+    → IfSome text (λ t. (fault ≡ Memory) ⊎ (fault ≡ Read))
 faultless None all fault list why = tt
 faultless (Some t) all fault list (inl want) = inl want
 faultless (Some t) all fault list (inr (inl failed)) = inr failed
@@ -69,8 +84,10 @@ faultless (Some t) all fault list (inr (inr met)) = absurd (list_has_no_fault t 
 
 -- what holds of each end holds of all
 by_end : (P : Result (Unit {0}) TwiceFault → Type 0) → ((x : Unit {0}) → P (Ok x))
-    → ((why : ReadFault) → P (Err (Import (Unread why)))) → ((n : ℕ) (fault : Fault) → P (Err (Import (Stopped n fault))))
-    → P (Err (Import Unwritten)) → ((n : ℕ) → P (Err (Changed n))) → ((n : ℕ) (fault : ReadFault) → P (Err (Broken n fault)))
+    → ((why : ReadFault) → P (Err (Import (Unread why)))) → ((n : ℕ) (fault : Fault)
+    → P (Err (Import (Stopped n fault))))
+    → P (Err (Import Unwritten)) → ((n : ℕ) → P (Err (Changed n)))
+    → ((n : ℕ) (fault : ReadFault) → P (Err (Broken n fault)))
     → (r : Result (Unit {0}) TwiceFault) → P r
 by_end P done unread stopped unwritten changed broken (Ok x) = done x
 by_end P done unread stopped unwritten changed broken (Err (Import (Unread why))) = unread why
@@ -85,14 +102,16 @@ first_of : (n : ℕ) (requests list rest : List Request) → length requests ≡
 first_of n requests list rest long same = ap (λ qs. take n qs) same
     ∙ ap (λ k. take k (requests ++ rest)) (sym long) ∙ take-append_seam requests rest
 
-first_within : (n : ℕ) (requests list rest : List Request) → length requests ≡ n → list ≡ requests ++ rest → n ≤ length list
+first_within : (n : ℕ) (requests list rest : List Request) → length requests ≡ n → list ≡ requests ++ rest
+    → n ≤ length list
 first_within n requests list rest long same =
     let grown : length list ≡ length (requests ++ rest) = ap length same in
     omega (arith, long, grown, length-append requests rest)
 
 module _ {S : Type 0} (g : Ghosts S) where
   module _ (requests rest : List Request) (old new : Seen S) (failed fails : ℕ) (before after : Option (List ℕ)) where
-    stopped_more : (n : ℕ) (fault : Fault) → IsImported g requests old new failed fails before after (Err (Stopped n fault))
+    stopped_more : (n : ℕ) (fault : Fault) → IsImported g requests old new failed fails before after
+        (Err (Stopped n fault))
         → IsImported g (requests ++ rest) old new failed fails before after (Err (Stopped n fault))
     stopped_more n fault it = record {
       replies = it.replies;
@@ -101,17 +120,22 @@ module _ {S : Type 0} (g : Ghosts S) where
       written = (it.written.0, it.written.1, rw (report_more requests rest it.replies it.some) it.written.2);
     }
 
-    unwritten_more : IsImported g requests old new failed fails before after (Err Unwritten) → IsImported g (requests ++ rest) old new failed fails before after (Err Unwritten)
+    unwritten_more : IsImported g requests old new failed fails before after (Err Unwritten)
+        → IsImported g (requests ++ rest) old new failed fails before after (Err Unwritten)
     unwritten_more it = record {
       replies = it.replies;
       some = omega (arith, it.some, length-append requests rest);
       ran = rw (take-append-le (length it.replies) requests rest it.some) it.ran;
-      written = subst (λ sent. WentOutPast sent before after (report_of (requests ++ rest) it.replies)) (sym (before_more requests rest it.replies it.some))
-          (subst (WentOutPast (report_before requests it.replies) before after) (sym (report_more requests rest it.replies it.some)) it.written);
+      written = subst (λ sent. WentOutPast sent before after (report_of (requests ++ rest) it.replies))
+          (sym (before_more requests rest it.replies it.some))
+          (subst (WentOutPast (report_before requests it.replies) before after)
+          (sym (report_more requests rest it.replies it.some)) it.written);
     }
 
-  module _ {W : Type 0} (old new : Seen S) (failed fails : ℕ) (writer writer' : W) (before after : Option (List ℕ)) where
-    either : (text : Option (List ℕ)) (fault : ReadFault) → IsWhyUnread text fault ⊎ IsWhyUnread text fault → IsWhyUnread text fault
+  module _ {W : Type 0} (old new : Seen S) (failed fails : ℕ) (writer writer' : W)
+      (before after : Option (List ℕ)) where
+    either : (text : Option (List ℕ)) (fault : ReadFault) → IsWhyUnread text fault ⊎ IsWhyUnread text fault
+        → IsWhyUnread text fault
     either text fault (inl why) = why
     either text fault (inr why) = why
 
@@ -126,7 +150,8 @@ module _ {S : Type 0} (g : Ghosts S) where
 
     -- the two ways of an import that is read twice: a list was not read, or its requests were carried out
     abbrev Stayed : Option (List ℕ) → Result (Unit {0}) TwiceFault → Type 0
-    Stayed text r = (fault : ReadFault) × (r ≡ Err (Import (Unread fault))) × (IsWhyUnread text fault ⊎ IsWhyUnread text fault)
+    Stayed text r = (fault : ReadFault) × (r ≡ Err (Import (Unread fault)))
+        × (IsWhyUnread text fault ⊎ IsWhyUnread text fault)
         × (new ≡ old) × (fails ≡ failed) × (writer' ≡ writer)
 
     abbrev Went : Option (List ℕ) → Result (Unit {0}) TwiceFault → Type 0
@@ -170,7 +195,8 @@ module _ {S : Type 0} (g : Ghosts S) where
         let w = whole text it.1.0 it.2.0 it.1.2 it.2.1.1 in
         stopped_whole text n fault it.2.0 w.0 w.2.0 w.1 w.2.1 it.2.2
 
-    unwritten_stayed : (text : Option (List ℕ)) → Stayed text (Err (Import Unwritten)) → Once text (Err (Import Unwritten))
+    unwritten_stayed : (text : Option (List ℕ)) → Stayed text (Err (Import Unwritten))
+        → Once text (Err (Import Unwritten))
     unwritten_stayed text it = cc it.1
 
     unwritten_whole : (text : Option (List ℕ)) (requests list rest : List Request)
@@ -220,6 +246,8 @@ module _ {S : Type 0} (g : Ghosts S) where
         (λ n. ⊎_elim (changed_stayed text n) (changed_went text n))
         (λ n fault. ⊎_elim (broken_stayed text n fault) (broken_went text n fault)) r
 
-    pub once_of : (text again : Option (List ℕ)) (r : Result (Unit {0}) TwiceFault) → ImportsTwice g text again old new failed fails writer writer' before after r
+    pub once_of : (text again : Option (List ℕ)) (r : Result (Unit {0}) TwiceFault)
+        → ImportsTwice g text again old new failed fails writer writer' before after r
         → text ≡ again → ImportsOnce g text old new failed fails writer writer' before after r
-    once_of text again r it same = once text r (subst (λ t. ImportsTwice g text t old new failed fails writer writer' before after r) (sym same) it)
+    once_of text again r it same = once text r (subst (λ t. ImportsTwice g text t old new failed fails writer writer'
+        before after r) (sym same) it)

@@ -23,7 +23,8 @@ as_import (Err (Import fault)) = Err fault
 as_import (Err (Changed n)) = Ok tt
 as_import (Err (Broken n fault)) = Ok tt
 
--- a text that begins as a list of these requests, and is no list of so many: it ends with them, or goes on where they are
+-- a text that begins as a list of these requests, and is no list of so many: it ends with them, or goes on where they
+-- are
 -- so many
 abbrev pub IsOther : ℕ → List Request → List ℕ → Type 0
 IsOther count requests text = ((length requests < count) × IsList text requests)
@@ -34,7 +35,8 @@ abbrev pub Ends : Option (List ℕ) → ℕ → List Request → Result (Unit {0
 Ends text count requests (Ok x) = (length requests ≡ count) × IfSome text (λ t. IsList t requests)
 Ends text count requests (Err (Import fault)) = (length requests ≤ count) × IfSome text (λ t. IsBegun t requests)
 Ends text count requests (Err (Changed n)) = (length requests ≡ n) × IfSome text (IsOther count requests)
-Ends text count requests (Err (Broken n fault)) = (length requests ≡ n) × (n ≤ count) × IfSome text (λ t. IsBegun t requests)
+Ends text count requests (Err (Broken n fault)) = (length requests ≡ n) × (n ≤ count)
+    × IfSome text (λ t. IsBegun t requests)
     × ((fault ≡ Memory) ⊎ (fault ≡ Read) ⊎ IfSome text (λ t. MeetsFirst t fault))
 
 -- a second reading that ended otherwise than the first, after so many requests
@@ -56,16 +58,20 @@ abbrev pub WasUnread : Result (Unit {0}) TwiceFault → Type 0
 WasUnread r = (fault : ReadFault) × (r ≡ Err (Import (Unread fault)))
 
 -- the teller is told of the requests that were carried out, and of as many in all as the first reading had
-abbrev pub IsToldTwice : Option (List ℕ) → Option (List (ℕ × ℕ)) → Option (List (ℕ × ℕ)) → Result (Unit {0}) TwiceFault → Type 0
+abbrev pub IsToldTwice : Option (List ℕ) → Option (List (ℕ × ℕ)) → Option (List (ℕ × ℕ))
+    → Result (Unit {0}) TwiceFault → Type 0
 IsToldTwice text before after r = (WasUnread r × Tells before after [])
     ⊎ ((count : ℕ) × IsListOfSo count text × AreToldTwice count before after r)
 
--- The shelf was used for the requests that were carried out, in turn, and for nothing else; by a list that was not read it
+-- The shelf was used for the requests that were carried out, in turn, and for nothing else; by a list that was not
+-- read it
 -- was not used.
-abbrev pub UsesTwice : {S H : Type 0} → (List ℕ → H → H → Type 0) → (List ℕ → S → H → H → Type 0) → Option (List ℕ) → H → H
+abbrev pub UsesTwice : {S H : Type 0} → (List ℕ → H → H → Type 0) → (List ℕ → S → H → H → Type 0) → Option (List ℕ)
+    → H → H
     → Result (Unit {0}) TwiceFault → Type 0
 UsesTwice Asks Takes again before after r = (WasUnread r × (after ≡ before))
-    ⊎ ((requests : List Request) × IfSome again (λ t. IsBegun t requests) × IsUsedForEach Asks Takes requests before after)
+    ⊎ ((requests : List Request) × IfSome again (λ t. IsBegun t requests)
+    × IsUsedForEach Asks Takes requests before after)
 
 module _ {S : Type 0} (g : Ghosts S) where
   -- Of a first and a second text: where either is not read, nothing is carried out and nothing is written. Else the
@@ -78,13 +84,19 @@ module _ {S : Type 0} (g : Ghosts S) where
       ⊎ ((count : ℕ) × IsListOfSo count text × ((requests : List Request) × Ends again count requests r
       × IsImported g requests old new failed fails before after (as_import r)))
 
-  -- What an import makes of a list that is the same at both readings: what one of a list that is held makes, or the second
-  -- reading broke off, by a reader that failed or by want of memory, and so many of its first requests were carried out.
-  abbrev pub ImportsOnce : {W : Type 0} → Option (List ℕ) → Seen S → Seen S → ℕ → ℕ → W → W → Option (List ℕ) → Option (List ℕ)
+  -- What an import makes of a list that is the same at both readings: what one of a list that is held makes, or the
+  -- second
+  -- reading broke off, by a reader that failed or by want of memory, and so many of its first requests were carried
+  -- out.
+  abbrev pub ImportsOnce : {W : Type 0} → Option (List ℕ) → Seen S → Seen S → ℕ → ℕ → W → W → Option (List ℕ)
+      → Option (List ℕ)
       → Result (Unit {0}) TwiceFault → Type 0
-  ImportsOnce text old new failed fails writer writer' before after (Ok x) = Imports g text old new failed fails writer writer' before after (Ok x)
-  ImportsOnce text old new failed fails writer writer' before after (Err (Import fault)) = Imports g text old new failed fails writer writer' before after (Err fault)
+  ImportsOnce text old new failed fails writer writer' before after (Ok x) =
+      Imports g text old new failed fails writer writer' before after (Ok x)
+  ImportsOnce text old new failed fails writer writer' before after (Err (Import fault)) =
+      Imports g text old new failed fails writer writer' before after (Err fault)
   ImportsOnce text old new failed fails writer writer' before after (Err (Changed n)) = IfSome text (λ t. ⊥)
   ImportsOnce text old new failed fails writer writer' before after (Err (Broken n fault)) =
-      IfSome text (λ t. (fault ≡ Memory) ⊎ (fault ≡ Read)) × ((requests : List Request) × IfSome text (λ t. IsList t requests)
+      IfSome text (λ t. (fault ≡ Memory) ⊎ (fault ≡ Read)) ×
+      ((requests : List Request) × IfSome text (λ t. IsList t requests)
       × (n ≤ length requests) × IsImported g (take n requests) old new failed fails before after (Ok tt))

@@ -5,7 +5,8 @@ ghost use Rattle.sheet_types.specs.declared.command.Request.{Request};
 ghost use Rattle.world.specs.Asked.{IsUsedForEach};
 ghost use Rattle.request_csv.specs.ListReading.{Stands};
 ghost use Rattle.manifest_csv.specs.Imports.{IsReported};
-ghost use Rattle.request_imports.specs.Twice.{AreToldTwice, BreaksAt, Ends, ImportsOnce, ImportsTwice, IsToldTwice, UsesTwice, as_import};
+ghost use Rattle.request_imports.specs.Twice.{AreToldTwice, BreaksAt, Ends, ImportsOnce, ImportsTwice, IsToldTwice};
+ghost use Rattle.request_imports.specs.Twice.{UsesTwice, as_import};
 
 use manifest_csv::importing::{ImportFault, end_of};
 use manifest_csv::progress::Teller;
@@ -24,9 +25,11 @@ use world::world::World;
 /// Why an import of a list that is read twice did not go through.
 #[derive(Clone, Copy, PartialEq, Eq)]
 pub enum TwiceFault {
-    /// As of a list that is held. Where a list was not read, at the first reading or at its header at the second, nothing was carried out and nothing was written.
+    /// As of a list that is held. Where a list was not read, at the first reading or at its header
+    /// at the second, nothing was carried out and nothing was written.
     Import(ImportFault),
-    /// The second reading had fewer requests than the first, or more. So many were carried out, and their lines written.
+    /// The second reading had fewer requests than the first, or more. So many were carried out, and
+    /// their lines written.
     Changed(u64),
     /// The second reading met this fault. So many requests before it were carried out, and their lines written.
     Broken(u64, ReadFault),
@@ -90,7 +93,8 @@ fn check_end<Q: ListSource + Drop>(
     }
 }
 
-/// Carries out so many requests of a reader in their order, and writes the line of each before the next is read. The teller is told of each whose line was written.
+/// Carries out so many requests of a reader in their order, and writes the line of each before the
+/// next is read. The teller is told of each whose line was written.
 fn report_read<S: Alter + Drop, H: Shelf<S>, Q: ListSource + Drop, W: Write, T: Teller>(
     alloc: Global,
     world: &mut World<S>,
@@ -122,7 +126,9 @@ fn report_read<S: Alter + Drop, H: Shelf<S>, Q: ListSource + Drop, W: Write, T: 
     check_end(alloc, list, count)
 }
 
-/// Carries out the request list of a reader and writes the report of it, as `import` does, of a list that is read twice in place of being held: all of the first reader is judged before the first request of the second is carried out. One request is in memory at a time.
+/// Carries out the request list of a reader and writes the report of it, as `import` does, of a
+/// list that is read twice in place of being held: all of the first reader is judged before the
+/// first request of the second is carried out. One request is in memory at a time.
 ///
 /// # Errors
 ///

@@ -30,11 +30,19 @@ abbrev pub NoMerge : Data → Type 0
 NoMerge d = (child into : List ℕ) (ticket : ℤ) → ¬ IsCommand d (Merge child into ticket)
 
 -- what an object with this word asks for
-pub no_command : (d : Data) (word : List ℕ) → IsTextAt d (codes "command") word → (word ≡ codes "add" → NoAddition d) → (word ≡ codes "delete" → NoDeletion d) → (word ≡ codes "link" → NoLink d) → (word ≡ codes "unlink" → NoUnlink d) → (word ≡ codes "split" → NoSplit d) → (word ≡ codes "merge" → NoMerge d)
+pub no_command : (d : Data) (word : List ℕ) → IsTextAt d (codes "command") word → (word ≡ codes "add" → NoAddition d)
+    → (word ≡ codes "delete" → NoDeletion d) → (word ≡ codes "link" → NoLink d) → (word ≡ codes "unlink" → NoUnlink d)
+    → (word ≡ codes "split" → NoSplit d) → (word ≡ codes "merge" → NoMerge d)
     → (asked : Command) → ¬ IsCommand d asked
-no_command d word there add delete link unlink split merge (Add target identity content) is = add (some_once _ _ _ there is.0) target identity content is
-no_command d word there add delete link unlink split merge (Delete source identity) is = delete (some_once _ _ _ there is.0) source identity is
-no_command d word there add delete link unlink split merge (Link target mapping base other) is = link (some_once _ _ _ there is.0) target base other mapping is
-no_command d word there add delete link unlink split merge (Unlink source mapping base other) is = unlink (some_once _ _ _ there is.0) source base other mapping is
-no_command d word there add delete link unlink split merge (Split source child mode rect) is = split (some_once _ _ _ there is.0) source child mode rect is
-no_command d word there add delete link unlink split merge (Merge child into ticket) is = merge (some_once _ _ _ there is.0) child into ticket is
+no_command d word there add delete link unlink split merge (Add target identity content) is =
+    add (some_once _ _ _ there is.0) target identity content is
+no_command d word there add delete link unlink split merge (Delete source identity) is =
+    delete (some_once _ _ _ there is.0) source identity is
+no_command d word there add delete link unlink split merge (Link target mapping base other) is =
+    link (some_once _ _ _ there is.0) target base other mapping is
+no_command d word there add delete link unlink split merge (Unlink source mapping base other) is =
+    unlink (some_once _ _ _ there is.0) source base other mapping is
+no_command d word there add delete link unlink split merge (Split source child mode rect) is =
+    split (some_once _ _ _ there is.0) source child mode rect is
+no_command d word there add delete link unlink split merge (Merge child into ticket) is =
+    merge (some_once _ _ _ there is.0) child into ticket is

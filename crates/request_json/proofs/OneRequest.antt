@@ -28,7 +28,8 @@ one_hex d name x y one other =
     let same = some_once _ one.text other.text one.there other.there in
     ok_once (decode_of one.text) x y one.digits (rw same other.digits)
 
-one_mapping : (d : Data) (m n : Mapping) → IsTextAt d (codes "kind") (mapping_word m) → IsTextAt d (codes "kind") (mapping_word n) → m ≡ n
+one_mapping : (d : Data) (m n : Mapping) → IsTextAt d (codes "kind") (mapping_word m)
+    → IsTextAt d (codes "kind") (mapping_word n) → m ≡ n
 one_mapping d TilesMedia TilesMedia one other = refl
 one_mapping d RowsMedia RowsMedia one other = refl
 one_mapping d TilesMedia RowsMedia one other = absurd (clash _ _ _ one other refl)
@@ -39,7 +40,8 @@ one_mapping d RowsMedia RowsTiles one other = absurd (clash _ _ _ one other refl
 one_mapping d RowsTiles TilesMedia one other = absurd (clash _ _ _ one other refl)
 one_mapping d RowsTiles RowsMedia one other = absurd (clash _ _ _ one other refl)
 
-one_mode : (d : Data) (m n : Mode) → IsTextAt d (codes "kind") (mode_word m) → IsTextAt d (codes "kind") (mode_word n) → m ≡ n
+one_mode : (d : Data) (m n : Mode) → IsTextAt d (codes "kind") (mode_word m) → IsTextAt d (codes "kind") (mode_word n)
+    → m ≡ n
 one_mode d Strict Strict one other = refl
 one_mode d Follow Follow one other = refl
 one_mode d Strict Follow one other = absurd (clash _ _ _ one other refl)
@@ -56,10 +58,24 @@ one_rect d r s one other =
 
 same_content : (d : Data) (c e : Content) → IsContent d c → IsContent d e → c ≡ e
 same_content d (Tile z c r x) (Tile z' c' r' x') one other =
-    rw (some_once _ z z' one.1.0 other.1.0, some_once _ c c' one.1.1 other.1.1, some_once _ r r' one.1.2 other.1.2, one_hex d (codes "data") x x' one.1.3 other.1.3) refl
-same_content d (Media t x) (Media t' x') one other = rw (some_once _ t t' one.1.0 other.1.0, one_hex d (codes "data") x x' one.1.1 other.1.1) refl
+    rw (
+      some_once _ z z' one.1.0 other.1.0,
+      some_once _ c c' one.1.1 other.1.1,
+      some_once _ r r' one.1.2 other.1.2,
+      one_hex d (codes "data") x x' one.1.3 other.1.3,
+    ) refl
+same_content d (Media t x) (Media t' x') one other = rw (
+  some_once _ t t' one.1.0 other.1.0,
+  one_hex d (codes "data")
+      x x' one.1.1 other.1.1,
+) refl
 same_content d (Row x y k l) (Row x' y' k' l') one other =
-    rw (some_once _ x x' one.1.0 other.1.0, some_once _ y y' one.1.1 other.1.1, some_once _ k k' one.1.2 other.1.2, some_once _ l l' one.1.3 other.1.3) refl
+    rw (
+      some_once _ x x' one.1.0 other.1.0,
+      some_once _ y y' one.1.1 other.1.1,
+      some_once _ k k' one.1.2 other.1.2,
+      some_once _ l l' one.1.3 other.1.3,
+    ) refl
 same_content d (Tile z c r x) (Media t' x') one other = absurd (clash _ _ _ one.0 other.0 refl)
 same_content d (Tile z c r x) (Row x' y' k' l') one other = absurd (clash _ _ _ one.0 other.0 refl)
 same_content d (Media t x) (Tile z' c' r' x') one other = absurd (clash _ _ _ one.0 other.0 refl)
@@ -69,15 +85,40 @@ same_content d (Row x y k l) (Media t' x') one other = absurd (clash _ _ _ one.0
 
 -- an object asks for one command at most
 pub same_command : (d : Data) (c e : Command) → IsCommand d c → IsCommand d e → c ≡ e
-same_command d (Add p i c) (Add p' i' c') one other = rw (some_once _ p p' one.1.0 other.1.0, some_once _ i i' one.1.1 other.1.1, same_content d c c' one.1.2 other.1.2) refl
-same_command d (Delete p i) (Delete p' i') one other = rw (some_once _ p p' one.1.0 other.1.0, some_once _ i i' one.1.1 other.1.1) refl
+same_command d (Add p i c) (Add p' i' c') one other = rw (
+  some_once _ p p' one.1.0 other.1.0,
+  some_once _ i i' one.1.1
+      other.1.1,
+  same_content d c c' one.1.2 other.1.2,
+) refl
+same_command d (Delete p i) (Delete p' i') one other = rw (
+  some_once _ p p' one.1.0 other.1.0,
+  some_once _ i i'
+      one.1.1 other.1.1,
+) refl
 same_command d (Link p m b r) (Link p' m' b' r') one other =
-    rw (some_once _ p p' one.1.0 other.1.0, one_mapping d m m' one.1.1 other.1.1, some_once _ b b' one.1.2 other.1.2, some_once _ r r' one.1.3 other.1.3) refl
+    rw (
+      some_once _ p p' one.1.0 other.1.0,
+      one_mapping d m m' one.1.1 other.1.1,
+      some_once _ b b' one.1.2 other.1.2,
+      some_once _ r r' one.1.3 other.1.3,
+    ) refl
 same_command d (Unlink p m b r) (Unlink p' m' b' r') one other =
-    rw (some_once _ p p' one.1.0 other.1.0, one_mapping d m m' one.1.1 other.1.1, some_once _ b b' one.1.2 other.1.2, some_once _ r r' one.1.3 other.1.3) refl
+    rw (
+      some_once _ p p' one.1.0 other.1.0,
+      one_mapping d m m' one.1.1 other.1.1,
+      some_once _ b b' one.1.2 other.1.2,
+      some_once _ r r' one.1.3 other.1.3,
+    ) refl
 same_command d (Split p k m r) (Split p' k' m' r') one other =
-    rw (some_once _ p p' one.1.0 other.1.0, some_once _ k k' one.1.1 other.1.1, one_mode d m m' one.1.2 other.1.2, one_rect d r r' one.1.3 other.1.3) refl
-same_command d (Merge k p n) (Merge k' p' n') one other = rw (some_once _ k k' one.1.0 other.1.0, some_once _ p p' one.1.1 other.1.1, some_once _ n n' one.1.2 other.1.2) refl
+    rw (
+      some_once _ p p' one.1.0 other.1.0,
+      some_once _ k k' one.1.1 other.1.1,
+      one_mode d m m' one.1.2 other.1.2,
+      one_rect d r r' one.1.3 other.1.3,
+    ) refl
+same_command d (Merge k p n) (Merge k' p' n') one other = rw
+    (some_once _ k k' one.1.0 other.1.0, some_once _ p p' one.1.1 other.1.1, some_once _ n n' one.1.2 other.1.2) refl
 same_command d (Add p i c) (Delete p' i') one other = absurd (clash _ _ _ one.0 other.0 refl)
 same_command d (Add p i c) (Link p' m' b' r') one other = absurd (clash _ _ _ one.0 other.0 refl)
 same_command d (Add p i c) (Unlink p' m' b' r') one other = absurd (clash _ _ _ one.0 other.0 refl)
@@ -124,7 +165,8 @@ one_request text a b (d, is, one) (e, also, other) =
     same_request e a b (rw same at one) other
 
 -- what a request with more members than its command's is not
-pub more_members : {P : Type 0} (d : Data) (c : Command) → IsCommand d c → (HasNoOther d (member_names c) → P) → (r : Request) → IsRequest d r → P
+pub more_members : {P : Type 0} (d : Data) (c : Command) → IsCommand d c → (HasNoOther d (member_names c) → P)
+    → (r : Request) → IsRequest d r → P
 more_members d c asked more r is =
     let same = same_command d c r.command asked is.command in
     more (rw same is.only)

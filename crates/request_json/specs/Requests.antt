@@ -17,9 +17,11 @@ and_of_all names = codes "request" ∷ codes "at" ∷ codes "command" ∷ codes 
 
 -- the members of the addition of a content beside those of every request
 abbrev pub content_names : Content → List (List ℕ)
-content_names (Tile zoom column row bytes) = codes "identity" ∷ codes "kind" ∷ codes "zoom" ∷ codes "column" ∷ codes "row" ∷ codes "data" ∷ []
+content_names (Tile zoom column row bytes) = codes "identity" ∷ codes "kind" ∷ codes "zoom" ∷ codes "column"
+    ∷ codes "row" ∷ codes "data" ∷ []
 content_names (Media content_type bytes) = codes "identity" ∷ codes "kind" ∷ codes "text" ∷ codes "data" ∷ []
-content_names (Row x y code label) = codes "identity" ∷ codes "kind" ∷ codes "x" ∷ codes "y" ∷ codes "code" ∷ codes "text" ∷ []
+content_names (Row x y code label) = codes "identity" ∷ codes "kind" ∷ codes "x" ∷ codes "y" ∷ codes "code"
+    ∷ codes "text" ∷ []
 
 -- the members of a request with this command
 abbrev pub member_names : Command → List (List ℕ)
@@ -27,14 +29,17 @@ member_names (Add target identity content) = and_of_all (content_names content)
 member_names (Delete source identity) = and_of_all (codes "identity" ∷ [])
 member_names (Link target mapping base other) = and_of_all (codes "identity" ∷ codes "kind" ∷ codes "other" ∷ [])
 member_names (Unlink source mapping base other) = and_of_all (codes "identity" ∷ codes "kind" ∷ codes "other" ∷ [])
-member_names (Split source child mode rect) = and_of_all (codes "other" ∷ codes "kind" ∷ codes "zoom" ∷ codes "column" ∷ codes "last_column" ∷ codes "row" ∷ codes "last_row" ∷ [])
+member_names (Split source child mode rect) = and_of_all (codes "other" ∷ codes "kind" ∷ codes "zoom" ∷ codes "column"
+    ∷ codes "last_column" ∷ codes "row" ∷ codes "last_row" ∷ [])
 member_names (Merge child into ticket) = and_of_all (codes "other" ∷ codes "ticket" ∷ [])
 
 -- what the members say of an added content beside its kind
 abbrev pub HasContent : Data → Content → Type 0
-HasContent d (Tile zoom column row bytes) = IsNumberAt d (codes "zoom") zoom × IsNumberAt d (codes "column") column × IsNumberAt d (codes "row") row × IsHexAt d (codes "data") bytes
+HasContent d (Tile zoom column row bytes) = IsNumberAt d (codes "zoom") zoom × IsNumberAt d (codes "column") column
+    × IsNumberAt d (codes "row") row × IsHexAt d (codes "data") bytes
 HasContent d (Media content_type bytes) = IsTextAt d (codes "text") content_type × IsHexAt d (codes "data") bytes
-HasContent d (Row x y code label) = IsNumberAt d (codes "x") x × IsNumberAt d (codes "y") y × IsNumberAt d (codes "code") code × IsTextAt d (codes "text") label
+HasContent d (Row x y code label) = IsNumberAt d (codes "x") x × IsNumberAt d (codes "y") y
+    × IsNumberAt d (codes "code") code × IsTextAt d (codes "text") label
 
 -- the members add this content
 abbrev pub IsContent : Data → Content → Type 0
@@ -42,11 +47,15 @@ IsContent d content = IsTextAt d (codes "kind") (kind_word (kind_of content)) ×
 
 -- the members of a link and of an unlink alike
 abbrev pub NamesLink : Data → List ℕ → Mapping → List ℕ → List ℕ → Type 0
-NamesLink d holder mapping base other = IsUuidAt d (codes "package") holder × IsTextAt d (codes "kind") (mapping_word mapping) × IsUuidAt d (codes "identity") base × IsUuidAt d (codes "other") other
+NamesLink d holder mapping base other = IsUuidAt d (codes "package") holder
+    × IsTextAt d (codes "kind") (mapping_word mapping) × IsUuidAt d (codes "identity") base
+    × IsUuidAt d (codes "other") other
 
 -- the members of a rectangle
 abbrev pub HasRect : Data → Rect → Type 0
-HasRect d rect = IsNumberAt d (codes "zoom") rect.zoom × IsNumberAt d (codes "column") rect.column × IsNumberAt d (codes "last_column") rect.last_column × IsNumberAt d (codes "row") rect.row × IsNumberAt d (codes "last_row") rect.last_row
+HasRect d rect = IsNumberAt d (codes "zoom") rect.zoom × IsNumberAt d (codes "column") rect.column
+    × IsNumberAt d (codes "last_column") rect.last_column × IsNumberAt d (codes "row") rect.row
+    × IsNumberAt d (codes "last_row") rect.last_row
 
 -- the word of a command
 abbrev pub command_word : Command → List ℕ
@@ -59,12 +68,15 @@ command_word (Merge child into ticket) = codes "merge"
 
 -- what the members say of a command beside its word
 abbrev pub HasCommand : Data → Command → Type 0
-HasCommand d (Add target identity content) = IsUuidAt d (codes "package") target × IsUuidAt d (codes "identity") identity × IsContent d content
+HasCommand d (Add target identity content) = IsUuidAt d (codes "package") target
+    × IsUuidAt d (codes "identity") identity × IsContent d content
 HasCommand d (Delete source identity) = IsUuidAt d (codes "package") source × IsUuidAt d (codes "identity") identity
 HasCommand d (Link target mapping base other) = NamesLink d target mapping base other
 HasCommand d (Unlink source mapping base other) = NamesLink d source mapping base other
-HasCommand d (Split source child mode rect) = IsUuidAt d (codes "package") source × IsUuidAt d (codes "other") child × IsTextAt d (codes "kind") (mode_word mode) × HasRect d rect
-HasCommand d (Merge child into ticket) = IsUuidAt d (codes "package") child × IsUuidAt d (codes "other") into × IsNumberAt d (codes "ticket") ticket
+HasCommand d (Split source child mode rect) = IsUuidAt d (codes "package") source × IsUuidAt d (codes "other") child
+    × IsTextAt d (codes "kind") (mode_word mode) × HasRect d rect
+HasCommand d (Merge child into ticket) = IsUuidAt d (codes "package") child × IsUuidAt d (codes "other") into
+    × IsNumberAt d (codes "ticket") ticket
 
 -- the members ask for this command
 abbrev pub IsCommand : Data → Command → Type 0

@@ -19,7 +19,8 @@ use std::alloc::Global;
 fn tile_of(alloc: Global, value: &Value) -> Result<Option<Content>, OutOfMemory>
     requires kind { IsTextAt (view value.now) (codes "kind") (kind_word TileItem) }
     ensures some { IfOk result (λ found. IfSome found (λ tile. IsContent (view value.now) tile)) }
-    ensures none { IfOk result (λ found. IfNone found ((zoom column line : ℤ) (bytes : List ℕ) → ¬ IsContent (view value.now) (content.Tile zoom column line bytes))) }
+    ensures none { IfOk result (λ found. IfNone found ((zoom column line : ℤ) (bytes : List ℕ)
+        → ¬ IsContent (view value.now) (content.Tile zoom column line bytes))) }
 {
     let Some(zoom) = number_at(value, "zoom") else {
         return Ok(None);
@@ -45,7 +46,8 @@ fn tile_of(alloc: Global, value: &Value) -> Result<Option<Content>, OutOfMemory>
 fn media_of(alloc: Global, value: &Value) -> Result<Option<Content>, OutOfMemory>
     requires kind { IsTextAt (view value.now) (codes "kind") (kind_word MediaItem) }
     ensures some { IfOk result (λ found. IfSome found (λ medium. IsContent (view value.now) medium)) }
-    ensures none { IfOk result (λ found. IfNone found ((content_type bytes : List ℕ) → ¬ IsContent (view value.now) (content.Media content_type bytes))) }
+    ensures none { IfOk result (λ found. IfNone found ((content_type bytes : List ℕ)
+        → ¬ IsContent (view value.now) (content.Media content_type bytes))) }
 {
     let Some(content_type) = text_at(alloc, value, "text")? else {
         return Ok(None);
@@ -63,7 +65,8 @@ fn media_of(alloc: Global, value: &Value) -> Result<Option<Content>, OutOfMemory
 fn row_of(alloc: Global, value: &Value) -> Result<Option<Content>, OutOfMemory>
     requires kind { IsTextAt (view value.now) (codes "kind") (kind_word RowItem) }
     ensures some { IfOk result (λ found. IfSome found (λ added. IsContent (view value.now) added)) }
-    ensures none { IfOk result (λ found. IfNone found ((x y code : ℤ) (label : List ℕ) → ¬ IsContent (view value.now) (content.Row x y code label))) }
+    ensures none { IfOk result (λ found. IfNone found ((x y code : ℤ) (label : List ℕ)
+        → ¬ IsContent (view value.now) (content.Row x y code label))) }
 {
     let Some(x) = number_at(value, "x") else {
         return Ok(None);

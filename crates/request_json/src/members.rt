@@ -1,5 +1,6 @@
 //! The members of one JSON object, name by name.
-ghost use Rattle.std.specs.Prelude.{◌≡◌, ◌↔◌, All, Any, IfOk, IfSome, IfNone, IsTrue, List, map, option_map, ℕ, string_bytes};
+ghost use Rattle.std.specs.Prelude.{◌≡◌, ◌↔◌, All, Any, IfOk, IfSome, IfNone, IsTrue, List, map, option_map, ℕ};
+ghost use Rattle.std.specs.Prelude.{string_bytes};
 ghost use Rattle.std.specs.Option.{option_and_then};
 ghost use Rattle.std.specs.BTreeMap.{keys};
 ghost use Rattle.uuid.specs.Text.{parsed_hyphenated};
@@ -120,7 +121,8 @@ fn is_one_of(names: &[&str], name: &str) -> bool
 
 /// Whether each name of a member is one of these.
 fn are_one_of(members: &Map<String, Value>, names: &[&str]) -> bool
-    ensures { IsTrue result ↔ All (λ key. IsOneOf (map (λ known. known.now) names.now) (string_bytes key)) (keys members.now) }
+    ensures { IsTrue result ↔ All (λ key. IsOneOf (map (λ known. known.now) names.now) (string_bytes key))
+        (keys members.now) }
 {
     members.keys().all(|key| is_one_of(names, key.as_str()))
 }

@@ -3,7 +3,8 @@ ghost use Rattle.std.specs.Prelude.{◌≡◌, ◌↔◌, ℕ, ℤ, List, IfOk, 
 ghost use Rattle.serde_json.specs.Data.{Data};
 ghost use Rattle.serde_json.specs.View.{view};
 ghost use Rattle.request_json.specs.Members.{HasNoOther, IsTextAt, JsonIs};
-ghost use Rattle.request_json.specs.Requests.{HasRect, IsCommand, IsRequest, IsRequestText, NamesLink, and_of_all, content_names, member_names};
+ghost use Rattle.request_json.specs.Requests.{HasRect, IsCommand, IsRequest, IsRequestText, NamesLink, and_of_all};
+ghost use Rattle.request_json.specs.Requests.{content_names, member_names};
 ghost use Rattle.sheet_types.specs.declared.command.Command.TheVariants as command;
 ghost use Rattle.sheet_types.specs.declared.command.Command.{Command};
 ghost use Rattle.sheet_types.specs.declared.command.Content.{Content};
@@ -24,7 +25,8 @@ use uuid::Uuid;
 /// The package, the mapping and the two ends of the link that an object names.
 fn named_link(value: &Value) -> Option<(Uuid, Mapping, Uuid, Uuid)>
     ensures some { IfSome result (λ named. NamesLink (view value.now) named.0 named.1 named.2 named.3) }
-    ensures none { IfNone result ((holder base other : List ℕ) (mapping : Mapping) → ¬ NamesLink (view value.now) holder mapping base other) }
+    ensures none { IfNone result ((holder base other : List ℕ) (mapping : Mapping)
+        → ¬ NamesLink (view value.now) holder mapping base other) }
 {
     let package = uuid_at(value, "package")?;
     let mapping = mapping_at(value, "kind")?;
@@ -37,7 +39,8 @@ fn named_link(value: &Value) -> Option<(Uuid, Mapping, Uuid, Uuid)>
 fn link_of(value: &Value) -> Option<Command>
     requires word { IsTextAt (view value.now) (codes "command") (codes "link") }
     ensures some { IfSome result (λ found. IsCommand (view value.now) found) }
-    ensures none { IfNone result ((target base other : List ℕ) (mapping : Mapping) → ¬ IsCommand (view value.now) (command.Link target mapping base other)) }
+    ensures none { IfNone result ((target base other : List ℕ) (mapping : Mapping)
+        → ¬ IsCommand (view value.now) (command.Link target mapping base other)) }
 {
     let (package, mapping, base, other) = named_link(value)?;
     Some(Command::Link {
@@ -52,7 +55,8 @@ fn link_of(value: &Value) -> Option<Command>
 fn unlink_of(value: &Value) -> Option<Command>
     requires word { IsTextAt (view value.now) (codes "command") (codes "unlink") }
     ensures some { IfSome result (λ found. IsCommand (view value.now) found) }
-    ensures none { IfNone result ((source base other : List ℕ) (mapping : Mapping) → ¬ IsCommand (view value.now) (command.Unlink source mapping base other)) }
+    ensures none { IfNone result ((source base other : List ℕ) (mapping : Mapping)
+        → ¬ IsCommand (view value.now) (command.Unlink source mapping base other)) }
 {
     let (package, mapping, base, other) = named_link(value)?;
     Some(Command::Unlink {
@@ -67,7 +71,8 @@ fn unlink_of(value: &Value) -> Option<Command>
 fn delete_of(value: &Value) -> Option<Command>
     requires word { IsTextAt (view value.now) (codes "command") (codes "delete") }
     ensures some { IfSome result (λ found. IsCommand (view value.now) found) }
-    ensures none { IfNone result ((source identity : List ℕ) → ¬ IsCommand (view value.now) (command.Delete source identity)) }
+    ensures none { IfNone result ((source identity : List ℕ)
+        → ¬ IsCommand (view value.now) (command.Delete source identity)) }
 {
     let package = uuid_at(value, "package")?;
     let identity = uuid_at(value, "identity")?;
@@ -97,7 +102,8 @@ fn rect_of(value: &Value) -> Option<Rect>
 fn split_of(value: &Value) -> Option<Command>
     requires word { IsTextAt (view value.now) (codes "command") (codes "split") }
     ensures some { IfSome result (λ found. IsCommand (view value.now) found) }
-    ensures none { IfNone result ((source child : List ℕ) (mode : Mode) (rect : Rect) → ¬ IsCommand (view value.now) (command.Split source child mode rect)) }
+    ensures none { IfNone result ((source child : List ℕ) (mode : Mode) (rect : Rect)
+        → ¬ IsCommand (view value.now) (command.Split source child mode rect)) }
 {
     let package = uuid_at(value, "package")?;
     let child = uuid_at(value, "other")?;
@@ -115,7 +121,8 @@ fn split_of(value: &Value) -> Option<Command>
 fn merge_of(value: &Value) -> Option<Command>
     requires word { IsTextAt (view value.now) (codes "command") (codes "merge") }
     ensures some { IfSome result (λ found. IsCommand (view value.now) found) }
-    ensures none { IfNone result ((child into : List ℕ) (ticket : ℤ) → ¬ IsCommand (view value.now) (command.Merge child into ticket)) }
+    ensures none { IfNone result ((child into : List ℕ) (ticket : ℤ)
+        → ¬ IsCommand (view value.now) (command.Merge child into ticket)) }
 {
     let child = uuid_at(value, "package")?;
     let into = uuid_at(value, "other")?;
@@ -131,7 +138,8 @@ fn merge_of(value: &Value) -> Option<Command>
 fn add_of(alloc: Global, value: &Value) -> Result<Option<Command>, OutOfMemory>
     requires word { IsTextAt (view value.now) (codes "command") (codes "add") }
     ensures some { IfOk result (λ found. IfSome found (λ addition. IsCommand (view value.now) addition)) }
-    ensures none { IfOk result (λ found. IfNone found ((target identity : List ℕ) (content : Content) → ¬ IsCommand (view value.now) (command.Add target identity content))) }
+    ensures none { IfOk result (λ found. IfNone found ((target identity : List ℕ) (content : Content)
+        → ¬ IsCommand (view value.now) (command.Add target identity content))) }
 {
     let Some(package) = uuid_at(value, "package") else {
         return Ok(None);
@@ -255,7 +263,8 @@ fn request_of(alloc: Global, value: &Value) -> Result<Option<Request>, OutOfMemo
 
 /// The JSON value that a text is, `None` where it is no JSON.
 fn read_json(alloc: Global, text: &[u8]) -> Result<Option<Value>, OutOfMemory>
-    ensures { IfOk result (λ found. MatchOption found ((d : Data) → ¬ JsonIs text.now d) (λ value. JsonIs text.now (view value))) }
+    ensures { IfOk result (λ found. MatchOption found ((d : Data) → ¬ JsonIs text.now d)
+        (λ value. JsonIs text.now (view value))) }
 {
     match Value::from_slice(alloc, text) {
         Ok(value) => Ok(Some(value)),
@@ -269,7 +278,8 @@ fn read_json(alloc: Global, text: &[u8]) -> Result<Option<Value>, OutOfMemory>
     }
 }
 
-/// The request that a text is: a JSON object with exactly the members of its command, each of its form. `None` where it is none.
+/// The request that a text is: a JSON object with exactly the members of its command, each of its
+/// form. `None` where it is none.
 ///
 /// # Errors
 ///

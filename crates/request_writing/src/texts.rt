@@ -5,7 +5,8 @@ ghost use Rattle.std.specs.Io.KnownBytes.{Appends};
 ghost use Rattle.hex.specs.Hex.{encode_lower};
 ghost use Rattle.csv.specs.Writing.{default_writer, row_text, text_written};
 ghost use Rattle.request_csv.specs.Requests.{header};
-ghost use Rattle.request_writing.specs.RequestTexts.{IsBetween, content_fields, list_text, records_text, request_fields};
+ghost use Rattle.request_writing.specs.RequestTexts.{IsBetween, content_fields, list_text, records_text};
+ghost use Rattle.request_writing.specs.RequestTexts.{request_fields};
 ghost use Rattle.sheet_types.specs.Texts.{mapping_word, mode_word, uuid_text};
 
 use csv::{Writer, WriterBuilder};
@@ -18,7 +19,8 @@ use uuid::Uuid;
 // Writes one record.
 fn write_record(writer: &mut Writer<Vec<u8>>, fields: &[&[u8]]) -> Result<(), OutOfMemory>
     requires { IsBetween writer.old }
-    ensures text { OnOk result (Appends (text_written (λ v. Some v.items) writer.old) (text_written (λ v. Some v.items) writer.new) (row_text default_writer (map (λ f. f.now) fields.now))) }
+    ensures text { OnOk result (Appends (text_written (λ v. Some v.items) writer.old)
+        (text_written (λ v. Some v.items) writer.new) (row_text default_writer (map (λ f. f.now) fields.now))) }
     ensures between { OnOk result (IsBetween writer.new) }
 {
     match writer.write_fields(fields) {
@@ -30,7 +32,8 @@ fn write_record(writer: &mut Writer<Vec<u8>>, fields: &[&[u8]]) -> Result<(), Ou
 // Writes the names of the columns.
 fn write_header(writer: &mut Writer<Vec<u8>>) -> Result<(), OutOfMemory>
     requires { IsBetween writer.old }
-    ensures text { OnOk result (Appends (text_written (λ v. Some v.items) writer.old) (text_written (λ v. Some v.items) writer.new) (row_text default_writer header)) }
+    ensures text { OnOk result (Appends (text_written (λ v. Some v.items) writer.old)
+        (text_written (λ v. Some v.items) writer.new) (row_text default_writer header)) }
     ensures between { OnOk result (IsBetween writer.new) }
 {
     write_record(
@@ -95,8 +98,11 @@ fn write_tile(
     bytes: &[u8],
 ) -> Result<(), OutOfMemory>
     requires { IsBetween writer.old }
-    ensures text { OnOk result (Appends (text_written (λ v. Some v.items) writer.old) (text_written (λ v. Some v.items) writer.new) (row_text default_writer
-        (string_bytes front.now.id ∷ string_bytes front.now.at ∷ codes "add" ∷ uuid_text item.0 ∷ uuid_text item.1 ∷ [] ∷ codes "tile" ∷ signed_decimal place.0 ∷ signed_decimal place.1 ∷ signed_decimal place.2 ∷ [] ∷ [] ∷ [] ∷ [] ∷ [] ∷ [] ∷ [] ∷ encode_lower bytes.now ∷ []))) }
+    ensures text { OnOk result (Appends (text_written (λ v. Some v.items) writer.old)
+        (text_written (λ v. Some v.items) writer.new) (row_text default_writer
+        (string_bytes front.now.id ∷ string_bytes front.now.at ∷ codes "add" ∷ uuid_text item.0 ∷ uuid_text item.1
+        ∷ [] ∷ codes "tile" ∷ signed_decimal place.0 ∷ signed_decimal place.1 ∷ signed_decimal place.2 ∷ [] ∷ []
+        ∷ [] ∷ [] ∷ [] ∷ [] ∷ [] ∷ encode_lower bytes.now ∷ []))) }
     ensures between { OnOk result (IsBetween writer.new) }
 {
     let (id, at) = (front.id.as_bytes(), front.at.as_bytes());
@@ -127,8 +133,11 @@ fn write_medium(
     bytes: &[u8],
 ) -> Result<(), OutOfMemory>
     requires { IsBetween writer.old }
-    ensures text { OnOk result (Appends (text_written (λ v. Some v.items) writer.old) (text_written (λ v. Some v.items) writer.new) (row_text default_writer
-        (string_bytes front.now.id ∷ string_bytes front.now.at ∷ codes "add" ∷ uuid_text item.0 ∷ uuid_text item.1 ∷ [] ∷ codes "media" ∷ [] ∷ [] ∷ [] ∷ [] ∷ [] ∷ [] ∷ [] ∷ [] ∷ [] ∷ content_type.now ∷ encode_lower bytes.now ∷ []))) }
+    ensures text { OnOk result (Appends (text_written (λ v. Some v.items) writer.old)
+        (text_written (λ v. Some v.items) writer.new) (row_text default_writer
+        (string_bytes front.now.id ∷ string_bytes front.now.at ∷ codes "add" ∷ uuid_text item.0 ∷ uuid_text item.1
+        ∷ [] ∷ codes "media" ∷ [] ∷ [] ∷ [] ∷ [] ∷ [] ∷ [] ∷ [] ∷ [] ∷ [] ∷ content_type.now
+        ∷ encode_lower bytes.now ∷ []))) }
     ensures between { OnOk result (IsBetween writer.new) }
 {
     let (id, at) = (front.id.as_bytes(), front.at.as_bytes());
@@ -155,8 +164,11 @@ fn write_row(
     label: &str,
 ) -> Result<(), OutOfMemory>
     requires { IsBetween writer.old }
-    ensures text { OnOk result (Appends (text_written (λ v. Some v.items) writer.old) (text_written (λ v. Some v.items) writer.new) (row_text default_writer
-        (string_bytes front.now.id ∷ string_bytes front.now.at ∷ codes "add" ∷ uuid_text item.0 ∷ uuid_text item.1 ∷ [] ∷ codes "row" ∷ [] ∷ [] ∷ [] ∷ [] ∷ [] ∷ signed_decimal numbers.0 ∷ signed_decimal numbers.1 ∷ signed_decimal numbers.2 ∷ [] ∷ label.now ∷ [] ∷ []))) }
+    ensures text { OnOk result (Appends (text_written (λ v. Some v.items) writer.old)
+        (text_written (λ v. Some v.items) writer.new) (row_text default_writer
+        (string_bytes front.now.id ∷ string_bytes front.now.at ∷ codes "add" ∷ uuid_text item.0 ∷ uuid_text item.1
+        ∷ [] ∷ codes "row" ∷ [] ∷ [] ∷ [] ∷ [] ∷ [] ∷ signed_decimal numbers.0 ∷ signed_decimal numbers.1
+        ∷ signed_decimal numbers.2 ∷ [] ∷ label.now ∷ [] ∷ []))) }
     ensures between { OnOk result (IsBetween writer.new) }
 {
     let (id, at) = (front.id.as_bytes(), front.at.as_bytes());
@@ -184,8 +196,10 @@ fn write_delete(
     item: (Uuid, Uuid),
 ) -> Result<(), OutOfMemory>
     requires { IsBetween writer.old }
-    ensures text { OnOk result (Appends (text_written (λ v. Some v.items) writer.old) (text_written (λ v. Some v.items) writer.new) (row_text default_writer
-        (string_bytes front.now.id ∷ string_bytes front.now.at ∷ codes "delete" ∷ uuid_text item.0 ∷ uuid_text item.1 ∷ [] ∷ [] ∷ [] ∷ [] ∷ [] ∷ [] ∷ [] ∷ [] ∷ [] ∷ [] ∷ [] ∷ [] ∷ [] ∷ []))) }
+    ensures text { OnOk result (Appends (text_written (λ v. Some v.items) writer.old)
+        (text_written (λ v. Some v.items) writer.new) (row_text default_writer
+        (string_bytes front.now.id ∷ string_bytes front.now.at ∷ codes "delete" ∷ uuid_text item.0 ∷ uuid_text item.1
+        ∷ [] ∷ [] ∷ [] ∷ [] ∷ [] ∷ [] ∷ [] ∷ [] ∷ [] ∷ [] ∷ [] ∷ [] ∷ [] ∷ []))) }
     ensures between { OnOk result (IsBetween writer.new) }
 {
     let (id, at) = (front.id.as_bytes(), front.at.as_bytes());
@@ -210,8 +224,11 @@ fn write_relation(
     link: &Relation,
 ) -> Result<(), OutOfMemory>
     requires { IsBetween writer.old }
-    ensures text { OnOk result (Appends (text_written (λ v. Some v.items) writer.old) (text_written (λ v. Some v.items) writer.new) (row_text default_writer
-        (string_bytes front.now.id ∷ string_bytes front.now.at ∷ word.now ∷ uuid_text «package» ∷ uuid_text link.now.base ∷ uuid_text link.now.other ∷ mapping_word link.now.mapping ∷ [] ∷ [] ∷ [] ∷ [] ∷ [] ∷ [] ∷ [] ∷ [] ∷ [] ∷ [] ∷ [] ∷ []))) }
+    ensures text { OnOk result (Appends (text_written (λ v. Some v.items) writer.old)
+        (text_written (λ v. Some v.items) writer.new) (row_text default_writer
+        (string_bytes front.now.id ∷ string_bytes front.now.at ∷ word.now ∷ uuid_text «package»
+        ∷ uuid_text link.now.base ∷ uuid_text link.now.other ∷ mapping_word link.now.mapping ∷ [] ∷ [] ∷ [] ∷ []
+        ∷ [] ∷ [] ∷ [] ∷ [] ∷ [] ∷ [] ∷ [] ∷ []))) }
     ensures between { OnOk result (IsBetween writer.new) }
 {
     let (id, at) = (front.id.as_bytes(), front.at.as_bytes());
@@ -239,8 +256,12 @@ fn write_split(
     rect: &Rect,
 ) -> Result<(), OutOfMemory>
     requires { IsBetween writer.old }
-    ensures text { OnOk result (Appends (text_written (λ v. Some v.items) writer.old) (text_written (λ v. Some v.items) writer.new) (row_text default_writer
-        (string_bytes front.now.id ∷ string_bytes front.now.at ∷ codes "split" ∷ uuid_text loan.0 ∷ [] ∷ uuid_text loan.1 ∷ mode_word mode ∷ signed_decimal rect.now.zoom ∷ signed_decimal rect.now.column ∷ signed_decimal rect.now.row ∷ signed_decimal rect.now.last_column ∷ signed_decimal rect.now.last_row ∷ [] ∷ [] ∷ [] ∷ [] ∷ [] ∷ [] ∷ []))) }
+    ensures text { OnOk result (Appends (text_written (λ v. Some v.items) writer.old)
+        (text_written (λ v. Some v.items) writer.new) (row_text default_writer
+        (string_bytes front.now.id ∷ string_bytes front.now.at ∷ codes "split" ∷ uuid_text loan.0 ∷ []
+        ∷ uuid_text loan.1 ∷ mode_word mode ∷ signed_decimal rect.now.zoom ∷ signed_decimal rect.now.column
+        ∷ signed_decimal rect.now.row ∷ signed_decimal rect.now.last_column ∷ signed_decimal rect.now.last_row
+        ∷ [] ∷ [] ∷ [] ∷ [] ∷ [] ∷ [] ∷ []))) }
     ensures between { OnOk result (IsBetween writer.new) }
 {
     let (id, at) = (front.id.as_bytes(), front.at.as_bytes());
@@ -299,8 +320,10 @@ fn write_merge(
     ticket: i64,
 ) -> Result<(), OutOfMemory>
     requires { IsBetween writer.old }
-    ensures text { OnOk result (Appends (text_written (λ v. Some v.items) writer.old) (text_written (λ v. Some v.items) writer.new) (row_text default_writer
-        (string_bytes front.now.id ∷ string_bytes front.now.at ∷ codes "merge" ∷ uuid_text loan.0 ∷ [] ∷ uuid_text loan.1 ∷ [] ∷ [] ∷ [] ∷ [] ∷ [] ∷ [] ∷ [] ∷ [] ∷ [] ∷ signed_decimal ticket ∷ [] ∷ [] ∷ []))) }
+    ensures text { OnOk result (Appends (text_written (λ v. Some v.items) writer.old)
+        (text_written (λ v. Some v.items) writer.new) (row_text default_writer
+        (string_bytes front.now.id ∷ string_bytes front.now.at ∷ codes "merge" ∷ uuid_text loan.0 ∷ []
+        ∷ uuid_text loan.1 ∷ [] ∷ [] ∷ [] ∷ [] ∷ [] ∷ [] ∷ [] ∷ [] ∷ [] ∷ signed_decimal ticket ∷ [] ∷ [] ∷ []))) }
     ensures between { OnOk result (IsBetween writer.new) }
 {
     let (id, at) = (front.id.as_bytes(), front.at.as_bytes());
@@ -326,8 +349,10 @@ fn write_add(
     content: &Content,
 ) -> Result<(), OutOfMemory>
     requires { IsBetween writer.old }
-    ensures text { OnOk result (Appends (text_written (λ v. Some v.items) writer.old) (text_written (λ v. Some v.items) writer.new) (row_text default_writer
-        (string_bytes front.now.id ∷ string_bytes front.now.at ∷ codes "add" ∷ uuid_text item.0 ∷ uuid_text item.1 ∷ [] ∷ content_fields content.now))) }
+    ensures text { OnOk result (Appends (text_written (λ v. Some v.items) writer.old)
+        (text_written (λ v. Some v.items) writer.new) (row_text default_writer
+        (string_bytes front.now.id ∷ string_bytes front.now.at ∷ codes "add" ∷ uuid_text item.0 ∷ uuid_text item.1
+        ∷ [] ∷ content_fields content.now))) }
     ensures between { OnOk result (IsBetween writer.new) }
 {
     match content {
@@ -368,7 +393,8 @@ fn write_request(
     request: &Request,
 ) -> Result<(), OutOfMemory>
     requires { IsBetween writer.old }
-    ensures text { OnOk result (Appends (text_written (λ v. Some v.items) writer.old) (text_written (λ v. Some v.items) writer.new) (row_text default_writer (request_fields request.now))) }
+    ensures text { OnOk result (Appends (text_written (λ v. Some v.items) writer.old)
+        (text_written (λ v. Some v.items) writer.new) (row_text default_writer (request_fields request.now))) }
     ensures between { OnOk result (IsBetween writer.new) }
 {
     let front = front_of(alloc, request)?;
@@ -420,7 +446,8 @@ fn write_requests(
     requests: &[Request],
 ) -> Result<(), OutOfMemory>
     requires { IsBetween writer.old }
-    ensures text { OnOk result (Appends (text_written (λ v. Some v.items) writer.old) (text_written (λ v. Some v.items) writer.new) (records_text requests.now)) }
+    ensures text { OnOk result (Appends (text_written (λ v. Some v.items) writer.old)
+        (text_written (λ v. Some v.items) writer.new) (records_text requests.now)) }
     ensures between { OnOk result (IsBetween writer.new) }
 {
     for request in requests {

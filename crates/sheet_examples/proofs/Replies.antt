@@ -8,13 +8,17 @@ use Rattle.sheet_types.specs.declared.receipt.Receipt.{Receipt}
 use Rattle.sheet_types.specs.declared.refusal.Refusal.{Refusal}
 use Rattle.sheet_examples.specs.Steps.{RefusedChangesNothing, KeptChangesNothing, FaultAnywhere}
 
-stays : (w : World) (q : Request) (o : Option Receipt) (refused : Option Refusal) (why : Refusal) → Err why ≡ (outcome_by w q o refused).0 → (outcome_by w q o refused).1 ≡ w
+stays : (w : World) (q : Request) (o : Option Receipt) (refused : Option Refusal) (why : Refusal)
+    → Err why ≡ (outcome_by w q o refused).0 → (outcome_by w q o refused).1 ≡ w
 stays w q (Some r) refused why e = refl
 stays w q None (Some other) why e = refl
 stays w q None None why e = absurd (cc e)
 
 pub refused_changes_nothing : RefusedChangesNothing
-refused_changes_nothing w q why next step = elim step [ inl h ↦ h.1 ∙ stays w q (kept_reply w q) (refuses w q) why h.0 | inr h ↦ h.1 ]
+refused_changes_nothing w q why next step = elim step [
+  | inl h ↦ h.1 ∙ stays w q (kept_reply w q) (refuses w q) why h.0
+  | inr h ↦ h.1
+]
 
 pub kept_changes_nothing : KeptChangesNothing
 kept_changes_nothing w q r e = ap (λ o. outcome_by w q o (refuses w q)) e

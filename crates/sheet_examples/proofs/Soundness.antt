@@ -19,7 +19,9 @@ use Rattle.sheet_types.specs.declared.receipt.MovedKind.TheVariants.{TileItem}
 use Rattle.sheet_types.proofs.Basics.{None≢Some, differ}
 use Rattle.sheet_examples.specs.Sheets.{archive, crew, second_crew, item, quarter}
 use Rattle.sheet_examples.specs.Story.{moved_corner, moved_small}
-use Rattle.sheet_examples.specs.Ledgers.{added, taken_out, SoundLedger, WrongNumbers, WrongLines, WrongThings, WrongMoves, AddedTwice, WrongHoldings, WrongSums, NothingHeld, NoRegister, one_lent, same_key, TakenKey, AlteredThenDeleted}
+use Rattle.sheet_examples.specs.Ledgers.{added, taken_out, SoundLedger, WrongNumbers, WrongLines, WrongThings}
+use Rattle.sheet_examples.specs.Ledgers.{WrongMoves, AddedTwice, WrongHoldings, WrongSums, NothingHeld, NoRegister}
+use Rattle.sheet_examples.specs.Ledgers.{one_lent, same_key, TakenKey, AlteredThenDeleted}
 
 abbrev digest : List ℕ
 digest = unwrap_or moved_corner.fingerprint []
@@ -33,7 +35,11 @@ sound_ledger = (
     things = ((refl, refl), tt);
     in_order = (tt, tt);
     counts = record { tiles = refl; media = refl; rows = refl; links = refl; bytes = refl };
-    entered = (Adds archive (item 1) TileItem 1 digest, record { says = refl; leaves = refl; comes_to = refl; moves = refl });
+    entered = (
+      Adds archive (item 1) TileItem 1 digest,
+      record
+          { says = refl; leaves = refl; comes_to = refl; moves = refl },
+    );
     from_source = (refl, tt);
     never_before = λ _. (refl, tt);
     agrees = (tt, tt);
@@ -46,7 +52,16 @@ sound_ledger = (
       things = ((refl, refl), tt);
       in_order = (tt, tt);
       counts = record { tiles = refl; media = refl; rows = refl; links = refl; bytes = refl };
-      entered = (Splits archive crew Strict quarter, record { says = refl; leaves = refl; comes_to = refl; moves = tt });
+      entered = (
+        Splits archive crew Strict quarter,
+        record {
+          says = refl;
+          leaves = refl;
+          comes_to = refl;
+          moves =
+              tt;
+        },
+      );
       from_source = (refl, tt);
       never_before = λ e. absurd (false≢true e);
       agrees = ((((λ _. (refl, refl)), tt), tt), tt);
@@ -88,12 +103,15 @@ corner_entry = Adds archive (item 1) TileItem 1 digest
 pub wrong_lines : WrongLines
 unfolding by_index digits decode_pairs encode_with entry_from
 wrong_lines = (
-  (λ h. differ is_some refl refl (h.0.entered.1.leaves ∙ sym (ap (λ o. option_and_then source_of o) h.0.entered.1.says))),
-  (λ h. differ (λ o. option_map_or (λ x. bytes_eq x archive) o false) refl refl (h.0.entered.1.comes_to ∙ sym (ap (λ o. option_and_then target_of o) h.0.entered.1.says))),
+  (λ h. differ is_some refl refl (h.0.entered.1.leaves ∙ sym
+      (ap (λ o. option_and_then source_of o) h.0.entered.1.says))),
+  (λ h. differ (λ o. option_map_or (λ x. bytes_eq x archive) o false) refl refl
+      (h.0.entered.1.comes_to ∙ sym (ap (λ o. option_and_then target_of o) h.0.entered.1.says))),
   (λ h.
       let MovesIt : Entry → Type 0 = λ e. MovesFor e (moved_small ∷ []) in
       let same : h.0.entered.0 ≡ corner_entry = sym (ap (λ o. unwrap_or o corner_entry) h.0.entered.1.says) in
-      differ (λ things. list_any (λ m. bytes_eq m.base (item 1)) things) refl refl (subst MovesIt same h.0.entered.1.moves)),
+      differ (λ things. list_any (λ m. bytes_eq m.base (item 1)) things) refl refl
+      (subst MovesIt same h.0.entered.1.moves)),
   (λ h. None≢Some h.0.entered.1.says),
   (λ h. None≢Some h.1.0.entered.1.says),
   (λ h. None≢Some h.1.1.0.entered.1.says),
@@ -128,7 +146,16 @@ added_and_deleted = (
       things = ((refl, refl), tt);
       in_order = (tt, tt);
       counts = record { tiles = refl; media = refl; rows = refl; links = refl; bytes = refl };
-      entered = (Deletes archive (item 1), record { says = refl; leaves = refl; comes_to = refl; moves = (moved_corner, refl, refl, refl) });
+      entered = (
+        Deletes archive (item 1),
+        record {
+          says = refl;
+          leaves = refl;
+          comes_to = refl;
+          moves =
+              (moved_corner, refl, refl, refl);
+        },
+      );
       from_source = (refl, tt);
       never_before = λ e. absurd (false≢true e);
       agrees = ((((λ _. (refl, refl)), tt), tt), tt);
@@ -140,10 +167,15 @@ added_and_deleted = (
 
 pub added_twice : AddedTwice
 unfolding by_index digits decode_pairs encode_with entry_from
-added_twice = ((λ h. true≢false (h.1.0.never_before refl).0), added_and_deleted, (λ h. true≢false (h.1.1.0.never_before refl).0))
+added_twice = (
+  (λ h. true≢false (h.1.0.never_before refl).0),
+  added_and_deleted,
+  (λ h. true≢false (h.1.1.0.never_before refl).0),
+)
 
 pub altered_then_deleted : AlteredThenDeleted
-unfolding by_index digits decode_pairs encode_with entry_from sha256 first_words schedule rounds compress hash_after digest_bytes
+unfolding by_index digits decode_pairs encode_with entry_from sha256 first_words schedule rounds compress hash_after
+    digest_bytes
 altered_then_deleted = (refl, λ h. differ (λ o. bytes_eq (unwrap_or o []) digest) refl refl (h.1.0.agrees.0.0.0 refl).1)
 
 -- what stands in the place of the added tile's line
@@ -192,11 +224,13 @@ no_register = (
 -- ---- two links under one key
 
 accepted : (outcome one_lent same_key).0 ≡ Ok (receipt_of one_lent same_key)
-unfolding by_index digits encode_with sha256 first_words schedule rounds compress hash_after digest_bytes decode_pairs entry_from
+unfolding by_index digits encode_with sha256 first_words schedule rounds compress hash_after digest_bytes decode_pairs
+    entry_from
 accepted = refl
 
 unsound_after : IsLedger archive [] (receipts_of (outcome one_lent same_key).1) → ⊥
-unfolding by_index digits encode_with sha256 first_words schedule rounds compress hash_after digest_bytes decode_pairs entry_from
+unfolding by_index digits encode_with sha256 first_words schedule rounds compress hash_after digest_bytes decode_pairs
+    entry_from
 unsound_after h = differ is_some refl refl (sym h.1.1.1.1.1.1.0.from_source.0)
 
 pub taken_key : TakenKey

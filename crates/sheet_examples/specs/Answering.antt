@@ -4,7 +4,9 @@ use Rattle.sheet_types.specs.World.{receipts_of, item_thing, link_key, new_world
 use Rattle.sheet_types.specs.Custody.{custody, account, open_loans, ticket}
 use Rattle.sheet_types.specs.Answers.{sums_of, package_sights, holdings_answer, receipt_answer}
 use Rattle.sheet_examples.specs.Sheets.{sheet, archive, crew, second_crew, item, request, tile, picture, tile_link}
-use Rattle.sheet_examples.specs.Story.{gate, kept_as, archive_with, crew_with, world_with, receipt_1, receipt_2, receipt_3, receipt_4, receipt_5, receipt_6, receipt_7, receipt_9, world_0, world_4, world_6, world_7, world_8, world_9}
+use Rattle.sheet_examples.specs.Story.{gate, kept_as, archive_with, crew_with, world_with, receipt_1, receipt_2}
+use Rattle.sheet_examples.specs.Story.{receipt_3, receipt_4, receipt_5, receipt_6, receipt_7, receipt_9, world_0}
+use Rattle.sheet_examples.specs.Story.{world_4, world_6, world_7, world_8, world_9}
 
 -- ---- a new world
 
@@ -19,7 +21,8 @@ NewWorld = (new_world archive sheet ≡ world_0)
 
 abbrev pub ListOfPackages : Type 0
 ListOfPackages = (package_sights world_4 ≡ record { uuid = archive; parent = None; depth = 0; ticket = 4 } ∷ [])
-    × (package_sights world_6 ≡ record { uuid = archive; parent = None; depth = 0; ticket = 5 } ∷ record { uuid = crew; parent = Some archive; depth = 1; ticket = 6 } ∷ [])
+    × (package_sights world_6 ≡ record { uuid = archive; parent = None; depth = 0; ticket = 5 }
+    ∷ record { uuid = crew; parent = Some archive; depth = 1; ticket = 6 } ∷ [])
     × (package_sights world_7 ≡ record { uuid = archive; parent = None; depth = 0; ticket = 7 } ∷ [])
     -- of a package that is not live the receipts still tell
     × (ticket world_7 crew ≡ 7)
@@ -36,7 +39,11 @@ SumsOfPackages = (sums_of world_4 archive ≡ Some (record { tiles = 1; media = 
 
 abbrev pub HoldingsOfPackages : Type 0
 HoldingsOfPackages = (holdings_answer world_6 archive ≡ Some (kept_as 2 gate ∷ [], []))
-    × (holdings_answer world_6 crew ≡ Some (kept_as 1 (tile 1 0 0) ∷ kept_as 4 (tile 2 0 0) ∷ kept_as 3 picture ∷ [], tile_link 1 3 ∷ []))
+    × (holdings_answer world_6 crew ≡ Some (
+      kept_as 1 (tile 1 0 0) ∷ kept_as 4 (tile 2 0 0) ∷ kept_as 3 picture
+          ∷ [],
+      tile_link 1 3 ∷ [],
+    ))
     × (holdings_answer world_7 crew ≡ None)
 
 -- ---- the kept receipt of a request, wherever it stands
@@ -52,7 +59,8 @@ KeptReceipts = (receipt_answer world_6 (request 6) ≡ Some receipt_6)
 
 abbrev pub WholeLedger : Type 0
 WholeLedger = (receipts_of world_6 ≡ receipt_1 ∷ receipt_2 ∷ receipt_3 ∷ receipt_4 ∷ receipt_5 ∷ receipt_6 ∷ [])
-    × (receipts_of (world_with (archive_with [] [] (receipt_2 ∷ receipt_5 ∷ []) ∷ crew_with [] [] (receipt_1 ∷ receipt_3 ∷ []) ∷ [])) ≡ receipt_1 ∷ receipt_2 ∷ receipt_3 ∷ receipt_5 ∷ [])
+    × (receipts_of (world_with (archive_with [] [] (receipt_2 ∷ receipt_5 ∷ [])
+    ∷ crew_with [] [] (receipt_1 ∷ receipt_3 ∷ []) ∷ [])) ≡ receipt_1 ∷ receipt_2 ∷ receipt_3 ∷ receipt_5 ∷ [])
 
 -- ---- custody: where the last receipt that names a thing brought it
 

@@ -1,9 +1,11 @@
 -- Frames, the ground of tiles, and what lies inside (OGC GeoPackage 1.3, 2.2.6 and 2.2.7; profile).
 use Rattle.std.specs.Prelude.{◌≡◌, true, false, Some, None, Ok, Err, pos, negsuc}
-use Rattle.sheet_types.specs.Matrix.{frame_fault, is_good_frame, tile_ground, has_place, is_good_rect, point_inside, tile_inside}
+use Rattle.sheet_types.specs.Matrix.{frame_fault, is_good_frame, tile_ground, has_place, is_good_rect, point_inside}
+use Rattle.sheet_types.specs.Matrix.{tile_inside}
 use Rattle.sheet_types.specs.declared.command.Command.TheVariants.{Add}
 use Rattle.sheet_types.specs.declared.frame.Frame.{Frame}
-use Rattle.sheet_types.specs.declared.frame.FrameFault.TheVariants.{BadSrs, BadBounds, BadTile, BadZoom, BadMatrix, Uneven}
+use Rattle.sheet_types.specs.declared.frame.FrameFault.TheVariants.{BadSrs, BadBounds, BadTile, BadZoom, BadMatrix}
+use Rattle.sheet_types.specs.declared.frame.FrameFault.TheVariants.{Uneven}
 use Rattle.sheet_types.specs.declared.refusal.Refusal.TheVariants.{OutOfFrame}
 use Rattle.sheet_examples.specs.Sheets.{sheet, new_archive, ask, archive, item, row_at, block, quarter, answer}
 
@@ -22,7 +24,8 @@ FrameFaults = (frame_fault sheet ≡ None)
 
 -- five levels have pixels of one unit
 abbrev pub FinestPixel : Type 0
-FinestPixel = tile_ground (record sheet { levels = pos 5 }) (pos 4) (pos 0) (pos 0) ≡ Some (record { west = pos 0; south = pos 3840; east = pos 256; north = pos 4096 })
+FinestPixel = tile_ground (record sheet { levels = pos 5 }) (pos 4) (pos 0) (pos 0)
+    ≡ Some (record { west = pos 0; south = pos 3840; east = pos 256; north = pos 4096 })
 
 -- the limits themselves: what is still good, and what is not. The sides of a tile and of a matrix are looked at each
 abbrev pub FrameLimits : Type 0
@@ -30,7 +33,13 @@ FrameLimits = (frame_fault (record sheet { srs_id = negsuc 0 }) ≡ None)
     × (frame_fault (record sheet { srs_id = pos 0 }) ≡ None)
     × (frame_fault (record sheet { srs_id = pos 999999 }) ≡ None)
     × (frame_fault (record sheet { srs_id = pos 1000000 }) ≡ Some BadSrs)
-    × (frame_fault (record sheet { min_x = negsuc 999999999999; max_x = pos 1000000000000; min_y = negsuc 999999999999; max_y = pos 1000000000000 }) ≡ None)
+    × (frame_fault (record sheet {
+      min_x = negsuc 999999999999;
+      max_x = pos 1000000000000;
+      min_y =
+          negsuc 999999999999;
+      max_y = pos 1000000000000;
+    }) ≡ None)
     × (frame_fault (record sheet { min_x = negsuc 1000000000000 }) ≡ Some BadBounds)
     × (frame_fault (record sheet { min_y = negsuc 1000000000000 }) ≡ Some BadBounds)
     × (frame_fault (record sheet { max_x = pos 1000000000001 }) ≡ Some BadBounds)
@@ -61,16 +70,33 @@ FirstFault = (frame_fault (record sheet { srs_id = negsuc 1; max_x = pos 0 }) �
 
 -- a sheet that lies left of and below the origin, and begins at zoom 3
 abbrev low_sheet : Frame
-low_sheet = record { srs_id = pos 0; min_x = negsuc 99; min_y = negsuc 199; max_x = pos 0; max_y = negsuc 99; tile_width = pos 5; tile_height = pos 10; first_zoom = pos 3; levels = pos 2; matrix_width = pos 2; matrix_height = pos 1 }
+low_sheet = record {
+  srs_id = pos 0;
+  min_x = negsuc 99;
+  min_y = negsuc 199;
+  max_x = pos 0;
+  max_y =
+      negsuc 99;
+  tile_width = pos 5;
+  tile_height = pos 10;
+  first_zoom = pos 3;
+  levels = pos 2;
+  matrix_width =
+      pos 2;
+  matrix_height = pos 1;
+}
 
 abbrev pub GroundOfATile : Type 0
-GroundOfATile = (tile_ground sheet (pos 2) (pos 3) (pos 3) ≡ Some (record { west = pos 3072; south = pos 0; east = pos 4096; north = pos 1024 }))
+GroundOfATile = (tile_ground sheet (pos 2) (pos 3) (pos 3) ≡ Some
+    (record { west = pos 3072; south = pos 0; east = pos 4096; north = pos 1024 }))
     × (tile_ground sheet (pos 2) (pos 4) (pos 0) ≡ None)
-    × (tile_ground sheet (pos 2) (pos 1) (pos 0) ≡ Some (record { west = pos 1024; south = pos 3072; east = pos 2048; north = pos 4096 }))
+    × (tile_ground sheet (pos 2) (pos 1) (pos 0) ≡ Some (record
+    { west = pos 1024; south = pos 3072; east = pos 2048; north = pos 4096 }))
     × (is_good_frame low_sheet ≡ true)
     × (tile_ground low_sheet (pos 2) (pos 0) (pos 0) ≡ None)
     × (tile_ground low_sheet (pos 5) (pos 0) (pos 0) ≡ None)
-    × (tile_ground low_sheet (pos 4) (pos 1) (pos 0) ≡ Some (record { west = negsuc 74; south = negsuc 149; east = negsuc 49; north = negsuc 99 }))
+    × (tile_ground low_sheet (pos 4) (pos 1) (pos 0) ≡ Some (record
+    { west = negsuc 74; south = negsuc 149; east = negsuc 49; north = negsuc 99 }))
 
 -- which places there are
 abbrev pub Places : Type 0

@@ -6,15 +6,20 @@ use Rattle.sheet_types.specs.declared.command.Command.TheVariants.{Add, Delete, 
 use Rattle.sheet_types.specs.declared.command.Mapping.TheVariants.{TilesMedia, RowsMedia, RowsTiles}
 use Rattle.sheet_types.specs.declared.command.Mode.TheVariants.{Strict, Follow}
 use Rattle.sheet_types.specs.declared.command.Request.{Request}
-use Rattle.sheet_types.specs.declared.refusal.Refusal.TheVariants.{WrongKind, Linked, BadRectangle, NothingToLend, CutLink}
-use Rattle.sheet_examples.specs.Sheets.{new_archive, after_all, ask, archive, crew, item, tile, picture, row_at, block, quarter, tile_link, row_link, tile_of_row, answer, replied, held, links_held}
+use Rattle.sheet_types.specs.declared.refusal.Refusal.TheVariants.{WrongKind, Linked, BadRectangle, NothingToLend}
+use Rattle.sheet_types.specs.declared.refusal.Refusal.TheVariants.{CutLink}
+use Rattle.sheet_examples.specs.Sheets.{new_archive, after_all, ask, archive, crew, item, tile, picture, row_at}
+use Rattle.sheet_examples.specs.Sheets.{block, quarter, tile_link, row_link, tile_of_row, answer, replied, held}
+use Rattle.sheet_examples.specs.Sheets.{links_held}
 
 -- ---- cut over zooms: tiles of all zooms that lie inside, and none that reaches past an edge
 
 abbrev seven_tiles : World
 seven_tiles = after_all new_archive
-    (ask 1 (Add archive (item 1) (tile 0 0 0)) ∷ ask 2 (Add archive (item 2) (tile 1 0 0)) ∷ ask 3 (Add archive (item 3) (tile 2 0 0)) ∷ ask 4 (Add archive (item 4) (tile 2 1 0))
-    ∷ ask 5 (Add archive (item 5) (tile 2 0 1)) ∷ ask 6 (Add archive (item 6) (tile 2 1 1)) ∷ ask 7 (Add archive (item 7) (tile 2 2 0)) ∷ [])
+    (ask 1 (Add archive (item 1) (tile 0 0 0)) ∷ ask 2 (Add archive (item 2) (tile 1 0 0))
+    ∷ ask 3 (Add archive (item 3) (tile 2 0 0)) ∷ ask 4 (Add archive (item 4) (tile 2 1 0))
+    ∷ ask 5 (Add archive (item 5) (tile 2 0 1)) ∷ ask 6 (Add archive (item 6) (tile 2 1 1))
+    ∷ ask 7 (Add archive (item 7) (tile 2 2 0)) ∷ [])
 
 abbrev lend_quarter : Request
 lend_quarter = ask 8 (Split archive crew Strict quarter)
@@ -38,7 +43,8 @@ NothingInside = (outcome far_tile (ask 2 (Split archive crew Strict quarter)) �
 
 abbrev shared : World
 shared = after_all new_archive
-    (ask 1 (Add archive (item 1) (tile 1 0 0)) ∷ ask 2 (Add archive (item 2) (row_at 3000 1000)) ∷ ask 3 (Add archive (item 3) picture)
+    (ask 1 (Add archive (item 1) (tile 1 0 0)) ∷ ask 2 (Add archive (item 2) (row_at 3000 1000))
+    ∷ ask 3 (Add archive (item 3) picture)
     ∷ ask 4 (Link archive TilesMedia (item 1) (item 3)) ∷ ask 5 (Link archive RowsMedia (item 2) (item 3)) ∷ [])
 
 abbrev follow_shared : Request
@@ -56,8 +62,11 @@ SharedMedium = (replied shared (ask 6 (Split archive crew Strict quarter)) ≡ E
 
 abbrev chained : World
 chained = after_all new_archive
-    (ask 1 (Add archive (item 1) (tile 1 0 0)) ∷ ask 2 (Add archive (item 2) (tile 1 1 0)) ∷ ask 3 (Add archive (item 5) (tile 1 1 1)) ∷ ask 4 (Add archive (item 3) picture) ∷ ask 5 (Add archive (item 4) picture)
-    ∷ ask 6 (Link archive TilesMedia (item 1) (item 3)) ∷ ask 7 (Link archive TilesMedia (item 2) (item 3)) ∷ ask 8 (Link archive TilesMedia (item 2) (item 4)) ∷ [])
+    (ask 1 (Add archive (item 1) (tile 1 0 0)) ∷ ask 2 (Add archive (item 2) (tile 1 1 0))
+    ∷ ask 3 (Add archive (item 5) (tile 1 1 1)) ∷ ask 4 (Add archive (item 3) picture)
+    ∷ ask 5 (Add archive (item 4) picture)
+    ∷ ask 6 (Link archive TilesMedia (item 1) (item 3)) ∷ ask 7 (Link archive TilesMedia (item 2) (item 3))
+    ∷ ask 8 (Link archive TilesMedia (item 2) (item 4)) ∷ [])
 
 abbrev follow_chain : Request
 follow_chain = ask 9 (Split archive crew Follow quarter)
@@ -71,7 +80,8 @@ FollowTwoRounds = (replied chained follow_chain ≡ Ok (9 ∷ 2 ∷ 2 ∷ 0 ∷ 
 -- ---- a row related to a tile of another quarter
 
 abbrev row_and_tile : World
-row_and_tile = after_all new_archive (ask 1 (Add archive (item 1) (row_at 100 4000)) ∷ ask 2 (Add archive (item 2) (tile 1 1 1)) ∷ [])
+row_and_tile = after_all new_archive (ask 1 (Add archive (item 1) (row_at 100 4000))
+    ∷ ask 2 (Add archive (item 2) (tile 1 1 1)) ∷ [])
 
 abbrev relate : Request
 relate = ask 3 (Link archive RowsTiles (item 1) (item 2))
@@ -93,15 +103,18 @@ RowRelatedToATile = (replied row_and_tile relate ≡ Ok (3 ∷ 0 ∷ 0 ∷ 0 ∷
     × (held (outcome related follow_row).1 archive ≡ [])
     × (links_held (outcome related follow_row).1 archive ≡ [])
     × (links_held (outcome related follow_row).1 crew ≡ tile_of_row 1 2 ∷ [])
-    × (replied (outcome related follow_row).1 (ask 5 (Merge crew archive (pos 4))) ≡ Ok (5 ∷ 1 ∷ 0 ∷ 1 ∷ 1 ∷ 1 ∷ [], Some crew, Some archive))
+    × (replied (outcome related follow_row).1 (ask 5 (Merge crew archive (pos 4)))
+    ≡ Ok (5 ∷ 1 ∷ 0 ∷ 1 ∷ 1 ∷ 1 ∷ [], Some crew, Some archive))
 
 -- ---- a strict cut takes the media of its tiles and rows, and leaves other media, rows and links
 
 abbrev two_pairs : World
 two_pairs = after_all new_archive
-    (ask 1 (Add archive (item 1) (tile 1 0 0)) ∷ ask 2 (Add archive (item 2) (row_at 100 4000)) ∷ ask 3 (Add archive (item 3) picture) ∷ ask 4 (Add archive (item 4) picture)
+    (ask 1 (Add archive (item 1) (tile 1 0 0)) ∷ ask 2 (Add archive (item 2) (row_at 100 4000))
+    ∷ ask 3 (Add archive (item 3) picture) ∷ ask 4 (Add archive (item 4) picture)
     ∷ ask 5 (Add archive (item 5) (row_at 3000 1000)) ∷ ask 6 (Add archive (item 6) picture)
-    ∷ ask 7 (Link archive TilesMedia (item 1) (item 3)) ∷ ask 8 (Link archive RowsMedia (item 2) (item 3)) ∷ ask 9 (Link archive RowsMedia (item 2) (item 4)) ∷ ask 10 (Link archive RowsMedia (item 5) (item 6)) ∷ [])
+    ∷ ask 7 (Link archive TilesMedia (item 1) (item 3)) ∷ ask 8 (Link archive RowsMedia (item 2) (item 3))
+    ∷ ask 9 (Link archive RowsMedia (item 2) (item 4)) ∷ ask 10 (Link archive RowsMedia (item 5) (item 6)) ∷ [])
 
 abbrev lend_strictly : Request
 lend_strictly = ask 11 (Split archive crew Strict quarter)

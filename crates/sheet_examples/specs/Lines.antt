@@ -11,14 +11,24 @@ use Rattle.sheet_examples.specs.Story.{entered}
 
 abbrev pub ReadWhole : Type 0
 ReadWhole = (entry_from (codes "split a0000000-0000-4000-8000-000000000000 b0000000-0000-4000-8000-000000000000 follow -5 0 12 3 9223372036854775807")
-    ≡ Some (Splits archive crew Follow (record { zoom = negsuc 4; column = pos 0; last_column = pos 12; row = pos 3; last_row = pos 9223372036854775807 })))
-    × (entry_from (codes "merge b0000000-0000-4000-8000-000000000000 a0000000-0000-4000-8000-000000000000 12") ≡ Some (Merges crew archive (pos 12)))
+    ≡ Some (Splits archive crew Follow (record {
+      zoom = negsuc 4;
+      column = pos 0;
+      last_column = pos 12;
+      row =
+          pos 3;
+      last_row = pos 9223372036854775807;
+    })))
+    × (entry_from (codes "merge b0000000-0000-4000-8000-000000000000 a0000000-0000-4000-8000-000000000000 12")
+    ≡ Some (Merges crew archive (pos 12)))
 
 -- a word alone, a number that begins with 0, one past the greatest of 64 bits, a UUID in upper case, and two spaces
 abbrev pub NoLines : Type 0
 NoLines = (entry_from (codes "split") ≡ None)
     × (entry_from (codes "merge b0000000-0000-4000-8000-000000000000 a0000000-0000-4000-8000-000000000000 012") ≡ None)
-    × (entry_from (codes "merge b0000000-0000-4000-8000-000000000000 a0000000-0000-4000-8000-000000000000 9223372036854775808") ≡ None)
+    × (entry_from
+    (codes "merge b0000000-0000-4000-8000-000000000000 a0000000-0000-4000-8000-000000000000 9223372036854775808")
+    ≡ None)
     × (entry_from (codes "merge B0000000-0000-4000-8000-000000000000 a0000000-0000-4000-8000-000000000000 12") ≡ None)
     × (entry_from (codes "merge  b0000000-0000-4000-8000-000000000000 a0000000-0000-4000-8000-000000000000 12") ≡ None)
 
@@ -28,7 +38,13 @@ abbrev begins_as_split : Receipt
 begins_as_split = entered 1 (codes "split") None (Some second_crew) []
 
 abbrev claimed : List ℕ → Claim
-claimed line = record { seq = pos 1; line = line; source = codes "a0000000-0000-4000-8000-000000000000"; target = codes "c0000000-0000-4000-8000-000000000000" }
+claimed line = record {
+  seq = pos 1;
+  line = line;
+  source = codes "a0000000-0000-4000-8000-000000000000";
+  target =
+      codes "c0000000-0000-4000-8000-000000000000";
+}
 
 abbrev split_line : List ℕ
 split_line = codes "split a0000000-0000-4000-8000-000000000000 c0000000-0000-4000-8000-000000000000 strict 1 0 0 0 0"

@@ -1,4 +1,5 @@
--- The reasons of refusal, but for the last: for each the requests that it refuses, requests beside them that pass, and of two reasons the first. A number is that of an accepted request's receipt.
+-- The reasons of refusal, but for the last: for each the requests that it refuses, requests beside them that pass,
+-- and of two reasons the first. A number is that of an accepted request's receipt.
 use Rattle.std.specs.Prelude.{◌≡◌, ℕ, true, false, List, [], ◌∷◌, replicate, Some, Ok, Err, pos, negsuc, codes}
 use Rattle.sheet_types.specs.Texts.{is_moment}
 use Rattle.sheet_types.specs.World.{World}
@@ -10,9 +11,17 @@ use Rattle.sheet_types.specs.declared.command.Content.TheVariants.{Media, Row}
 use Rattle.sheet_types.specs.declared.command.Item.{Item}
 use Rattle.sheet_types.specs.declared.command.Mapping.TheVariants.{TilesMedia, RowsMedia, RowsTiles}
 use Rattle.sheet_types.specs.declared.command.Mode.TheVariants.{Strict, Follow}
-use Rattle.sheet_types.specs.declared.refusal.Refusal.TheVariants.{IdReused, UnknownPackage, PackageUsed, BadText, TooLarge, IdentityUsed, UnknownItem, WrongKind, BadPlace, OutOfFrame, PlaceTaken, LinkThere, UnknownLink, Linked, BadRectangle, TooDeep, NothingToLend, CutLink, Foreign, Stale, LoanOpen, Collides}
-use Rattle.sheet_examples.specs.Sheets.{ask, ask_at, noon, archive, crew, second_crew, third_crew, fourth_crew, item, tile, tile_of, picture, row_at, block, quarter, tile_link, row_link, tile_of_row, answer}
-use Rattle.sheet_examples.specs.Story.{gate, kept_as, archive_with, crew_with, world_with, receipt_5, receipt_9, world_1, world_3, world_4, world_5, world_6, world_7, world_8}
+use Rattle.sheet_types.specs.declared.refusal.Refusal.TheVariants.{IdReused, UnknownPackage, PackageUsed, BadText}
+use Rattle.sheet_types.specs.declared.refusal.Refusal.TheVariants.{TooLarge, IdentityUsed, UnknownItem, WrongKind}
+use Rattle.sheet_types.specs.declared.refusal.Refusal.TheVariants.{BadPlace, OutOfFrame, PlaceTaken, LinkThere}
+use Rattle.sheet_types.specs.declared.refusal.Refusal.TheVariants.{UnknownLink, Linked, BadRectangle, TooDeep}
+use Rattle.sheet_types.specs.declared.refusal.Refusal.TheVariants.{NothingToLend, CutLink, Foreign, Stale, LoanOpen}
+use Rattle.sheet_types.specs.declared.refusal.Refusal.TheVariants.{Collides}
+use Rattle.sheet_examples.specs.Sheets.{ask, ask_at, noon, archive, crew, second_crew, third_crew, fourth_crew, item}
+use Rattle.sheet_examples.specs.Sheets.{tile, tile_of, picture, row_at, block, quarter, tile_link, row_link}
+use Rattle.sheet_examples.specs.Sheets.{tile_of_row, answer}
+use Rattle.sheet_examples.specs.Story.{gate, kept_as, archive_with, crew_with, world_with, receipt_5, receipt_9}
+use Rattle.sheet_examples.specs.Story.{world_1, world_3, world_4, world_5, world_6, world_7, world_8}
 
 -- ---- 1: a kept request's identity, for another line
 
@@ -225,7 +234,8 @@ LinkedItems = (answer world_4 (ask 5 (Delete archive (item 1))) ≡ Err Linked)
 
 -- a loan of a tile, so many levels below the archive
 abbrev lent_at : ℕ → World
-lent_at depth = world_with (archive_with [] [] [] ∷ record (crew_with (kept_as 1 (tile 1 0 0) ∷ []) [] []) { depth = depth } ∷ [])
+lent_at depth = world_with (archive_with [] [] [] ∷ record (crew_with (kept_as 1 (tile 1 0 0) ∷ []) [] [])
+    { depth = depth } ∷ [])
 
 abbrev only_a_picture : World
 only_a_picture = world_with (archive_with (kept_as 3 picture ∷ []) [] [] ∷ [])
@@ -249,15 +259,19 @@ NotLent = (answer world_4 (ask 5 (Split archive crew Strict (block 3 0 0 0 0))) 
 
 -- a tile inside and a row outside, and two media of both
 abbrev torn : World
-torn = world_with (archive_with (kept_as 1 (tile 1 0 0) ∷ kept_as 3 picture ∷ kept_as 4 picture ∷ kept_as 5 picture ∷ kept_as 2 gate ∷ []) (tile_link 1 3 ∷ tile_link 1 4 ∷ tile_link 1 5 ∷ row_link 2 4 ∷ row_link 2 5 ∷ []) [] ∷ [])
+torn = world_with (archive_with (kept_as 1 (tile 1 0 0) ∷ kept_as 3 picture ∷ kept_as 4 picture ∷ kept_as 5 picture
+    ∷ kept_as 2 gate ∷ []) (tile_link 1 3 ∷ tile_link 1 4 ∷ tile_link 1 5 ∷ row_link 2 4 ∷ row_link 2 5 ∷ []) [] ∷ [])
 
 -- a row of one quarter related to a tile of another; a row and a tile of a third
 abbrev tiles_of_rows : World
-tiles_of_rows = world_with (archive_with (kept_as 4 (tile 1 1 1) ∷ kept_as 6 (tile 1 1 0) ∷ kept_as 2 (row_at 100 4000) ∷ kept_as 5 (row_at 3000 4000) ∷ []) (tile_of_row 2 4 ∷ tile_of_row 5 6 ∷ []) [] ∷ [])
+tiles_of_rows = world_with (archive_with (kept_as 4 (tile 1 1 1) ∷ kept_as 6 (tile 1 1 0)
+    ∷ kept_as 2 (row_at 100 4000) ∷ kept_as 5 (row_at 3000 4000) ∷ []) (tile_of_row 2 4 ∷ tile_of_row 5 6 ∷ []) []
+    ∷ [])
 
 -- a row related to a tile of another quarter, and a medium of both
 abbrev torn_twice : World
-torn_twice = world_with (archive_with (kept_as 4 (tile 1 1 1) ∷ kept_as 3 picture ∷ kept_as 2 (row_at 100 4000) ∷ []) (tile_link 4 3 ∷ row_link 2 3 ∷ tile_of_row 2 4 ∷ []) [] ∷ [])
+torn_twice = world_with (archive_with (kept_as 4 (tile 1 1 1) ∷ kept_as 3 picture ∷ kept_as 2 (row_at 100 4000) ∷ [])
+    (tile_link 4 3 ∷ row_link 2 3 ∷ tile_of_row 2 4 ∷ []) [] ∷ [])
 
 abbrev pub TornLinks : Type 0
 TornLinks = (answer torn (ask 1 (Split archive crew Strict quarter)) ≡ Err (CutLink (item 4)))
@@ -283,19 +297,25 @@ ForeignAndStale = (answer world_5 (ask 6 (Merge crew archive (pos 5))) ≡ Ok 6)
     × (answer world_5 (ask 6 (Merge crew archive (pos 6))) ≡ Err (Stale 5))
     × (answer world_5 (ask 6 (Merge crew archive (negsuc 4))) ≡ Err (Stale 5))
     -- what leaves a loan makes its ticket greater as well, and what another package does, does not
-    × (answer (world_with (archive_with [] [] (receipt_5 ∷ []) ∷ crew_with [] [] (record receipt_9 { seq = 6; source = Some crew } ∷ []) ∷ [])) (ask 7 (Merge crew archive (pos 5))) ≡ Err (Stale 6))
-    × (answer (world_with (archive_with [] [] (receipt_5 ∷ receipt_9 ∷ []) ∷ crew_with [] [] [] ∷ [])) (ask 7 (Merge crew archive (pos 9))) ≡ Err (Stale 5))
+    × (answer (world_with (archive_with [] [] (receipt_5 ∷ [])
+    ∷ crew_with [] [] (record receipt_9 { seq = 6; source = Some crew } ∷ []) ∷ []))
+    (ask 7 (Merge crew archive (pos 5))) ≡ Err (Stale 6))
+    × (answer (world_with (archive_with [] [] (receipt_5 ∷ receipt_9 ∷ []) ∷ crew_with [] [] [] ∷ []))
+    (ask 7 (Merge crew archive (pos 9))) ≡ Err (Stale 5))
     -- a foreign package before a stale ticket
     × (answer world_5 (ask 6 (Merge crew crew (pos 0))) ≡ Err Foreign)
 
 -- ---- 21: a loan that lent
 
 abbrev lent_on : List Item → List Item → World
-lent_on here there = world_with (archive_with here [] [] ∷ crew_with there [] [] ∷ record (crew_with [] [] []) { uuid = second_crew; parent = Some crew; depth = 2 } ∷ [])
+lent_on here there = world_with (archive_with here [] [] ∷ crew_with there [] []
+    ∷ record (crew_with [] [] []) { uuid = second_crew; parent = Some crew; depth = 2 } ∷ [])
 
 -- as it is, with another loan of the loan
 abbrev lent_twice : List ℕ → World
-lent_twice uuid = world_with (archive_with [] [] [] ∷ crew_with [] [] [] ∷ record (crew_with [] [] []) { uuid = uuid; parent = Some crew; depth = 2 } ∷ record (crew_with [] [] []) { uuid = fourth_crew; parent = Some crew; depth = 2 } ∷ [])
+lent_twice uuid = world_with (archive_with [] [] [] ∷ crew_with [] [] []
+    ∷ record (crew_with [] [] []) { uuid = uuid; parent = Some crew; depth = 2 }
+    ∷ record (crew_with [] [] []) { uuid = fourth_crew; parent = Some crew; depth = 2 } ∷ [])
 
 abbrev pub OpenLoans : Type 0
 OpenLoans = (answer (lent_on [] []) (ask 1 (Merge crew archive (pos 0))) ≡ Err (LoanOpen second_crew))
@@ -304,15 +324,21 @@ OpenLoans = (answer (lent_on [] []) (ask 1 (Merge crew archive (pos 0))) ≡ Err
     × (answer (lent_on [] []) (ask 1 (Merge second_crew crew (pos 0))) ≡ Ok 1)
     -- a stale ticket before it, a collision after it
     × (answer (lent_on [] []) (ask 1 (Merge crew archive (pos 1))) ≡ Err (Stale 0))
-    × (answer (lent_on (kept_as 1 (tile 1 0 0) ∷ []) (kept_as 2 (tile 1 0 0) ∷ [])) (ask 1 (Merge crew archive (pos 0))) ≡ Err (LoanOpen second_crew))
+    × (answer (lent_on (kept_as 1 (tile 1 0 0) ∷ []) (kept_as 2 (tile 1 0 0) ∷ []))
+    (ask 1 (Merge crew archive (pos 0))) ≡ Err (LoanOpen second_crew))
 
 -- ---- 22: a place that was taken in the parent: the loan's tile of the least zoom, then column, then row
 
 abbrev returning : List Item → World
-returning there = world_with (archive_with (kept_as 11 (tile 1 1 0) ∷ kept_as 12 (tile 1 0 1) ∷ kept_as 13 (tile 2 0 0) ∷ kept_as 14 (tile 1 0 0) ∷ []) [] [] ∷ crew_with there [] [] ∷ [])
+returning there = world_with (archive_with (kept_as 11 (tile 1 1 0) ∷ kept_as 12 (tile 1 0 1)
+    ∷ kept_as 13 (tile 2 0 0) ∷ kept_as 14 (tile 1 0 0) ∷ []) [] [] ∷ crew_with there [] [] ∷ [])
 
 abbrev pub Collisions : Type 0
-Collisions = (answer (returning (kept_as 1 (tile 1 1 0) ∷ kept_as 2 (tile 1 0 1) ∷ kept_as 3 (tile 2 0 0) ∷ kept_as 4 (tile 0 0 0) ∷ [])) (ask 1 (Merge crew archive (pos 0))) ≡ Err (Collides (item 2)))
-    × (answer (returning (kept_as 1 (tile 1 0 1) ∷ kept_as 2 (tile 1 0 0) ∷ [])) (ask 1 (Merge crew archive (pos 0))) ≡ Err (Collides (item 2)))
-    × (answer (returning (kept_as 3 (tile 2 0 0) ∷ kept_as 4 (tile 0 0 0) ∷ [])) (ask 1 (Merge crew archive (pos 0))) ≡ Err (Collides (item 3)))
-    × (answer (returning (kept_as 4 (tile 0 0 0) ∷ kept_as 5 (row_at 0 4096) ∷ [])) (ask 1 (Merge crew archive (pos 0))) ≡ Ok 1)
+Collisions = (answer (returning (kept_as 1 (tile 1 1 0) ∷ kept_as 2 (tile 1 0 1) ∷ kept_as 3 (tile 2 0 0)
+    ∷ kept_as 4 (tile 0 0 0) ∷ [])) (ask 1 (Merge crew archive (pos 0))) ≡ Err (Collides (item 2)))
+    × (answer (returning (kept_as 1 (tile 1 0 1) ∷ kept_as 2 (tile 1 0 0) ∷ [])) (ask 1 (Merge crew archive (pos 0)))
+    ≡ Err (Collides (item 2)))
+    × (answer (returning (kept_as 3 (tile 2 0 0) ∷ kept_as 4 (tile 0 0 0) ∷ [])) (ask 1 (Merge crew archive (pos 0)))
+    ≡ Err (Collides (item 3)))
+    × (answer (returning (kept_as 4 (tile 0 0 0) ∷ kept_as 5 (row_at 0 4096) ∷ []))
+    (ask 1 (Merge crew archive (pos 0))) ≡ Ok 1)

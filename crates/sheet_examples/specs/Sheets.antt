@@ -15,7 +15,20 @@ use Rattle.sheet_types.specs.declared.refusal.Refusal.{Refusal}
 
 -- 4096 units each way, three zooms of 1, 4 and 16 tiles of 256 pixels; the sizes of a pixel are 16, 8 and 4
 abbrev pub sheet : Frame
-sheet = record { srs_id = pos 25832; min_x = pos 0; min_y = pos 0; max_x = pos 4096; max_y = pos 4096; tile_width = pos 256; tile_height = pos 256; first_zoom = pos 0; levels = pos 3; matrix_width = pos 1; matrix_height = pos 1 }
+sheet = record {
+  srs_id = pos 25832;
+  min_x = pos 0;
+  min_y = pos 0;
+  max_x = pos 4096;
+  max_y = pos 4096;
+  tile_width =
+      pos 256;
+  tile_height = pos 256;
+  first_zoom = pos 0;
+  levels = pos 3;
+  matrix_width = pos 1;
+  matrix_height = pos 1;
+}
 
 -- UUIDs that differ in the first and in the last byte
 abbrev pub id : ℕ → ℕ → List ℕ
@@ -99,7 +112,14 @@ abbrev pub row_at : ℕ → ℕ → Content
 row_at x y = Row (pos x) (pos y) (pos 0) []
 
 abbrev pub block : ℕ → ℕ → ℕ → ℕ → ℕ → Rect
-block zoom column last_column row last_row = record { zoom = pos zoom; column = pos column; last_column = pos last_column; row = pos row; last_row = pos last_row }
+block zoom column last_column row last_row = record {
+  zoom = pos zoom;
+  column = pos column;
+  last_column =
+      pos last_column;
+  row = pos row;
+  last_row = pos last_row;
+}
 
 -- the upper left quarter of the sheet
 abbrev pub quarter : Rect

@@ -31,8 +31,10 @@ nothing_there = ask 2 (Split archive second_crew Strict (block 2 0 0 0 0))
 
 -- a run over a request that fails for want of memory, the same again, one that is refused, and the first once more
 abbrev pub SmallRun : Type 0
-SmallRun = Run world_0 (first_of_story ∷ first_of_story ∷ nothing_there ∷ first_of_story ∷ []) (Err OutOfMemory ∷ Ok receipt_1 ∷ Err NothingToLend ∷ Ok receipt_1 ∷ []) world_1
+SmallRun = Run world_0 (first_of_story ∷ first_of_story ∷ nothing_there ∷ first_of_story ∷ [])
+    (Err OutOfMemory ∷ Ok receipt_1 ∷ Err NothingToLend ∷ Ok receipt_1 ∷ []) world_1
 
 -- one reply for each request
 abbrev pub OneReplyEach : Type 0
-OneReplyEach = (w next : World) (q : Request) (reply : Result Receipt Refusal) → (Run w (q ∷ []) [] next → ⊥) × (Run w [] (reply ∷ []) next → ⊥)
+OneReplyEach = (w next : World) (q : Request) (reply : Result Receipt Refusal) → (Run w (q ∷ []) [] next → ⊥)
+    × (Run w [] (reply ∷ []) next → ⊥)

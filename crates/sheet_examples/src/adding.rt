@@ -1,5 +1,6 @@
 //! What adding, deleting, linking and unlinking answer.
-ghost use Rattle.sheet_examples.specs.Adding.{Texts, FirstTile, NoSuchPlace, TileSizes, UsedForGood, LinkedMedium, RowMediumAndLink};
+ghost use Rattle.sheet_examples.specs.Adding.{Texts, FirstTile, NoSuchPlace, TileSizes, UsedForGood, LinkedMedium};
+ghost use Rattle.sheet_examples.specs.Adding.{RowMediumAndLink};
 
 /// A UUID as text, the bytes that are hashed of an item of each kind, and a digest.
 pub fn texts()

@@ -1,5 +1,6 @@
 //! What the reading calls answer, and what the ledger says of each package.
-ghost use Rattle.sheet_examples.specs.Answering.{NewWorld, ListOfPackages, SumsOfPackages, HoldingsOfPackages, KeptReceipts, WholeLedger, Custody, Account, OpenLoans};
+ghost use Rattle.sheet_examples.specs.Answering.{NewWorld, ListOfPackages, SumsOfPackages, HoldingsOfPackages};
+ghost use Rattle.sheet_examples.specs.Answering.{KeptReceipts, WholeLedger, Custody, Account, OpenLoans};
 
 /// A new world is one empty archive.
 pub fn new_world()

@@ -1,5 +1,6 @@
 //! What a frame's rules say.
-ghost use Rattle.sheet_examples.specs.Frames.{FrameFaults, FinestPixel, FrameLimits, FirstFault, GroundOfATile, Places, PointsOnEdges, TilesInside, GoodRectangles};
+ghost use Rattle.sheet_examples.specs.Frames.{FrameFaults, FinestPixel, FrameLimits, FirstFault, GroundOfATile};
+ghost use Rattle.sheet_examples.specs.Frames.{Places, PointsOnEdges, TilesInside, GoodRectangles};
 
 /// One frame for each fault, and the frames beside it that are good.
 pub fn frame_faults()

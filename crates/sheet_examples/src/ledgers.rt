@@ -1,5 +1,7 @@
 //! Which ledgers are sound, for which worlds they account, and which items are altered.
-ghost use Rattle.sheet_examples.specs.Ledgers.{SoundLedger, LedgerOfRequests, WrongNumbers, WrongLines, WrongThings, WrongMoves, AddedTwice, WrongHoldings, WrongSums, NothingHeld, NoRegister, ShortNames, TakenKey, AlteredItems, AlteredThenDeleted};
+ghost use Rattle.sheet_examples.specs.Ledgers.{SoundLedger, LedgerOfRequests, WrongNumbers, WrongLines, WrongThings};
+ghost use Rattle.sheet_examples.specs.Ledgers.{WrongMoves, AddedTwice, WrongHoldings, WrongSums, NothingHeld};
+ghost use Rattle.sheet_examples.specs.Ledgers.{NoRegister, ShortNames, TakenKey, AlteredItems, AlteredThenDeleted};
 
 /// A tile is added, lent and brought back.
 pub fn sound_ledger()

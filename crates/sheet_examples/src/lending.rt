@@ -1,5 +1,6 @@
 //! What a split takes, and what it leaves.
-ghost use Rattle.sheet_examples.specs.Lending.{CutOverZooms, NothingInside, SharedMedium, FollowTwoRounds, RowRelatedToATile, StrictTakesMedia, PlaceOfALoan};
+ghost use Rattle.sheet_examples.specs.Lending.{CutOverZooms, NothingInside, SharedMedium, FollowTwoRounds};
+ghost use Rattle.sheet_examples.specs.Lending.{RowRelatedToATile, StrictTakesMedia, PlaceOfALoan};
 
 /// Tiles of three zooms, of which a quarter of the sheet takes those inside.
 pub fn cut_over_zooms()

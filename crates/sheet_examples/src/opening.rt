@@ -1,5 +1,8 @@
 //! Which stores are live, and which fault opening answers.
-ghost use Rattle.sheet_examples.specs.Opening.{Orphan, Lent, Returned, FoundDownwards, AnswersNoArchive, AnswersTwoArchives, AnswersNotAPackage, StraysAreLeft, AnswersTwoCopies, AnswersMissingPackage, AnswersForeignFrame, AnswersDangling, AnswersOutOfAccount, AnswersAltered, NewStoreStands};
+ghost use Rattle.sheet_examples.specs.Opening.{Orphan, Lent, Returned, FoundDownwards, AnswersNoArchive};
+ghost use Rattle.sheet_examples.specs.Opening.{AnswersTwoArchives, AnswersNotAPackage, StraysAreLeft};
+ghost use Rattle.sheet_examples.specs.Opening.{AnswersTwoCopies, AnswersMissingPackage, AnswersForeignFrame};
+ghost use Rattle.sheet_examples.specs.Opening.{AnswersDangling, AnswersOutOfAccount, AnswersAltered, NewStoreStands};
 
 /// A split that stopped before the parent's commit leaves an orphan.
 pub fn orphan()

@@ -1,5 +1,8 @@
 //! The reasons of refusal, each with what it refuses and what it lets pass.
-ghost use Rattle.sheet_examples.specs.Refusing.{ReusedIdentity, NotLive, UsedName, Moments, BadTexts, Sizes, UsedIdentity, UnknownItems, WrongKinds, BadPlaces, TakenPlaces, LinksThere, UnknownLinks, LinkedItems, NotLent, TornLinks, ForeignAndStale, OpenLoans, Collisions};
+ghost use Rattle.sheet_examples.specs.Refusing.{ReusedIdentity, NotLive, UsedName, Moments, BadTexts, Sizes};
+ghost use Rattle.sheet_examples.specs.Refusing.{UsedIdentity, UnknownItems, WrongKinds, BadPlaces, TakenPlaces};
+ghost use Rattle.sheet_examples.specs.Refusing.{LinksThere, UnknownLinks, LinkedItems, NotLent, TornLinks};
+ghost use Rattle.sheet_examples.specs.Refusing.{ForeignAndStale, OpenLoans, Collisions};
 
 /// A kept request's identity comes with another line.
 pub fn reused_identity()

@@ -1,5 +1,8 @@
 //! What comes back by a merge, what may come twice, and what is gone.
-ghost use Rattle.sheet_examples.specs.Returning.{ThereAndBack, ColumnThereAndBack, CrossedLinks, ContentsAndLinks, CollisionOnReturn, ColumnCollision, SplitThatComesTwice, KeptAfterMerge, RefusedReturns, EmptiedLoanWithALoan, LentDown, BroughtUp, InPlace};
+ghost use Rattle.sheet_examples.specs.Returning.{ThereAndBack, ColumnThereAndBack, CrossedLinks, ContentsAndLinks};
+ghost use Rattle.sheet_examples.specs.Returning.{CollisionOnReturn, ColumnCollision, SplitThatComesTwice};
+ghost use Rattle.sheet_examples.specs.Returning.{KeptAfterMerge, RefusedReturns, EmptiedLoanWithALoan, LentDown};
+ghost use Rattle.sheet_examples.specs.Returning.{BroughtUp, InPlace};
 
 /// Two tiles are lent and brought back, their bytes as before.
 pub fn there_and_back()

@@ -1,5 +1,6 @@
 //! A step of the register, and a run of steps.
-ghost use Rattle.sheet_examples.specs.Steps.{RefusedChangesNothing, KeptChangesNothing, FaultAnywhere, SmallRun, OneReplyEach};
+ghost use Rattle.sheet_examples.specs.Steps.{RefusedChangesNothing, KeptChangesNothing, FaultAnywhere, SmallRun};
+ghost use Rattle.sheet_examples.specs.Steps.{OneReplyEach};
 
 /// Whatever is refused, the world stays.
 pub fn refused_changes_nothing()

@@ -1,5 +1,6 @@
 //! A story of nine requests, each with its receipt and the whole world after it.
-ghost use Rattle.sheet_examples.specs.Story.{AddsARow, AddsATile, AddsAMedium, LinksThem, LendsThem, AddsToTheLoan, BringsThemBack, UnlinksThem, DeletesOne};
+ghost use Rattle.sheet_examples.specs.Story.{AddsARow, AddsATile, AddsAMedium, LinksThem, LendsThem, AddsToTheLoan};
+ghost use Rattle.sheet_examples.specs.Story.{BringsThemBack, UnlinksThem, DeletesOne};
 
 /// A row of four bytes is added to the new archive.
 pub fn adds_a_row()

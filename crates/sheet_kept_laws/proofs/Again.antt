@@ -25,29 +25,45 @@ answers w q answer is reply next step =
     ]
 
 pub once_for_good : OnceForGood
-once_for_good w q r qs replies next types register run is same = answers next q (Ok r) (repeat_changes_nothing next q r (run_keeps_kept w qs replies next q.id r types register run is) same)
+once_for_good w q r qs replies next types register run is same =
+    answers next q (Ok r) (repeat_changes_nothing next q r (run_keeps_kept w qs replies next q.id r types register run
+    is) same)
 
 pub accepted_for_good : AcceptedForGood
 accepted_for_good w q r mid has_types register step qs replies next types run =
     let it : (kept mid q.id ≡ Some r) × (r.line ≡ line q.command) = accepted_is_kept w q r mid step in
-    once_for_good mid q r qs replies next types (step_keeps_register w q (Ok r) mid has_types register step) run it.0 it.1
+    once_for_good mid q r qs replies next types (step_keeps_register w q (Ok r) mid has_types register step) run it.0
+    it.1
 
 -- a request whose identity is kept for another line
-refused : (w : World) (q : Request) (r : Receipt) → kept w q.id ≡ Some r → bytes_eq r.line (line q.command) ≡ false → outcome w q ≡ (Err IdReused, w)
+refused : (w : World) (q : Request) (r : Receipt) → kept w q.id ≡ Some r → bytes_eq r.line (line q.command) ≡ false
+    → outcome w q ≡ (Err IdReused, w)
 refused w q r is other =
-    let no_reply : kept_reply w q ≡ None = ap (option_and_then (λ s. then_some (bytes_eq s.line (line q.command)) s)) is ∙ ap (λ b. then_some b r) other in
-    let reused : id_reused w q ≡ true = ap (λ k. option_map_or (λ s. not (bytes_eq s.line (line q.command))) k false) is ∙ ap not other in
+    let no_reply : kept_reply w q ≡ None = ap (option_and_then (λ s. then_some (bytes_eq s.line (line q.command)) s))
+    is ∙ ap (λ b. then_some b r) other in
+    let reused : id_reused w q ≡ true = ap (λ k. option_map_or (λ s. not (bytes_eq s.line (line q.command))) k false)
+    is ∙ ap not other in
     let why : refuses w q ≡ Some IdReused = rw reused refl in
     ap (λ k. outcome_by w q k (refuses w q)) no_reply ∙ ap (outcome_by w q None) why
 
 pub other_line_is_refused : OtherLineIsRefused
-other_line_is_refused w q r qs replies next types register run is other = answers next q (Err IdReused) (refused next q r (run_keeps_kept w qs replies next q.id r types register run is) other)
+other_line_is_refused w q r qs replies next types register run is other =
+    answers next q (Err IdReused) (refused next q r (run_keeps_kept w qs replies next q.id r types register run is)
+    other)
 
 pub acts_once : ActsOnce
-acts_once w mid before q r given between replies last again next types_before types types_between register came step run repeat =
+acts_once w mid before q r given between replies last again next types_before types types_between register came step
+    run repeat =
     let there : IsRegister mid = run_keeps_register w before came.0 mid types_before register came.1 in
     let answer : ((again ≡ Ok r) ⊎ IsFault again) × (next ≡ last) =
     accepted_for_good mid q r given types there step between replies last types_between run again next repeat in
     let whole : Run w (before ++ q ∷ between) (came.0 ++ Ok r ∷ replies) last =
-    (run_of_both w before (q ∷ between) (came.0 ++ Ok r ∷ replies) last).1 (mid, came.0, Ok r ∷ replies, refl, came.1, (given, step, run)) in
-    (answer.0, (came.0 ++ Ok r ∷ replies, subst (λ v. Run w (before ++ q ∷ between) (came.0 ++ Ok r ∷ replies) v) (sym answer.1) whole))
+    (run_of_both w before (q ∷ between) (came.0 ++ Ok r ∷ replies) last).1
+    (mid, came.0, Ok r ∷ replies, refl, came.1, (given, step, run)) in (
+      answer.0,
+      (
+        came.0 ++ Ok r ∷ replies,
+        subst (λ v. Run w (before ++ q ∷ between) (came.0 ++ Ok r ∷ replies) v)
+            (sym answer.1) whole,
+      ),
+    )

@@ -9,7 +9,8 @@ use Rattle.sheet_types.specs.declared.refusal.Refusal.{Refusal}
 use Rattle.sheet_kept_laws.specs.Laws.{RefusedAsUnasked}
 
 -- by what is kept, and by what refuses
-outcome_stays : (w : World) (q : Request) (why : Refusal) (k : Option Receipt) (refused : Option Refusal) → (outcome_by w q k refused).0 ≡ Err why → (outcome_by w q k refused).1 ≡ w
+outcome_stays : (w : World) (q : Request) (why : Refusal) (k : Option Receipt) (refused : Option Refusal)
+    → (outcome_by w q k refused).0 ≡ Err why → (outcome_by w q k refused).1 ≡ w
 outcome_stays w q why (Some r) refused is = refl
 outcome_stays w q why None (Some other) is = refl
 outcome_stays w q why None None is = absurd (let e = is in cc)

@@ -1,5 +1,6 @@
 -- Laws of the receipts that are kept, over every world and every list of requests. Profile.
-use Rattle.std.specs.Prelude.{◌≡◌, ◌⊎◌, false, ℕ, pos, List, [], ◌∷◌, ◌++◌, Some, None, Result, Ok, Err, bytes_eq, codes}
+use Rattle.std.specs.Prelude.{◌≡◌, ◌⊎◌, false, ℕ, pos, List, [], ◌∷◌, ◌++◌, Some, None, Result, Ok, Err, bytes_eq}
+use Rattle.std.specs.Prelude.{codes}
 use Rattle.std.specs.List.{AllByRecursion}
 use Rattle.sheet_types.specs.Custody.{kept}
 use Rattle.sheet_types.specs.Lines.{HasTypes}
@@ -82,7 +83,8 @@ OtherLineIsRefused = (w : World) (q : Request) (r : Receipt) (qs : List Request)
 abbrev pub ComesTo : World → List Request → World → Type 0
 ComesTo w qs next = (replies : List Reply) × Run w qs replies next
 
--- A request that got a receipt among others, and comes again behind them, gets it again and acted once: the world is that
+-- A request that got a receipt among others, and comes again behind them, gets it again and acted once: the world is
+-- that
 -- of a list in which it stands once.
 abbrev pub ActsOnce : Type 0
 ActsOnce = (w mid : World) (before : List Request) (q : Request) (r : Receipt) (given : World)
@@ -102,7 +104,8 @@ BeginsWith answer (reply ∷ replies) = (reply ≡ answer) ⊎ IsFault reply
 abbrev pub IsBeforeOrAfter : World → Request → World → Type 0
 IsBeforeOrAfter w q left = (left ≡ w) ⊎ (left ≡ (outcome w q).1)
 
--- A request that was stopped, and comes again with others behind it, gets the reply that it would have got, and acts once:
+-- A request that was stopped, and comes again with others behind it, gets the reply that it would have got, and acts
+-- once:
 -- the world is that of a list in which it stands once.
 abbrev pub StoppedActsOnce : Type 0
 StoppedActsOnce = (w mid : World) (before : List Request) (q : Request) (left : World) (others : List Request)

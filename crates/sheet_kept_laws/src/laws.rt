@@ -1,5 +1,7 @@
 //! Laws of the receipts that are kept, each the contract of a function that does nothing.
-ghost use Rattle.sheet_kept_laws.specs.Laws.{StepExtendsLedger, RunExtendsLedger, StepKeepsKept, RunKeepsKept, AcceptedIsKept, OnceForGood, AcceptedForGood, OtherLineIsRefused, ActsOnce, StoppedActsOnce, RefusedAsUnasked, DoubledLosesReceipt};
+ghost use Rattle.sheet_kept_laws.specs.Laws.{StepExtendsLedger, RunExtendsLedger, StepKeepsKept, RunKeepsKept};
+ghost use Rattle.sheet_kept_laws.specs.Laws.{AcceptedIsKept, OnceForGood, AcceptedForGood, OtherLineIsRefused};
+ghost use Rattle.sheet_kept_laws.specs.Laws.{ActsOnce, StoppedActsOnce, RefusedAsUnasked, DoubledLosesReceipt};
 
 /// A request adds at most its own receipt, behind all others.
 pub fn step_extends_ledger()

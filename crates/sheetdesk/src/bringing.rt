@@ -1,4 +1,5 @@
-//! `changes` and `bring`: the list of what an edited file holds is read from standard input. What the words leave out is of the clock.
+//! `changes` and `bring`: the list of what an edited file holds is read from standard input. What
+//! the words leave out is of the clock.
 use crate::naming::package_given;
 use crate::ordering::moment_given;
 use crate::running::{print_error, text_of};

@@ -47,7 +47,8 @@ fn words_given(rt: &HostRuntime) -> io::Result<Vec<String>> {
     Ok(std::env::args(rt)?.collect(rt.alloc())?)
 }
 
-/// The status where the words themselves could not be had: for want of memory, or since one is no UTF-8 and so is no word of any command.
+/// The status where the words themselves could not be had: for want of memory, or since one is no
+/// UTF-8 and so is no word of any command.
 fn unread(rt: &HostRuntime, error: &io::Error) -> u8 {
     if error.kind() == io::ErrorKind::OutOfMemory {
         return out_of_memory(rt);

@@ -1,4 +1,5 @@
-//! What standard error is told of a list beside the lines of an ending: where its fault is, and which of its requests were refused.
+//! What standard error is told of a list beside the lines of an ending: where its fault is, and
+//! which of its requests were refused.
 use crate::running::text_of;
 use clap::ArgMatches;
 use command_folder::endings::Ending;

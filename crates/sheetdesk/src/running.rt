@@ -1,4 +1,5 @@
-//! A command, carried out: what it asks for is done in `cli`, `commands` and `views`, or by a desk that serves the folder.
+//! A command, carried out: what it asks for is done in `cli`, `commands` and `views`, or by a desk
+//! that serves the folder.
 use crate::asking::ask_desk;
 use crate::boxes::lend_box;
 use crate::bringing::{brought, is_bringing};
@@ -71,7 +72,8 @@ pub(crate) fn output_failed(rt: &HostRuntime) -> u8 {
     status_of(FAILED)
 }
 
-/// Prints the two lines of an ending and what is known beside them, and answers its status. Where standard output fails, that is the ending.
+/// Prints the two lines of an ending and what is known beside them, and answers its status. Where
+/// standard output fails, that is the ending.
 fn told(
     rt: &HostRuntime,
     output: &str,
@@ -230,7 +232,8 @@ fn key_for(rt: &HostRuntime, name: &str) -> Result<String, Ending> {
     }
 }
 
-/// Carries out a command that may change what is in a folder that holds packages, or has no folder. How far a list is, which of its records were refused, and of a desk, standard error is told.
+/// Carries out a command that may change what is in a folder that holds packages, or has no folder.
+/// How far a list is, which of its records were refused, and of a desk, standard error is told.
 fn changed(rt: &HostRuntime, name: &str, given: &ArgMatches<'_>, reader: &mut Input<'_>) -> Ending {
     let key = match key_for(rt, name) {
         Ok(key) => key,
@@ -347,7 +350,8 @@ fn carried_out_of<'m>(
     }
 }
 
-/// Carries out the command of a command line whose words name these. It is matched once more, so that all its words live as
+/// Carries out the command of a command line whose words name these. It is matched once more, so
+/// that all its words live as
 /// long as these do.
 fn carried_out_named<'m, W: AsStr>(
     rt: &HostRuntime,

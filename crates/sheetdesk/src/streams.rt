@@ -1,4 +1,5 @@
-//! What a command reads and writes, and who is told how far it is: one type each, so that what is done is compiled once.
+//! What a command reads and writes, and who is told how far it is: one type each, so that what is
+//! done is compiled once.
 ghost use Rattle.std.specs.Prelude.{None};
 
 use crate::clock::moment_now;

@@ -10,12 +10,14 @@ use Rattle.store_folder.specs.Names.{file_name, ArePackagesIn}
 use Rattle.store_folder.proofs.NameFacts.{some_so}
 
 -- the first that is there, or the other
-pub either_so : {X : Type 0} (P : X → Type 0) (a b r : Option X) → r ≡ option_or a b → IfSome a P → IfSome b P → IfSome r P
+pub either_so : {X : Type 0} (P : X → Type 0) (a b r : Option X) → r ≡ option_or a b → IfSome a P → IfSome b P
+    → IfSome r P
 either_so P (Some x) b r is first second = subst (λ o. IfSome o P) (sym is) first
 either_so P None b r is first second = subst (λ o. IfSome o P) (sym is) second
 
 -- a text more that is so, or none
-pub push_so : {Z : Type 0} (P : List ℕ → Type 0) (name : List ℕ) (old new : List (String Z)) → MayPush name old new → P name
+pub push_so : {Z : Type 0} (P : List ℕ → Type 0) (name : List ℕ) (old new : List (String Z)) → MayPush name old new
+    → P name
     → All (λ text. P (string_bytes text)) old → All (λ text. P (string_bytes text)) new
 push_so P name old new (inl same) here all = All-same (λ text. P (string_bytes text)) _ _ same all
 push_so {Z} P name old new (inr (text, is, named)) here all =
@@ -23,7 +25,8 @@ push_so {Z} P name old new (inr (text, is, named)) here all =
     (All-push (λ (t : String Z). P (string_bytes t)) old text all (subst P (sym named) here))
 
 -- the packages are those of the names
-pub left_in : (names packages : List (List ℕ)) (name : List ℕ) → ArePackagesIn names packages → IsLeftover packages name → IsLeftoverIn names name
+pub left_in : (names packages : List (List ℕ)) (name : List ℕ) → ArePackagesIn names packages
+    → IsLeftover packages name → IsLeftoverIn names name
 left_in names packages name are left = record {
   uuid = left.uuid;
   beside = left.beside;

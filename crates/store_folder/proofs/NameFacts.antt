@@ -1,9 +1,11 @@
 -- Names and the packages whose files they are.
-use Rattle.std.proofs.Common.{◌≡◌, ◌≢◌, inl, inr, refl, sym, ap, subst, ◌∙◌, ℕ, ◌+◌, ◌<◌, Bool, ◌||◌, List, [], ◌∷◌, ◌++◌, length, map, take, get_or, Option, Some, None, IfSome}
+use Rattle.std.proofs.Common.{◌≡◌, ◌≢◌, inl, inr, refl, sym, ap, subst, ◌∙◌, ℕ, ◌+◌, ◌<◌, Bool, ◌||◌, List, [], ◌∷◌}
+use Rattle.std.proofs.Common.{◌++◌, length, map, take, get_or, Option, Some, None, IfSome}
 use Rattle.std.specs.Prelude.{Contains}
 use Rattle.std.specs.List.{list_any}
 use Rattle.std.specs.List.Sorted.{IsPermutation}
-use Rattle.std.proofs.lemmas.List.Elements.{All-push, All-weaker, Contains-append_left, Contains-push, Contains-push_cases}
+use Rattle.std.proofs.lemmas.List.Elements.{All-push, All-weaker, Contains-append_left, Contains-push}
+use Rattle.std.proofs.lemmas.List.Elements.{Contains-push_cases}
 use Rattle.std.proofs.lemmas.List.{map-append, take_more}
 use Rattle.std.proofs.lemmas.List.Sorted.{All-permutation, Contains-permutation}
 use Rattle.uuid.specs.Text.{parsed}
@@ -13,7 +15,8 @@ use Rattle.sheet_types.proofs.UuidTexts.{parsed_36, reads_own}
 use Rattle.store_folder.specs.Names.{file_name, HaveFiles}
 
 -- a text of 36 bytes that was read is the text of what was read alone
-pub reads_one : (text id other : List ℕ) → length text ≡ 36 → Some id ≡ parsed text → IsUuid other → text ≡ uuid_text other → id ≡ other
+pub reads_one : (text id other : List ℕ) → length text ≡ 36 → Some id ≡ parsed text → IsUuid other
+    → text ≡ uuid_text other → id ≡ other
 reads_one text id other long read fit is =
     let same : Some id ≡ Some other = read ∙ parsed_36 text long ∙ reads_own other text fit is in
     cc
@@ -22,22 +25,29 @@ pub some_so : {X : Type 0} (P Q : X → Type 0) → ((x : X) → P x → Q x) �
 some_so P Q follows (Some x) p = follows x p
 some_so P Q follows None p = tt
 
-pub list_any-map : {X Y : Type 0} (test : Y → Bool) (f : X → Y) (xs : List X) → list_any test (map f xs) ≡ list_any (λ x. test (f x)) xs
+pub list_any-map : {X Y : Type 0} (test : Y → Bool) (f : X → Y) (xs : List X)
+    → list_any test (map f xs) ≡ list_any (λ x. test (f x)) xs
 list_any-map test f [] = refl
 list_any-map test f (x ∷ xs) = ap (λ rest. test (f x) || rest) (list_any-map test f xs)
 
 -- one name more, which is no package's
-pub none_more : (names packages : List (List ℕ)) (name : List ℕ) → ((id : List ℕ) → IsUuid id → name ≢ file_name id) → HaveFiles names packages → HaveFiles (names ++ name ∷ []) packages
+pub none_more : (names packages : List (List ℕ)) (name : List ℕ) → ((id : List ℕ) → IsUuid id → name ≢ file_name id)
+    → HaveFiles names packages → HaveFiles (names ++ name ∷ []) packages
 none_more names packages name none it = record {
-  there = All-weaker (λ id. Contains names (file_name id)) (λ id. Contains (names ++ name ∷ []) (file_name id)) (λ id. Contains-append_left names (name ∷ []) (file_name id)) packages it.there;
-  all = λ id fit there. elim (Contains-push_cases names name (file_name id) there) [ inl before ↦ it.all id fit before | inr is ↦ absurd (none id fit is) ];
+  there = All-weaker (λ id. Contains names (file_name id)) (λ id. Contains (names ++ name ∷ []) (file_name id))
+      (λ id. Contains-append_left names (name ∷ []) (file_name id)) packages it.there;
+  all = λ id fit there. elim (Contains-push_cases names name (file_name id) there)
+      [ inl before ↦ it.all id fit before | inr is ↦ absurd (none id fit is) ];
 }
 
 -- one more, which is the file of this package
-pub some_more : (names packages : List (List ℕ)) (name id : List ℕ) → name ≡ file_name id → ((other : List ℕ) → IsUuid other → name ≡ file_name other → id ≡ other) → HaveFiles names packages → HaveFiles (names ++ name ∷ []) (packages ++ id ∷ [])
+pub some_more : (names packages : List (List ℕ)) (name id : List ℕ) → name ≡ file_name id
+    → ((other : List ℕ) → IsUuid other → name ≡ file_name other → id ≡ other) → HaveFiles names packages
+    → HaveFiles (names ++ name ∷ []) (packages ++ id ∷ [])
 some_more names packages name id is only it = record {
   there = All-push (λ uuid. Contains (names ++ name ∷ []) (file_name uuid)) packages id
-      (All-weaker (λ uuid. Contains names (file_name uuid)) (λ uuid. Contains (names ++ name ∷ []) (file_name uuid)) (λ uuid. Contains-append_left names (name ∷ []) (file_name uuid)) packages it.there)
+      (All-weaker (λ uuid. Contains names (file_name uuid)) (λ uuid. Contains (names ++ name ∷ []) (file_name uuid))
+      (λ uuid. Contains-append_left names (name ∷ []) (file_name uuid)) packages it.there)
       (subst (Contains (names ++ name ∷ [])) is (Contains-push names name));
   all = λ other fit there. elim (Contains-push_cases names name (file_name other) there) [
     | inl before ↦ Contains-append_left packages (id ∷ []) other (it.all other fit before)
@@ -53,17 +63,25 @@ files_permuted names old new moved it = record {
 }
 
 -- the first of a list, and one more
-pub shown_more : {X Y : Type 0} (f : X → Y) (xs : List X) (i : ℕ) (d : X) → i < length xs → map f (take (i + 1) xs) ≡ map f (take i xs) ++ f (get_or xs i d) ∷ []
+pub shown_more : {X Y : Type 0} (f : X → Y) (xs : List X) (i : ℕ) (d : X) → i < length xs
+    → map f (take (i + 1) xs) ≡ map f (take i xs) ++ f (get_or xs i d) ∷ []
 shown_more f xs i d within = ap (map f) (take_more xs i d within) ∙ map-append f (take i xs) (get_or xs i d ∷ [])
 
 -- a loop over names, whose next is the file of this package
-pub loop_some : {X : Type 0} (f : X → List ℕ) (names : List X) (i : ℕ) (d : X) (packages next : List (List ℕ)) (id : List ℕ) → i < length names → next ≡ packages ++ id ∷ [] → f (get_or names i d) ≡ file_name id → ((other : List ℕ) → IsUuid other → f (get_or names i d) ≡ file_name other → id ≡ other) → HaveFiles (map f (take i names)) packages → HaveFiles (map f (take (i + 1) names)) next
+pub loop_some : {X : Type 0} (f : X → List ℕ) (names : List X) (i : ℕ) (d : X) (packages next : List (List ℕ))
+    (id : List ℕ) → i < length names → next ≡ packages ++ id ∷ [] → f (get_or names i d) ≡ file_name id
+    → ((other : List ℕ) → IsUuid other → f (get_or names i d) ≡ file_name other → id ≡ other)
+    → HaveFiles (map f (take i names)) packages → HaveFiles (map f (take (i + 1) names)) next
 loop_some f names i d packages next id within is file only it =
     subst (λ shown. HaveFiles shown next) (sym (shown_more f names i d within))
-    (subst (HaveFiles (map f (take i names) ++ f (get_or names i d) ∷ [])) (sym is) (some_more (map f (take i names)) packages (f (get_or names i d)) id file only it))
+    (subst (HaveFiles (map f (take i names) ++ f (get_or names i d) ∷ [])) (sym is)
+    (some_more (map f (take i names)) packages (f (get_or names i d)) id file only it))
 
 -- and one whose next is no package's
-pub loop_none : {X : Type 0} (f : X → List ℕ) (names : List X) (i : ℕ) (d : X) (packages next : List (List ℕ)) → i < length names → next ≡ packages → ((id : List ℕ) → IsUuid id → f (get_or names i d) ≢ file_name id) → HaveFiles (map f (take i names)) packages → HaveFiles (map f (take (i + 1) names)) next
+pub loop_none : {X : Type 0} (f : X → List ℕ) (names : List X) (i : ℕ) (d : X) (packages next : List (List ℕ))
+    → i < length names → next ≡ packages → ((id : List ℕ) → IsUuid id → f (get_or names i d) ≢ file_name id)
+    → HaveFiles (map f (take i names)) packages → HaveFiles (map f (take (i + 1) names)) next
 loop_none f names i d packages next within is none it =
     subst (λ shown. HaveFiles shown next) (sym (shown_more f names i d within))
-    (subst (HaveFiles (map f (take i names) ++ f (get_or names i d) ∷ [])) (sym is) (none_more (map f (take i names)) packages (f (get_or names i d)) none it))
+    (subst (HaveFiles (map f (take i names) ++ f (get_or names i d) ∷ [])) (sym is)
+    (none_more (map f (take i names)) packages (f (get_or names i d)) none it))

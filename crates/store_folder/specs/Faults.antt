@@ -7,7 +7,9 @@ use Rattle.store_faults.specs.declared.shelf.ShelfFault.{ShelfFault}
 use Rattle.store_faults.specs.declared.shelf.ShelfFault.TheVariants as shelf
 use Rattle.sheet_types.specs.Texts.{uuid_text}
 use Rattle.store_folder.specs.declared.fault.FolderFault.{FolderFault}
-use Rattle.store_folder.specs.declared.fault.FolderFault.TheVariants.{OutOfMemory, FolderHeld, PackageHeld, Link, SecondName, NameUnsettled, PackageFailed, FolderUnread, StoreFault}
+use Rattle.store_folder.specs.declared.fault.FolderFault.TheVariants.{OutOfMemory, FolderHeld, PackageHeld, Link}
+use Rattle.store_folder.specs.declared.fault.FolderFault.TheVariants.{SecondName, NameUnsettled, PackageFailed}
+use Rattle.store_folder.specs.declared.fault.FolderFault.TheVariants.{FolderUnread, StoreFault}
 
 -- what standard error is told of a fault, beside its name: nothing where no more is known
 abbrev pub cause_text : FolderFault → List ℕ

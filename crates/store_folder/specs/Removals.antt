@@ -7,7 +7,8 @@ abbrev pub IsFrom : List ℕ → List ℕ → Type 0
 IsFrom file name = IsTrue (starts_with nat_eq name file) × (length file < length name)
 
 module _ {S : Type 0} (Removes : List ℕ → S → S → Type 0) where
-  -- the files of these names were taken out, the last one first in the list, and nothing else was done between the two states
+  -- the files of these names were taken out, the last one first in the list, and nothing else was done between the
+  -- two states
   abbrev pub RemovesEach : List (List ℕ) → S → S → Type 0
   RemovesEach [] old new = new ≡ old
   RemovesEach (name ∷ names) old new = (mid : S) × RemovesEach names old mid × Removes name mid new

@@ -25,7 +25,8 @@ fn close_each<T: Close>(stores: Vec<T>) -> Result<(), Error> {
     closed
 }
 
-/// Copies each log into its database, and closes both. Where a log cannot be copied the others are, and the first error is answered.
+/// Copies each log into its database, and closes both. Where a log cannot be copied the others are,
+/// and the first error is answered.
 pub(crate) fn close_all<D: Disk + Drop>(conns: Vec<Connection<FileStore<D>>>) -> Result<(), Error> {
     close_each(conns)
 }

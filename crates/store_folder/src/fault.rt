@@ -27,7 +27,8 @@ pub enum FolderFault {
     /// The file of this package, or its log, has a second name.
     #[error("StoreFault")]
     SecondName(Uuid),
-    /// The file of this package has its name, and the system did not write that down: a power loss may take the name again.
+    /// The file of this package has its name, and the system did not write that down: a power loss
+    /// may take the name again.
     #[error("StoreFault")]
     NameUnsettled(Uuid),
     /// The file of this package could not be opened or read, or is no database.
@@ -41,7 +42,8 @@ pub enum FolderFault {
     StoreFault,
 }
 
-/// What a person can be told of a fault beside its name, without the end of a line. It is empty where nothing more is known.
+/// What a person can be told of a fault beside its name, without the end of a line. It is empty
+/// where nothing more is known.
 pub fn cause_text(alloc: Global, fault: FolderFault) -> Result<String, AllocError>
     ensures { IfOk result (λ text. string_bytes text ≡ cause_text fault) }
 {

@@ -1,4 +1,5 @@
-//! The store of a new archive: it is made under another name, and gets its own when it is whole. So what stops before leaves no package.
+//! The store of a new archive: it is made under another name, and gets its own when it is whole. So
+//! what stops before leaves no package.
 ghost use Rattle.std.specs.Prelude.{◌≡◌, IfErr, IfOk, string_bytes};
 ghost use Rattle.sqlite.specs.Files.{file_state};
 ghost use Rattle.sqlite.specs.State.{HasCleanDisk};
@@ -18,14 +19,16 @@ use std::fs::{self, File};
 use std::io;
 use uuid::Uuid;
 
-/// The name of the file of a package that is not whole yet: that of its file and `-new`. It ends as no package's file does.
+/// The name of the file of a package that is not whole yet: that of its file and `-new`. It ends as
+/// no package's file does.
 pub fn unfinished_name(alloc: Global, package: Uuid) -> Result<String, AllocError>
     ensures { IfOk result (λ name. string_bytes name ≡ unfinished_name «package») }
 {
     format!(in alloc; "{package}.gpkg-new")
 }
 
-/// An empty store in a file that is no package's yet. What an earlier call or a package of this UUID left goes first: a log that stayed
+/// An empty store in a file that is no package's yet. What an earlier call or a package of this
+/// UUID left goes first: a log that stayed
 /// would be taken for that of the new file. The file of a package itself is left alone.
 ///
 /// # Errors
@@ -96,12 +99,14 @@ fn settle(rt: &HostRuntime, folder: &str, package: Uuid) -> Result<(), FolderFau
     }
 }
 
-/// Closes the store of a package, which is whole now, and gives its file the package's name: all at once, so that whoever looks finds the
+/// Closes the store of a package, which is whole now, and gives its file the package's name: all at
+/// once, so that whoever looks finds the
 /// package or none. What stands beside the file, an empty log, goes.
 ///
 /// # Errors
 ///
-/// A log that cannot be copied, a name that is taken, a file that cannot be renamed, or want of memory: there is no package then.
+/// A log that cannot be copied, a name that is taken, a file that cannot be renamed, or want of
+/// memory: there is no package then.
 /// `NameUnsettled` where it has its name, and the system did not write that down.
 pub fn finish(
     rt: &HostRuntime,

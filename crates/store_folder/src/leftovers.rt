@@ -1,4 +1,5 @@
-//! What stands in a folder beside no package: logs without their database, and what was left of archives that were never whole.
+//! What stands in a folder beside no package: logs without their database, and what was left of
+//! archives that were never whole.
 ghost use Rattle.std.specs.Prelude.{◌≡◌, ◌++◌, All, IfOk, IfSome, IsTrue, string_bytes};
 ghost use Rattle.store_folder.specs.Leftovers.{IsBeside, IsLeftover, IsLeftoverIn, MayPush};
 ghost use Rattle.store_folder.specs.Names.{file_name, names_in};
@@ -20,7 +21,8 @@ fn package_before(name: &[u8], end: &[u8]) -> Option<Uuid>
     }
 }
 
-/// The package beside whose file a file of this name stands: the log, the journal, and what is not whole yet, with its own.
+/// The package beside whose file a file of this name stands: the log, the journal, and what is not
+/// whole yet, with its own.
 pub fn package_beside(name: &[u8]) -> Option<Uuid>
     ensures { IfSome result (λ id. IsBeside id name.now) }
 {
@@ -69,7 +71,8 @@ fn leftovers_among(
     Ok(found)
 }
 
-/// The names of the files of a folder that stand beside no package, in their order; of the folder's bytes, in which each name is ended
+/// The names of the files of a folder that stand beside no package, in their order; of the folder's
+/// bytes, in which each name is ended
 /// by a NUL. A name that is no UTF-8 is none of them.
 ///
 /// # Errors
@@ -98,7 +101,8 @@ pub fn leftovers(rt: &HostRuntime, folder: &str) -> Result<Vec<String>, FolderFa
 /// The size of the page that the engine writes of a database in which nothing is.
 const PAGE: usize = 4096;
 
-/// Whether these bytes are none, or a database of one page that names no table: the page is a leaf without cells (SQLite's file format, sections
+/// Whether these bytes are none, or a database of one page that names no table: the page is a leaf
+/// without cells (SQLite's file format, sections
 /// 1.3 and 1.6).
 fn says_nothing(bytes: &[u8]) -> bool {
     bytes.is_empty()

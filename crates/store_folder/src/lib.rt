@@ -1,4 +1,5 @@
-//! Packages in a folder of the file system, a file each: their names, a shelf that makes their stores, and the opening of all of them.
+//! Packages in a folder of the file system, a file each: their names, a shelf that makes their
+//! stores, and the opening of all of them.
 #![tactic(auto)]
 
 mod closing;

@@ -19,7 +19,8 @@ pub struct Listing {
     pub holds_packages: bool,
 }
 
-/// Takes all names of an open folder. A read gives whole names alone, and fails where the next one has no room, so each is offered more than the longest name of a file wants.
+/// Takes all names of an open folder. A read gives whole names alone, and fails where the next one
+/// has no room, so each is offered more than the longest name of a file wants.
 fn take_names<D: Read>(dir: &mut D, bytes: &mut Vec<u8>) -> io::Result<()> {
     let mut piece = [0u8; 4096];
     for _ in 0..u64::MAX {

@@ -43,7 +43,8 @@ fn lock_file(rt: &HostRuntime, folder: &str) -> Result<File, FolderFault> {
 ///
 /// # Errors
 ///
-/// Another process that has the lock, or this one; a folder that is not there; a file that cannot be made or locked; or want of memory.
+/// Another process that has the lock, or this one; a folder that is not there; a file that cannot
+/// be made or locked; or want of memory.
 pub fn lock_folder(rt: &HostRuntime, folder: &str) -> Result<FolderLock, FolderFault> {
     let file = lock_file(rt, folder)?;
     match file.try_lock() {

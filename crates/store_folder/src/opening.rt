@@ -75,7 +75,8 @@ pub fn cache_pages(stores: usize) -> usize
 
 /// The database at a path and its log, opened as files.
 pub(crate) fn files_at(rt: &HostRuntime, path: &str) -> Result<Files<FileFrom<Empty>>, Error>
-    ensures { IfOk result (λ files. IsTrue (file_is_usable ⟦<Empty as Start>⟧ files.log) × IsTrue (file_is_usable ⟦<Empty as Start>⟧ files.db)) }
+    ensures { IfOk result (λ files. IsTrue (file_is_usable ⟦<Empty as Start>⟧ files.log)
+        × IsTrue (file_is_usable ⟦<Empty as Start>⟧ files.db)) }
 {
     match open_pair(rt, path, Empty) {
         Ok(files) => Ok(files),
@@ -111,7 +112,8 @@ fn connect(rt: &HostRuntime, path: &str, pages: usize) -> Result<Connection<Fold
 ///
 /// # Errors
 ///
-/// A file that another process has, or this one; a link, or a file with a second name; want of memory; a file that is no database or that fails.
+/// A file that another process has, or this one; a link, or a file with a second name; want of
+/// memory; a file that is no database or that fails.
 pub fn open_store(
     rt: &HostRuntime,
     folder: &str,
@@ -144,7 +146,8 @@ trait InFolder: Drop {
     /// What is known of it when it was just opened.
     ghost is_just_opened: { Self → Type 0 };
 
-    /// It is that of the package of this UUID. Who opens by this trait alone can show it by such a call, and by nothing else.
+    /// It is that of the package of this UUID. Who opens by this trait alone can show it by such a
+    /// call, and by nothing else.
     ghost is_of: { List ℕ → Self → Type 0 };
 
     /// Opens that of one package, with so many pages in memory.
@@ -196,7 +199,8 @@ fn open_each<T: InFolder>(
     Ok(stores)
 }
 
-/// The stores of these packages, in their order, each just opened. The more there are, the fewer pages of each are kept in memory.
+/// The stores of these packages, in their order, each just opened. The more there are, the fewer
+/// pages of each are kept in memory.
 ///
 /// # Errors
 ///
@@ -212,7 +216,8 @@ pub fn open_stores(
     open_each(rt, folder, packages)
 }
 
-/// Copies the logs of these stores into their databases, so that each is whole in its one file, and closes them. What a log holds that cannot be copied stays in it, and counts.
+/// Copies the logs of these stores into their databases, so that each is whole in its one file, and
+/// closes them. What a log holds that cannot be copied stays in it, and counts.
 pub fn close_stores(conns: Vec<Connection<FolderStore>>) {
     let _copied = close_all(conns);
 }

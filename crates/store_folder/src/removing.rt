@@ -11,7 +11,8 @@ use std::rt::Files;
 use std::{fs, io};
 use uuid::Uuid;
 
-/// Whether a file is one of those that the engine keeps beside the file of a package, or that file: the log, the journal.
+/// Whether a file is one of those that the engine keeps beside the file of a package, or that file:
+/// the log, the journal.
 pub fn is_beside(name: &[u8], file: &str) -> bool
     ensures { result ≡ starts_with nat_eq name.now file.now }
 {
@@ -34,7 +35,8 @@ pub fn remove<R: Files + AllocGlobal>(rt: &R, folder: &str, name: &str) -> Resul
 
 /// What takes files out of a folder.
 pub trait RemoveFile {
-    /// The file of this name was taken out of the folder between these two states, if it was there, and no other was. Who takes files out by
+    /// The file of this name was taken out of the folder between these two states, if it was there,
+    /// and no other was. Who takes files out by
     /// this trait alone can show it of a name by such a call, and by nothing else.
     ghost removes: { List ℕ → Self → Self → Type 0 };
 
@@ -102,11 +104,13 @@ pub fn remove_with_beside<F: RemoveFile>(
     remove_beside_each(files, names, file)
 }
 
-/// Removes the file of a package, and then each file whose name begins as that file's does: first the database, since a log without one means nothing.
+/// Removes the file of a package, and then each file whose name begins as that file's does: first
+/// the database, since a log without one means nothing.
 ///
 /// # Errors
 ///
-/// A folder that cannot be read, or a file that cannot be removed, as a folder of such a name or a name that is no UTF-8; or want of memory. What was removed before stays removed.
+/// A folder that cannot be read, or a file that cannot be removed, as a folder of such a name or a
+/// name that is no UTF-8; or want of memory. What was removed before stays removed.
 pub fn remove_store<R: Files + AllocGlobal>(
     rt: &R,
     folder: &str,

@@ -16,7 +16,8 @@ use store_faults::shelf::ShelfFault;
 use store_shelf::shelf::Shelf;
 use uuid::Uuid;
 
-/// Makes each store in the file of its package, in place of whatever stood there under its name, and takes away that of a package that comes back. The folder is there already.
+/// Makes each store in the file of its package, in place of whatever stood there under its name,
+/// and takes away that of a package that comes back. The folder is there already.
 #[derive(Drop)]
 pub struct FolderShelf<'f> {
     rt: &'f HostRuntime,
@@ -49,7 +50,8 @@ impl<'f> FolderShelf<'f> {
 impl<'f> Shelf<FolderStore> for FolderShelf<'f> {
     ghost failures_of = { λ shelf. shelf.failures };
 
-    // No clause can speak of the files of a folder. That a register asks for no package but the one that it promises is proved over all shelves.
+    // No clause can speak of the files of a folder. That a register asks for no package but the one
+    // that it promises is proved over all shelves.
     ghost asks = { λ uuid old new. ⊤ };
 
     ghost takes = { λ uuid store old new. ⊤ };
@@ -64,7 +66,8 @@ impl<'f> Shelf<FolderStore> for FolderShelf<'f> {
         }
     }
 
-    // The files are closed first, and no log is copied: they are to go. What stays is a stray of the folder. A file of the package's name that
+    // The files are closed first, and no log is copied: they are to go. What stays is a stray of
+    // the folder. A file of the package's name that
     // is still held is that of another store, under a name that is not its own: it stays.
     fn retire(&mut self, package: Uuid, store: FolderStore)
         ensures counts { self.new.failures ≡ self.old.failures }
@@ -90,7 +93,8 @@ fn counted(fault: ShelfFault, failures: &mut u64) -> ShelfFault
     fault
 }
 
-/// Sees that no store has the file of a package open. Whoever renames files may have a live package in it, which must not go.
+/// Sees that no store has the file of a package open. Whoever renames files may have a live package
+/// in it, which must not go.
 fn see_unheld(rt: &HostRuntime, folder: &str, package: Uuid) -> Result<(), FolderFault> {
     let name = file_name(rt.alloc(), package)?;
     let path = path_of(rt.alloc(), folder, name.as_str())?;
@@ -112,7 +116,8 @@ fn remove_unheld(rt: &HostRuntime, folder: &str, package: Uuid) -> Result<(), Fo
     remove_store(rt, folder, package)
 }
 
-/// An empty store in the file of a package, in place of whatever stood there. That it is empty is known under the premise of `Empty`, since its files were removed before.
+/// An empty store in the file of a package, in place of whatever stood there. That it is empty is
+/// known under the premise of `Empty`, since its files were removed before.
 ///
 /// # Errors
 ///

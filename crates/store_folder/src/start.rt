@@ -7,7 +7,9 @@ use sqlite_std_file::FileFrom;
 
 /// The files are empty, and a torn write leaves each of its bytes old or new.
 ///
-/// It is true of a store that a shelf makes, whose files are removed before. It is the premise of each clause on the values of a store of this type: of one that was found with something in it, they say nothing.
+/// It is true of a store that a shelf makes, whose files are removed before. It is the premise of
+/// each clause on the values of a store of this type: of one that was found with something in it,
+/// they say nothing.
 #[derive(Drop)]
 pub struct Empty;
 

@@ -1,4 +1,5 @@
-//! Request lists and their records, and the manifest that one of them makes, written out by hand; the digest is Python's `hashlib`.
+//! Request lists and their records, and the manifest that one of them makes, written out by hand;
+//! the digest is Python's `hashlib`.
 
 use std::alloc::{AllocError, Global};
 

@@ -158,7 +158,8 @@ fn check(
     Ok(())
 }
 
-// One that sends nothing, one whose body is left unread, one that asks for no path, and a page of another address. Then a request of the list comes
+// One that sends nothing, one whose body is left unread, one that asks for no path, and a page of
+// another address. Then a request of the list comes
 // again, a new one, and what they come to is read.
 const CLIENTS: [Client; 7] = [
     Client(Sent::Bytes(""), NOTHING),

@@ -1,4 +1,5 @@
-//! A tile that is added to an archive, lent, lent on and brought back; and worlds in which one part alone is broken. What packages hold, and
+//! A tile that is added to an archive, lent, lent on and brought back; and worlds in which one part
+//! alone is broken. What packages hold, and
 //! the last receipt of each.
 
 use crate::receipts::{ARCHIVE, package, package_byte, package_word, receipts, things};
@@ -20,7 +21,8 @@ use sheet_types::receipt::{Receipt, Sums};
 use std::alloc::Global;
 use uuid::Uuid;
 
-/// A package: its letter, that of its parent, the number of the split that made it and what it holds; and its receipts behind a colon.
+/// A package: its letter, that of its parent, the number of the split that made it and what it
+/// holds; and its receipts behind a colon.
 pub(crate) fn sight_of(alloc: Global, words: &str) -> Result<Sight, OutOfMemory> {
     let (seen, entries) = words.split_once(':').unwrap_or((words, "none"));
     let [own, parent, loan, held, _, _] = points(seen);
@@ -56,7 +58,8 @@ fn sights(alloc: Global, words: &str) -> Result<Vec<Sight>, OutOfMemory> {
     Ok(seen)
 }
 
-// Whether the ledger of a world is sound; whether custody, sums, loans, homes and merges are in order; and what the judge says.
+// Whether the ledger of a world is sound; whether custody, sums, loans, homes and merges are in
+// order; and what the judge says.
 fn tell_parts(
     alloc: Global,
     ledger: &[Receipt],

@@ -39,7 +39,8 @@ fn tell_read(
     Ok(())
 }
 
-// The members that every request has, but for its command; and the other members of the addition of a tile, but for its zoom and data.
+// The members that every request has, but for its command; and the other members of the addition of
+// a tile, but for its zoom and data.
 fn front_of(kind: &str) -> &'static str {
     match kind {
         "rest" => {
@@ -71,7 +72,8 @@ fn body(alloc: Global, kind: &str, rest: &str) -> Result<String, OutOfMemory> {
     unescaped(alloc, words.as_str())
 }
 
-/// A text as JSON: all of it, or what comes behind the members that every request has, or behind those of a tile too, where the size of its
+/// A text as JSON: all of it, or what comes behind the members that every request has, or behind
+/// those of a tile too, where the size of its
 /// data may be asked; and bytes that are none.
 pub(crate) fn body_of(alloc: Global, question: &str, told: &mut Told) -> Result<(), OutOfMemory> {
     let (kind, rest) = cut(question);

@@ -126,7 +126,8 @@ fn sent(alloc: Global, kind: &str, count: usize, words: &str) -> Result<String, 
     Ok(words.replace(alloc, '@', ADD)?)
 }
 
-/// What is sent, and how much of it: all, so many bytes, those by a reader that then fails, or with a part that comes as often.
+/// What is sent, and how much of it: all, so many bytes, those by a reader that then fails, or with
+/// a part that comes as often.
 pub(crate) fn call_of(alloc: Global, question: &str, told: &mut Told) -> Result<(), OutOfMemory> {
     let (kind, rest) = cut(question);
     let (count, words) = if kind == "all" {

@@ -1,4 +1,5 @@
-//! An archive that added a tile and lent a package, and that package, told by hand: found, missing, copied, brought back, in the wrong
+//! An archive that added a tile and lent a package, and that package, told by hand: found, missing,
+//! copied, brought back, in the wrong
 //! place, torn and altered. Stores are written as words.
 ghost use Rattle.opening_faults.specs.Splits.{AreOpenSplits};
 
@@ -133,7 +134,8 @@ fn tell_reached(
     Ok(())
 }
 
-// Of two live stores, or of a first that alone is, the least that is not fit, where the first is fit and the second is not.
+// Of two live stores, or of a first that alone is, the least that is not fit, where the first is
+// fit and the second is not.
 fn tell_claims(
     alloc: Global,
     seen: &[Sight],
@@ -187,7 +189,8 @@ fn what_stores_claim(rt: HostRuntime) {
     assert_eq!(rt; wrong_of(rt.alloc(), Of::Claims, CLAIMS).wrong(), "");
 }
 
-// How deep a store is, and what it holds with its receipts: an archive that has a tile of one byte, none, another, or one of two bytes,
+// How deep a store is, and what it holds with its receipts: an archive that has a tile of one byte,
+// none, another, or one of two bytes,
 // and whose second receipt lent a package with nothing in it; or that package, at its depth or one below.
 fn held_by(word: &str) -> (u64, &'static str) {
     match word {

@@ -1,4 +1,5 @@
-//! Statements that were written by hand from OGC GeoPackage 1.3 and OGC 18-000; the bytes of doubles are those of Python's `struct`.
+//! Statements that were written by hand from OGC GeoPackage 1.3 and OGC 18-000; the bytes of
+//! doubles are those of Python's `struct`.
 
 use crate::steps::{Of, Table, Told, cut, numbers, uuid, wrong_of};
 use crate::values::item;

@@ -1,4 +1,5 @@
-//! Responses as the formats state them, worked out by hand; digest and lengths by Python's `hashlib` and `len`. What bodies say of receipts
+//! Responses as the formats state them, worked out by hand; digest and lengths by Python's
+//! `hashlib` and `len`. What bodies say of receipts
 //! and of refusals is in the sessions too (`crates/sheetdesk`).
 
 use crate::receipts::{ARCHIVE, LOAN, package, receipt_of};
@@ -16,7 +17,8 @@ use sheet_types::receipt::{Receipt, Sums};
 use sheet_types::refusal::Refusal;
 use std::alloc::Global;
 
-// The receipt of the addition of a tile of one byte, the first of all; where it is to be quoted, at a moment that has to be escaped.
+// The receipt of the addition of a tile of one byte, the first of all; where it is to be quoted, at
+// a moment that has to be escaped.
 fn first_receipt(alloc: Global, asks: &str) -> Result<Receipt, OutOfMemory> {
     let mut receipt = receipt_of(alloc, "1.1.added.-.a.tile")?;
     if asks == "quoted" {

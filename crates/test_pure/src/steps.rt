@@ -1,4 +1,5 @@
-//! A test as data: questions, and what each is to be told. A table is one text, a question a line, so that a further one costs no proof,
+//! A test as data: questions, and what each is to be told. A table is one text, a question a line,
+//! so that a further one costs no proof,
 //! and one loop asks them all.
 
 use crate::accounts::{ledger_of, line_told};
@@ -19,7 +20,8 @@ use std::alloc::Global;
 use std::fmt::{Debug, Display};
 use uuid::Uuid;
 
-/// What a question is told, a word after the other. It has no clause and no exit, so that what tells is straight code: want of memory is
+/// What a question is told, a word after the other. It has no clause and no exit, so that what
+/// tells is straight code: want of memory is
 /// noted.
 #[derive(Drop)]
 pub(crate) struct Told {
@@ -115,7 +117,8 @@ pub(crate) fn uuid(first: u8, last: u8) -> Uuid {
     Uuid::from_bytes([first, 0, 0, 0, 0, 0, 0x40, 0, 0x80, 0, 0, 0, 0, 0, 0, last])
 }
 
-/// How many rows a table has, and they, one a line: a question, and in brackets what it is to be told. A line that begins with `#` says
+/// How many rows a table has, and they, one a line: a question, and in brackets what it is to be
+/// told. A line that begins with `#` says
 /// something of those below it, and is none.
 #[derive(Clone, Copy)]
 pub(crate) struct Table(pub usize, pub &'static str);
@@ -254,7 +257,8 @@ pub(crate) fn numbers(words: &str) -> Option<[i64; 8]> {
     Some(found)
 }
 
-/// The text that a row stands for, which has no ends of lines and no quotation marks: a tilde is CR LF, `^` LF, a backtick a mark.
+/// The text that a row stands for, which has no ends of lines and no quotation marks: a tilde is CR
+/// LF, `^` LF, a backtick a mark.
 pub(crate) fn unescaped(alloc: Global, words: &str) -> Result<String, OutOfMemory> {
     let mut text = String::new(alloc);
     for letter in words.chars() {

@@ -39,7 +39,8 @@ pub fn at_rest<S: Alter>(conn: &Connection<S>) -> Result<(), Fault>
     }
 }
 
-/// A store in memory with nothing in it. It has no clause, and neither has `altered`, so that the proof of a test does not carry what the engine promises of each call.
+/// A store in memory with nothing in it. It has no clause, and neither has `altered`, so that the
+/// proof of a test does not carry what the engine promises of each call.
 pub fn in_memory(alloc: Global) -> Result<Connection<MemStore>, Fault> {
     Ok(Connection::open_in_memory(alloc)?)
 }

@@ -80,7 +80,8 @@ pub fn empty_package<S: Alter + Drop>(
     Ok(new_tables(alloc, conn, &FRAME, &info)?.into_connection())
 }
 
-/// A tile 7 that is linked to a medium, and a row that is linked to nothing; the medium and the row both have the number 4, and the identities are 1, 2 and 3.
+/// A tile 7 that is linked to a medium, and a row that is linked to nothing; the medium and the row
+/// both have the number 4, and the identities are 1, 2 and 3.
 pub const WITH_A_LINK: [Row; 7] = [
     Row::Tile(7, [2, 3, 1], "ab"),
     Row::Identity(1, 7, "00000000-0000-0000-0000-000000000001"),
@@ -91,8 +92,10 @@ pub const WITH_A_LINK: [Row; 7] = [
     Row::Pair(Mapping::TilesMedia, 7, 4),
 ];
 
-/// Fills a blank store with a tile that is linked to a medium, and a row that is linked to nothing: a tile 7 at column 3 and row 1
-/// of zoom 2, and a medium and a row that both have the number 4; their identities are 1, 2 and 3. Tells whether no transaction
+/// Fills a blank store with a tile that is linked to a medium, and a row that is linked to nothing:
+/// a tile 7 at column 3 and row 1
+/// of zoom 2, and a medium and a row that both have the number 4; their identities are 1, 2 and 3.
+/// Tells whether no transaction
 /// stood in its way.
 pub fn fill_with_a_link<S: Alter>(conn: &mut Connection<S>) -> Result<bool, Fault> {
     committed(conn, &Tables(WITH_A_LINK.as_slice()))

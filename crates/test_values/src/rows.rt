@@ -1,4 +1,5 @@
-//! Rows of the tables of a package as data: each call that puts one in stands here once, so what a test puts in costs no proof of a call.
+//! Rows of the tables of a package as data: each call that puts one in stands here once, so what a
+//! test puts in costs no proof of a call.
 
 use crate::changes::Change;
 use package_creation::schema::create_schema;

@@ -6,7 +6,8 @@ use sheet_types::command::{Mapping, Relation};
 use std::alloc::{AllocError, Global};
 use uuid::Uuid;
 
-/// The number of an identity: of one that `item` gives, or that is itself a number below 256; 0 of any other. It goes by the bytes,
+/// The number of an identity: of one that `item` gives, or that is itself a number below 256; 0 of
+/// any other. It goes by the bytes,
 /// since a cast of 128 bits costs a proof a minute.
 pub fn number_of(identity: Uuid) -> u8 {
     let last = identity.as_bytes()[15];

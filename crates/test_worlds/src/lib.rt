@@ -1,4 +1,5 @@
-//! Tests of worlds whose files stop and whose memory is refused, and of what no session can show. There is nothing here but tests.
+//! Tests of worlds whose files stop and whose memory is refused, and of what no session can show.
+//! There is nothing here but tests.
 #![tactic(auto)]
 
 #[cfg(test)]

@@ -1,4 +1,6 @@
-// What is too many, by the rules: a package holds up to 1 000 000 items of a kind and 4 000 000 links, and there are up to 1 000 000 000 receipts. That there are up to 256 packages, a session shows.
+// What is too many, by the rules: a package holds up to 1 000 000 items of a kind and 4 000 000
+// links, and there are up to 1 000 000 000 receipts. That there are up to 256 packages, a session
+// shows.
 use sqlite::{Alter, MemStore};
 use std::alloc::Global;
 use std::test::Fail;

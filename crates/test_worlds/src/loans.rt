@@ -1,4 +1,5 @@
-//! Requests to a world with loans, in a few words each, and a chain of loans. A package goes by the first digit of its UUID, whose other digits are those of the archive.
+//! Requests to a world with loans, in a few words each, and a chain of loans. A package goes by the
+//! first digit of its UUID, whose other digits are those of the archive.
 
 use package_tables::fault::Fault;
 use sheet_types::command::{Command, Mapping, Mode, Request};
@@ -147,7 +148,9 @@ impl LoanStep {
 /// The north-western tile of zoom 2, in which the chain of loans lies.
 pub const CORNER: [i64; 5] = [2, 0, 0, 0, 0];
 
-/// The requests 1 to 8 that make a chain of loans: into the archive come the tile 1 in the corner, the medium 2, a link of the two, and the tile 3 elsewhere; then the archive lends the corner to B, B to C, C to D, and D to E. The number of each receipt is that of its request.
+/// The requests 1 to 8 that make a chain of loans: into the archive come the tile 1 in the corner,
+/// the medium 2, a link of the two, and the tile 3 elsewhere; then the archive lends the corner to
+/// B, B to C, C to D, and D to E. The number of each receipt is that of its request.
 pub fn chain() -> [LoanStep; 8] {
     [
         LoanStep::now(1, Wish::Of(A, Asks::Tile(1, [2, 0, 0]))),

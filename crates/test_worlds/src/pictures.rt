@@ -1,4 +1,5 @@
-// What a store or a world reads as, as one text that can be compared. A line that begins with `held` says where things stand.
+// What a store or a world reads as, as one text that can be compared. A line that begins with
+// `held` says where things stand.
 // Each function puts its lines behind those that are there, so that none holds a text of its own when it fails.
 use crate::told::{end, number, push_sights, push_sums};
 use custody::keeping::kept;
@@ -175,7 +176,8 @@ fn push_kept_by<S: Alter>(
     push_kept(alloc, &kept, text)
 }
 
-/// A store of a world: its package in the first line; the items, the links, the receipt of a request, and each row of each
+/// A store of a world: its package in the first line; the items, the links, the receipt of a
+/// request, and each row of each
 /// table.
 pub fn push_store<S: Alter>(
     alloc: Global,

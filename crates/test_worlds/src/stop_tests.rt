@@ -292,7 +292,8 @@ fn a_merge_comes_again_while_the_archive_stops(rt: HostRuntime) -> Result<(), Fa
     )
 }
 
-// The shelf has no store the first time, and the world goes on as before; then it has one, and the request gets its receipt.
+// The shelf has no store the first time, and the world goes on as before; then it has one, and the
+// request gets its receipt.
 fn check_shelf(
     alloc: Global,
     why: ShelfFault,

@@ -1,4 +1,5 @@
-// What is told as texts. An identity, a package or a request goes by its number; of the packages of `test_worlds` it is the first digit.
+// What is told as texts. An identity, a package or a request goes by its number; of the packages of
+// `test_worlds` it is the first digit.
 use crate::loans::{A, B, package};
 use sheet_types::receipt::Sums;
 use std::alloc::{AllocError, Global};

@@ -15,7 +15,8 @@ use world::world::World;
 
 /// A store in memory that nothing is in yet.
 pub fn blank_store(alloc: Global) -> Result<Connection<MemStore>, Fault>
-    ensures { IfOk result (λ conn. HasCleanDisk (state over_memory conn) → IsBlank no_schema (state over_memory conn).now) }
+    ensures { IfOk result (λ conn. HasCleanDisk (state over_memory conn)
+        → IsBlank no_schema (state over_memory conn).now) }
 {
     match MemoryShelf::new(alloc).blank(archive()) {
         Ok(conn) => Ok(conn),

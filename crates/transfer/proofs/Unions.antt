@@ -18,7 +18,11 @@ module _ {X : Type 0} (key : X → List ℕ) where
   arranged_itself (x ∷ xs) h = ap (put key x) (arranged_itself xs h.1) ∙ put_first x xs h.0
 
   -- an element that came in before others is one that comes in with them
-  pub arranged_later : (xs ys : List X) (x : X) → IsArranged key ys → AllByRecursion (λ y. bytes_eq (key y) (key x) ≡ false) ys → AllByRecursion (λ y. bytes_eq (key y) (key x) ≡ false) xs
+  pub arranged_later : (xs ys : List X) (x : X) → IsArranged key ys
+      → AllByRecursion (λ y. bytes_eq (key y) (key x) ≡ false) ys
+      → AllByRecursion (λ y. bytes_eq (key y) (key x) ≡ false) xs
       → arranged key (xs ++ put key x ys) ≡ put key x (arranged key (xs ++ ys))
-  arranged_later [] ys x order other none = arranged_itself (put key x ys) (put_arranged key x ys order other) ∙ ap (put key x) (sym (arranged_itself ys order))
-  arranged_later (z ∷ zs) ys x order other none = ap (put key z) (arranged_later zs ys x order other none.1) ∙ put_put key z x (arranged key (zs ++ ys)) none.0
+  arranged_later [] ys x order other none = arranged_itself (put key x ys) (put_arranged key x ys order other)
+      ∙ ap (put key x) (sym (arranged_itself ys order))
+  arranged_later (z ∷ zs) ys x order other none = ap (put key z) (arranged_later zs ys x order other none.1)
+      ∙ put_put key z x (arranged key (zs ++ ys)) none.0

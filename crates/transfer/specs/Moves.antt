@@ -39,7 +39,8 @@ TriesItem i false old new = IsFull (kind_of i.content) old
 -- some of the items come in, and for the next there is no room
 abbrev pub Overfills : List Item → Database → Type 0
 Overfills [] old = ⊥
-Overfills (i ∷ items) old = IsFull (kind_of i.content) old ⊎ ((mid : Database) × PutsItem i old mid × Overfills items mid)
+Overfills (i ∷ items) old = IsFull (kind_of i.content) old ⊎
+    ((mid : Database) × PutsItem i old mid × Overfills items mid)
 
 abbrev pub TriesItems : List Item → Bool → Database → Database → Type 0
 TriesItems items true old new = EachChained PutsItem items old new
@@ -55,7 +56,8 @@ TriesEach c false old new = Overfills c.items old
 
 -- ---- all at once
 
--- A store that reads as a package without these items and links reads as the package with them, and what stood keeps its number.
+-- A store that reads as a package without these items and links reads as the package with them, and what stood keeps
+-- its number.
 abbrev pub Takes : Cut → Database → Database → Type 0
 Takes c = Grows (IsNewCut c) (with_cut c)
 

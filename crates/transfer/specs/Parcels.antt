@@ -25,7 +25,8 @@ pub record IsSelection (n : Names) (p : Package) : Type 0 where
   pub items : AllByRecursion (λ id. has_item p id ≡ true) n.identities
   pub distinct_links : IsDistinct bytes_eq (map link_key n.links)
   pub links : AllByRecursion (λ l. has link_key (link_key l) p.links ≡ true) n.links
-  pub whole : AllByRecursion (λ l. touches (is_among n.identities) l ≡ true → is_among (map link_key n.links) (link_key l) ≡ true) p.links
+  pub whole : AllByRecursion (λ l. touches (is_among n.identities) l ≡ true
+      → is_among (map link_key n.links) (link_key l) ≡ true) p.links
 
 -- the items with their contents, in the order of their names, and the links
 abbrev pub selected : Names → Package → Cut
@@ -33,7 +34,11 @@ selected n p = record { items = filter_map (item_of p) n.identities; links = n.l
 
 -- a package without these items and links
 abbrev pub without_names : Names → Package → Package
-without_names n p = record p { items = without (λ i. i.identity) n.identities p.items; links = without link_key (map link_key n.links) p.links }
+without_names n p = record p {
+  items = without (λ i. i.identity) n.identities p.items;
+  links =
+      without link_key (map link_key n.links) p.links;
+}
 
 -- ---- parcels
 
@@ -43,9 +48,14 @@ cut_of parcel = record { items = parcel.items.items; links = parcel.links.items 
 
 -- a package with items and links more
 abbrev pub with_cut : Cut → Package → Package
-with_cut c p = record p { items = arranged item_key (c.items ++ p.items); links = arranged link_key (c.links ++ p.links) }
+with_cut c p = record p {
+  items = arranged item_key (c.items ++ p.items);
+  links =
+      arranged link_key (c.links ++ p.links);
+}
 
--- The package has none of these items and links, each is there once, and with them it has both ends of each of the links.
+-- The package has none of these items and links, each is there once, and with them it has both ends of each of the
+-- links.
 pub record IsNewCut (c : Cut) (p : Package) : Type 0 where
   pub distinct_items : IsDistinct bytes_eq (identities c.items)
   pub items : AllByRecursion (λ i. has_item p i.identity ≡ false) c.items
@@ -65,7 +75,11 @@ things n = length n.identities + length n.links
 
 -- what stands from a position up to another, where items stand before links
 abbrev pub part : ℕ → ℕ → Names → Names
-part from to n = record { identities = slice_range n.identities from to; links = slice_range n.links (from - length n.identities) (to - length n.identities) }
+part from to n = record {
+  identities = slice_range n.identities from to;
+  links =
+      slice_range n.links (from - length n.identities) (to - length n.identities);
+}
 
 -- where the page from a position on ends
 abbrev pub page_end : ℕ → Names → ℕ

@@ -1,4 +1,5 @@
-//! What moves from one package to another: items by their identities and links by their ends, content and all. No local number.
+//! What moves from one package to another: items by their identities and links by their ends,
+//! content and all. No local number.
 #![tactic(auto)]
 
 pub mod lifting;

@@ -25,7 +25,8 @@ use uuid::Uuid;
 pub(crate) fn item_in<S: Alter>(conn: &mut Connection<S>, identity: Uuid) -> Result<Item, Fault>
     requires { Rests (state S.Store conn.old) }
     ensures stays { Stays (state S.Store conn.old) (state S.Store conn.new) }
-    ensures told { IfOk result (λ item. HasCleanDisk (state S.Store conn.new) → OfSource (state S.Store conn.old) (λ p. item_of p identity ≡ Some item)) }
+    ensures told { IfOk result (λ item. HasCleanDisk (state S.Store conn.new)
+        → OfSource (state S.Store conn.old) (λ p. item_of p identity ≡ Some item)) }
 {
     match find(conn, identity)? {
         Some(item) => Ok(item),
@@ -41,7 +42,8 @@ fn items_in<S: Alter>(
 ) -> Result<Vec<Item>, Fault>
     requires { Rests (state S.Store conn.old) }
     ensures stays { Stays (state S.Store conn.old) (state S.Store conn.new) }
-    ensures told { IfOk result (λ items. HasCleanDisk (state S.Store conn.new) → OfSource (state S.Store conn.old) (λ p. items.items ≡ filter_map (item_of p) identities.now)) }
+    ensures told { IfOk result (λ items. HasCleanDisk (state S.Store conn.new)
+        → OfSource (state S.Store conn.old) (λ p. items.items ≡ filter_map (item_of p) identities.now)) }
 {
     let mut items = Vec::new(alloc);
     for identity in identities {
@@ -58,7 +60,8 @@ fn parcel_of<S: Alter>(
 ) -> Result<Parcel, Fault>
     requires { Rests (state S.Store conn.old) }
     ensures stays { Stays (state S.Store conn.old) (state S.Store conn.new) }
-    ensures told { IfOk result (λ parcel. HasCleanDisk (state S.Store conn.new) → OfSource (state S.Store conn.old) (λ p. cut_of parcel ≡ selected (names_of selection.now) p)) }
+    ensures told { IfOk result (λ parcel. HasCleanDisk (state S.Store conn.new)
+        → OfSource (state S.Store conn.old) (λ p. cut_of parcel ≡ selected (names_of selection.now) p)) }
 {
     let items = items_in(conn, alloc, &selection.identities)?;
     let links = selection.links.to_vec(alloc)?;
@@ -77,7 +80,8 @@ pub fn lift<S: Alter>(
 ) -> Result<Parcel, Refusal>
     requires { Rests (state S.Store conn.old) }
     ensures stays { Stays (state S.Store conn.old) (state S.Store conn.new) }
-    ensures told { IfOk result (λ parcel. HasCleanDisk (state S.Store conn.new) → OfSource (state S.Store conn.old) (λ p. cut_of parcel ≡ selected (names_of selection.now) p)) }
+    ensures told { IfOk result (λ parcel. HasCleanDisk (state S.Store conn.new)
+        → OfSource (state S.Store conn.old) (λ p. cut_of parcel ≡ selected (names_of selection.now) p)) }
     ensures refused { IfErr result IsFault }
 {
     match parcel_of(conn, alloc, selection) {

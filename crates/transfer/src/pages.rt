@@ -32,7 +32,9 @@ fn carry_item<S: Alter>(
     requires { Rests (state S.Store source.old) }
     ensures same_reference { tx.new.conn.ghost_name ≡ tx.old.conn.ghost_name }
     ensures source { Stays (state S.Store source.old) (state S.Store source.new) }
-    ensures steps { Steps (λ came old new. HasCleanDisk (state S.Store source.new) → OfSource (state S.Store source.old) (λ p. TriesItems (filter_map (item_of p) (identity ∷ [])) came old new)) (state S.Store tx.old.conn.now) (state S.Store tx.new.conn.now) result }
+    ensures steps { Steps (λ came old new. HasCleanDisk (state S.Store source.new)
+        → OfSource (state S.Store source.old) (λ p. TriesItems (filter_map (item_of p) (identity ∷ [])) came old new))
+        (state S.Store tx.old.conn.now) (state S.Store tx.new.conn.now) result }
 {
     let item = item_in(source, identity)?;
     put_item(tx, &item)
@@ -47,7 +49,9 @@ fn carry_items<S: Alter>(
     requires { Rests (state S.Store source.old) }
     ensures same_reference { tx.new.conn.ghost_name ≡ tx.old.conn.ghost_name }
     ensures source { Stays (state S.Store source.old) (state S.Store source.new) }
-    ensures steps { Steps (λ came old new. HasCleanDisk (state S.Store source.new) → OfSource (state S.Store source.old) (λ p. TriesItems (filter_map (item_of p) identities.now) came old new)) (state S.Store tx.old.conn.now) (state S.Store tx.new.conn.now) result }
+    ensures steps { Steps (λ came old new. HasCleanDisk (state S.Store source.new)
+        → OfSource (state S.Store source.old) (λ p. TriesItems (filter_map (item_of p) identities.now) came old new))
+        (state S.Store tx.old.conn.now) (state S.Store tx.new.conn.now) result }
 {
     for identity in identities {
         let came = carry_item(source, tx, *identity)?;
@@ -71,7 +75,9 @@ fn carry_part<S: Alter>(
     requires within { to ≤ things (names_of selection.now) }
     ensures same_reference { tx.new.conn.ghost_name ≡ tx.old.conn.ghost_name }
     ensures source { Stays (state S.Store source.old) (state S.Store source.new) }
-    ensures steps { Steps (λ came old new. HasCleanDisk (state S.Store source.new) → OfSource (state S.Store source.old) (λ p. TriesEach (selected (part from to (names_of selection.now)) p) came old new)) (state S.Store tx.old.conn.now) (state S.Store tx.new.conn.now) result }
+    ensures steps { Steps (λ came old new. HasCleanDisk (state S.Store source.new)
+        → OfSource (state S.Store source.old) (λ p. TriesEach (selected (part from to (names_of selection.now)) p)
+        came old new)) (state S.Store tx.old.conn.now) (state S.Store tx.new.conn.now) result }
 {
     let items = selection.identities.len();
     let identities = &selection.identities[from.min(items)..to.min(items)];
@@ -98,11 +104,13 @@ fn page_end(selection: &Selection, from: usize) -> usize
     from.saturating_add(PAGE).min(things(selection))
 }
 
-/// Takes in the items and then the links of the selection from a position on, 256 at most, and answers the position after them. Items stand before links; the source stays as it is.
+/// Takes in the items and then the links of the selection from a position on, 256 at most, and
+/// answers the position after them. Items stand before links; the source stays as it is.
 ///
 /// # Errors
 ///
-/// `TooMany` where there is no room for the items of a kind, want of memory, a store that failed, or an item that the source has not. Nothing is committed; the transaction has to be dropped.
+/// `TooMany` where there is no room for the items of a kind, want of memory, a store that failed,
+/// or an item that the source has not. Nothing is committed; the transaction has to be dropped.
 pub fn carry_page<S: Alter>(
     source: &mut Connection<S>,
     tx: &mut Transaction<'_, S>,
@@ -114,8 +122,13 @@ pub fn carry_page<S: Alter>(
     ensures same_reference { tx.new.conn.ghost_name ≡ tx.old.conn.ghost_name }
     ensures source { Stays (state S.Store source.old) (state S.Store source.new) }
     ensures end { IfOk result (λ end. end ≡ page_end from (names_of selection.now)) }
-    ensures steps { Steps (λ _ old new. HasCleanDisk (state S.Store source.new) → OfSource (state S.Store source.old) (λ p. Takes (selected (page from (names_of selection.now)) p) old new)) (state S.Store tx.old.conn.now) (state S.Store tx.new.conn.now) result }
-    ensures too_many { result ≡ Err TooMany → HasCleanDisk (state S.Store source.new) → HasCleanDisk (state S.Store tx.new.conn.now) → IsTrue (state S.Store tx.old.conn.now).in_transaction → OfSource (state S.Store source.old) (λ p. IsTooMuch (selected (page from (names_of selection.now)) p) (state S.Store tx.old.conn.now).now) }
+    ensures steps { Steps (λ _ old new. HasCleanDisk (state S.Store source.new)
+        → OfSource (state S.Store source.old) (λ p. Takes (selected (page from (names_of selection.now)) p) old new))
+        (state S.Store tx.old.conn.now) (state S.Store tx.new.conn.now) result }
+    ensures too_many { result ≡ Err TooMany → HasCleanDisk (state S.Store source.new)
+        → HasCleanDisk (state S.Store tx.new.conn.now) → IsTrue (state S.Store tx.old.conn.now).in_transaction
+        → OfSource (state S.Store source.old) (λ p. IsTooMuch (selected (page from (names_of selection.now)) p)
+        (state S.Store tx.old.conn.now).now) }
     ensures refused { IfErr result IsReason }
 {
     let end = page_end(selection, from);
@@ -135,7 +148,9 @@ fn carry_each<S: Alter>(
     requires { Rests (state S.Store source.old) }
     ensures same_reference { tx.new.conn.ghost_name ≡ tx.old.conn.ghost_name }
     ensures source { Stays (state S.Store source.old) (state S.Store source.new) }
-    ensures steps { Steps (λ came old new. HasCleanDisk (state S.Store source.new) → OfSource (state S.Store source.old) (λ p. TriesEach (selected (names_of selection.now) p) came old new)) (state S.Store tx.old.conn.now) (state S.Store tx.new.conn.now) result }
+    ensures steps { Steps (λ came old new. HasCleanDisk (state S.Store source.new)
+        → OfSource (state S.Store source.old) (λ p. TriesEach (selected (names_of selection.now) p) came old new))
+        (state S.Store tx.old.conn.now) (state S.Store tx.new.conn.now) result }
 {
     let all = things(selection);
     let mut from = 0;
@@ -150,11 +165,13 @@ fn carry_each<S: Alter>(
     Ok(true)
 }
 
-/// Takes in the whole selection, page after page; the source stays as it is. This does what `put` of the lifted parcel does.
+/// Takes in the whole selection, page after page; the source stays as it is. This does what `put`
+/// of the lifted parcel does.
 ///
 /// # Errors
 ///
-/// `TooMany` where there is no room for the items of a kind, want of memory, a store that failed, or an item that the source has not. Nothing is committed; the transaction has to be dropped.
+/// `TooMany` where there is no room for the items of a kind, want of memory, a store that failed,
+/// or an item that the source has not. Nothing is committed; the transaction has to be dropped.
 pub fn carry_over<S: Alter>(
     source: &mut Connection<S>,
     tx: &mut Transaction<'_, S>,
@@ -163,8 +180,13 @@ pub fn carry_over<S: Alter>(
     requires { Rests (state S.Store source.old) }
     ensures same_reference { tx.new.conn.ghost_name ≡ tx.old.conn.ghost_name }
     ensures source { Stays (state S.Store source.old) (state S.Store source.new) }
-    ensures steps { Steps (λ _ old new. HasCleanDisk (state S.Store source.new) → OfSource (state S.Store source.old) (λ p. Takes (selected (names_of selection.now) p) old new)) (state S.Store tx.old.conn.now) (state S.Store tx.new.conn.now) result }
-    ensures too_many { result ≡ Err TooMany → HasCleanDisk (state S.Store source.new) → HasCleanDisk (state S.Store tx.new.conn.now) → IsTrue (state S.Store tx.old.conn.now).in_transaction → OfSource (state S.Store source.old) (λ p. IsTooMuch (selected (names_of selection.now) p) (state S.Store tx.old.conn.now).now) }
+    ensures steps { Steps (λ _ old new. HasCleanDisk (state S.Store source.new)
+        → OfSource (state S.Store source.old) (λ p. Takes (selected (names_of selection.now) p) old new))
+        (state S.Store tx.old.conn.now) (state S.Store tx.new.conn.now) result }
+    ensures too_many { result ≡ Err TooMany → HasCleanDisk (state S.Store source.new)
+        → HasCleanDisk (state S.Store tx.new.conn.now) → IsTrue (state S.Store tx.old.conn.now).in_transaction
+        → OfSource (state S.Store source.old) (λ p. IsTooMuch (selected (names_of selection.now) p)
+        (state S.Store tx.old.conn.now).now) }
     ensures refused { IfErr result IsReason }
 {
     match carry_each(source, tx, selection) {

@@ -31,7 +31,8 @@ pub(crate) fn put_item<S: Alter>(tx: &mut Transaction<'_, S>, item: &Item) -> Re
 /// Takes items in, in turn. Tells whether there was room for all.
 fn put_items<S: Alter>(tx: &mut Transaction<'_, S>, items: &[Item]) -> Result<bool, Fault>
     ensures same_reference { tx.new.conn.ghost_name ≡ tx.old.conn.ghost_name }
-    ensures steps { Steps (TriesItems items.now) (state S.Store tx.old.conn.now) (state S.Store tx.new.conn.now) result }
+    ensures steps { Steps (TriesItems items.now) (state S.Store tx.old.conn.now) (state S.Store tx.new.conn.now)
+        result }
 {
     for item in items {
         let came = put_item(tx, item)?;
@@ -45,7 +46,8 @@ fn put_items<S: Alter>(tx: &mut Transaction<'_, S>, items: &[Item]) -> Result<bo
 /// Takes a link in.
 fn put_link<S: Alter>(tx: &mut Transaction<'_, S>, relation: Relation) -> Result<(), Fault>
     ensures same_reference { tx.new.conn.ghost_name ≡ tx.old.conn.ghost_name }
-    ensures steps { Steps (λ _. PutsLink relation) (state S.Store tx.old.conn.now) (state S.Store tx.new.conn.now) result }
+    ensures steps { Steps (λ _. PutsLink relation) (state S.Store tx.old.conn.now) (state S.Store tx.new.conn.now)
+        result }
 {
     fits(relation.base);
     fits(relation.other);
@@ -58,7 +60,8 @@ pub(crate) fn put_links<S: Alter>(
     relations: &[Relation],
 ) -> Result<(), Fault>
     ensures same_reference { tx.new.conn.ghost_name ≡ tx.old.conn.ghost_name }
-    ensures steps { Steps (λ _. EachChained PutsLink relations.now) (state S.Store tx.old.conn.now) (state S.Store tx.new.conn.now) result }
+    ensures steps { Steps (λ _. EachChained PutsLink relations.now) (state S.Store tx.old.conn.now)
+        (state S.Store tx.new.conn.now) result }
 {
     for relation in relations {
         put_link(tx, *relation)?;
@@ -69,7 +72,8 @@ pub(crate) fn put_links<S: Alter>(
 /// Takes the items and then the links of a parcel in. Tells whether there was room for all.
 fn put_each<S: Alter>(tx: &mut Transaction<'_, S>, parcel: &Parcel) -> Result<bool, Fault>
     ensures same_reference { tx.new.conn.ghost_name ≡ tx.old.conn.ghost_name }
-    ensures steps { Steps (TriesEach (cut_of parcel.now)) (state S.Store tx.old.conn.now) (state S.Store tx.new.conn.now) result }
+    ensures steps { Steps (TriesEach (cut_of parcel.now)) (state S.Store tx.old.conn.now)
+        (state S.Store tx.new.conn.now) result }
 {
     let came = put_items(tx, &parcel.items)?;
     if !came {
@@ -79,15 +83,20 @@ fn put_each<S: Alter>(tx: &mut Transaction<'_, S>, parcel: &Parcel) -> Result<bo
     Ok(true)
 }
 
-/// Puts a parcel into a package that has nothing of it: each item comes in under its identity with its content, and each link by its ends.
+/// Puts a parcel into a package that has nothing of it: each item comes in under its identity with
+/// its content, and each link by its ends.
 ///
 /// # Errors
 ///
-/// `TooMany` where there is no room for the items of a kind, want of memory, or a store that failed. Nothing is committed; the transaction has to be dropped.
+/// `TooMany` where there is no room for the items of a kind, want of memory, or a store that
+/// failed. Nothing is committed; the transaction has to be dropped.
 pub fn put<S: Alter>(tx: &mut Transaction<'_, S>, parcel: &Parcel) -> Result<(), Refusal>
     ensures same_reference { tx.new.conn.ghost_name ≡ tx.old.conn.ghost_name }
-    ensures steps { Steps (λ _. Takes (cut_of parcel.now)) (state S.Store tx.old.conn.now) (state S.Store tx.new.conn.now) result }
-    ensures too_many { result ≡ Err TooMany → HasCleanDisk (state S.Store tx.new.conn.now) → IsTrue (state S.Store tx.old.conn.now).in_transaction → IsTooMuch (cut_of parcel.now) (state S.Store tx.old.conn.now).now }
+    ensures steps { Steps (λ _. Takes (cut_of parcel.now)) (state S.Store tx.old.conn.now)
+        (state S.Store tx.new.conn.now) result }
+    ensures too_many { result ≡ Err TooMany → HasCleanDisk (state S.Store tx.new.conn.now)
+        → IsTrue (state S.Store tx.old.conn.now).in_transaction
+        → IsTooMuch (cut_of parcel.now) (state S.Store tx.old.conn.now).now }
     ensures refused { IfErr result IsReason }
 {
     match put_each(tx, parcel) {

@@ -21,7 +21,8 @@ use uuid::Uuid;
 /// Takes a link out.
 fn drop_link<S: Alter>(tx: &mut Transaction<'_, S>, relation: Relation) -> Result<(), Fault>
     ensures same_reference { tx.new.conn.ghost_name ≡ tx.old.conn.ghost_name }
-    ensures steps { Steps (λ _. DropsLink relation) (state S.Store tx.old.conn.now) (state S.Store tx.new.conn.now) result }
+    ensures steps { Steps (λ _. DropsLink relation) (state S.Store tx.old.conn.now) (state S.Store tx.new.conn.now)
+        result }
 {
     fits(relation.base);
     fits(relation.other);
@@ -31,7 +32,8 @@ fn drop_link<S: Alter>(tx: &mut Transaction<'_, S>, relation: Relation) -> Resul
 /// Takes links out, in turn.
 fn drop_links<S: Alter>(tx: &mut Transaction<'_, S>, relations: &[Relation]) -> Result<(), Fault>
     ensures same_reference { tx.new.conn.ghost_name ≡ tx.old.conn.ghost_name }
-    ensures steps { Steps (λ _. EachChained DropsLink relations.now) (state S.Store tx.old.conn.now) (state S.Store tx.new.conn.now) result }
+    ensures steps { Steps (λ _. EachChained DropsLink relations.now) (state S.Store tx.old.conn.now)
+        (state S.Store tx.new.conn.now) result }
 {
     for relation in relations {
         drop_link(tx, *relation)?;
@@ -42,7 +44,8 @@ fn drop_links<S: Alter>(tx: &mut Transaction<'_, S>, relations: &[Relation]) -> 
 /// Takes items out that no link names, in turn.
 fn drop_items<S: Alter>(tx: &mut Transaction<'_, S>, identities: &[Uuid]) -> Result<(), Fault>
     ensures same_reference { tx.new.conn.ghost_name ≡ tx.old.conn.ghost_name }
-    ensures steps { Steps (λ _. EachChained DropsItem identities.now) (state S.Store tx.old.conn.now) (state S.Store tx.new.conn.now) result }
+    ensures steps { Steps (λ _. EachChained DropsItem identities.now) (state S.Store tx.old.conn.now)
+        (state S.Store tx.new.conn.now) result }
 {
     for identity in identities {
         delete(tx, *identity)?;
@@ -53,7 +56,9 @@ fn drop_items<S: Alter>(tx: &mut Transaction<'_, S>, identities: &[Uuid]) -> Res
 /// Takes the links and then the items of a selection out.
 fn drop_each<S: Alter>(tx: &mut Transaction<'_, S>, selection: &Selection) -> Result<(), Fault>
     ensures same_reference { tx.new.conn.ghost_name ≡ tx.old.conn.ghost_name }
-    ensures steps { Steps (λ _. Chained (EachChained DropsLink selection.now.links.items) (EachChained DropsItem selection.now.identities.items)) (state S.Store tx.old.conn.now) (state S.Store tx.new.conn.now) result }
+    ensures steps { Steps (λ _. Chained (EachChained DropsLink selection.now.links.items)
+        (EachChained DropsItem selection.now.identities.items)) (state S.Store tx.old.conn.now)
+        (state S.Store tx.new.conn.now) result }
 {
     drop_links(tx, &selection.links)?;
     drop_items(tx, &selection.identities)
@@ -66,7 +71,9 @@ fn drop_each<S: Alter>(tx: &mut Transaction<'_, S>, selection: &Selection) -> Re
 /// Want of memory, or a store that failed. Nothing is committed; the transaction has to be dropped.
 pub fn take<S: Alter>(tx: &mut Transaction<'_, S>, selection: &Selection) -> Result<(), Refusal>
     ensures same_reference { tx.new.conn.ghost_name ≡ tx.old.conn.ghost_name }
-    ensures steps { Steps (λ _. Shrinks (IsSelection (names_of selection.now)) (without_names (names_of selection.now))) (state S.Store tx.old.conn.now) (state S.Store tx.new.conn.now) result }
+    ensures steps { Steps (λ _. Shrinks (IsSelection (names_of selection.now))
+        (without_names (names_of selection.now))) (state S.Store tx.old.conn.now) (state S.Store tx.new.conn.now)
+        result }
     ensures refused { IfErr result IsFault }
 {
     match drop_each(tx, selection) {

@@ -12,7 +12,8 @@ not_nan-odd d s (suc q) k l = tt
 not_nan-units : (f : Format) (s : Bool) (q k : ℕ) → NotNan (units f s q k)
 unfolding units is_nan
 not_nan-units f s q k =
-    elim (ltb (q * 2 ^ k) (2 ^ (low f + suc (emax f)))) as (λ b. NotNan (cond b (odd (suc (prec f)) s q k (low f)) (inf s))) [
+    elim (ltb (q * 2 ^ k) (2 ^ (low f + suc (emax f)))) as (λ b. NotNan
+    (cond b (odd (suc (prec f)) s q k (low f)) (inf s))) [
       | true ↦ not_nan-odd (suc (prec f)) s q k (low f)
       | false ↦ tt
     ]

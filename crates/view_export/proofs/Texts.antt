@@ -6,7 +6,8 @@ use Rattle.sheet_types.specs.declared.frame.Frame.{Frame}
 use Rattle.view_export.specs.FixedRows.{matrices, matrix}
 
 -- a text that was made is this one too
-pub ok_is : {E : Type 0} (r : Result (String Global) E) (a b : List ℕ) → a ≡ b → IfOk r (λ t. string_bytes t ≡ a) → IfOk r (λ t. string_bytes t ≡ b)
+pub ok_is : {E : Type 0} (r : Result (String Global) E) (a b : List ℕ) → a ≡ b → IfOk r (λ t. string_bytes t ≡ a)
+    → IfOk r (λ t. string_bytes t ≡ b)
 ok_is (Ok t) a b e h = h ∙ e
 ok_is (Err x) a b e h = tt
 

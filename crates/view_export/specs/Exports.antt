@@ -36,7 +36,8 @@ abbrev pub place : ℤ → ℤ → ℤ → List ℕ
 place zoom column row =
     signed_decimal zoom ++ (codes "," ++ (signed_decimal column ++ (codes "," ++ signed_decimal row)))
 
--- The identity of a tile, its outline and its place, in a table of its own, since a tile pyramid table has five columns (2.2.8).
+-- The identity of a tile, its outline and its place, in a table of its own, since a tile pyramid table has five
+-- columns (2.2.8).
 abbrev pub tile_identity_row : ℕ → List ℕ → List ℕ → ℤ → ℤ → ℤ → List ℕ
 tile_identity_row n geometry id zoom column row = insert (codes "sheet_tile_identity")
     (decimal n ∷ geometry ∷ uuid_literal id ∷ place zoom column row ∷ [])

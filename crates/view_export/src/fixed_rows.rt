@@ -1,7 +1,10 @@
 //! The rows that say what the tables of an export are.
 ghost use Rattle.std.specs.Prelude.{◌≡◌, IfOk, IsTrue, string_bytes};
 ghost use Rattle.sheet_types.specs.Matrix.{is_good_frame};
-ghost use Rattle.view_export.specs.FixedRows.{attributes_row, bounds, contents, contents_row, extensions, fixed_rows, geometry_column, geometry_columns, is_standard, layers, matrix_set, numbered_system, other_tables, own_system, reference_systems, relations, undefined_cartesian, undefined_geographic, wgs_84};
+ghost use Rattle.view_export.specs.FixedRows.{attributes_row, bounds, contents, contents_row, extensions, fixed_rows};
+ghost use Rattle.view_export.specs.FixedRows.{geometry_column, geometry_columns, is_standard, layers, matrix_set};
+ghost use Rattle.view_export.specs.FixedRows.{numbered_system, other_tables, own_system, reference_systems, relations};
+ghost use Rattle.view_export.specs.FixedRows.{undefined_cartesian, undefined_geographic, wgs_84};
 
 use crate::literals::Thousandths;
 use crate::matrices::matrices;

@@ -1,4 +1,5 @@
-//! The SQL that makes a package into a GeoPackage for other programs, a statement a line: its beginning, the rows of an item, the row of a link, its end.
+//! The SQL that makes a package into a GeoPackage for other programs, a statement a line: its
+//! beginning, the rows of an item, the row of a link, its end.
 #![tactic(auto)]
 
 pub mod fixed_rows;

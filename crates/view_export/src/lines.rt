@@ -2,7 +2,8 @@
 ghost use Rattle.std.specs.Prelude.{◌≡◌, IfOk, IsTrue, List, string_bytes};
 ghost use Rattle.sheet_types.specs.Matrix.{is_good_frame};
 ghost use Rattle.sheet_types.specs.declared.command.Item.{Item as ModelItem};
-ghost use Rattle.view_export.specs.Exports.{drawn, feature_row, item_rows, link_row, medium_row, place, tile_identity_row, tile_outline, tile_row, tile_rows};
+ghost use Rattle.view_export.specs.Exports.{drawn, feature_row, item_rows, link_row, medium_row, place};
+ghost use Rattle.view_export.specs.Exports.{tile_identity_row, tile_outline, tile_row, tile_rows};
 ghost use Rattle.view_export.specs.Numbers.{AreNumbersOf};
 ghost use Rattle.view_export.specs.Points.{FitsHeader, point};
 ghost use Rattle.view_export.specs.Statements.{blob};

@@ -2,7 +2,8 @@
 ghost use Rattle.std.specs.Prelude.{◌≡◌, ◌++◌, [], IfOk, OnOk, length};
 ghost use Rattle.std.specs.Float.{NotNan};
 ghost use Rattle.std.specs.Int.{w32};
-ghost use Rattle.view_export.specs.Points.{corner, double_bytes, geometry_header, in_units, outline, point, ring, FitsHeader};
+ghost use Rattle.view_export.specs.Points.{corner, double_bytes, geometry_header, in_units, outline, point, ring};
+ghost use Rattle.view_export.specs.Points.{FitsHeader};
 
 use sheet_types::frame::Ground;
 use std::alloc::{AllocError, Global};
@@ -69,7 +70,8 @@ fn push_ring(bytes: &mut Vec<u8>, ground: &Ground) -> Result<(), AllocError>
     Ok(())
 }
 
-/// The outline of some ground in thousandths of the unit of a reference system, as the blob of a feature: a polygon of one ring.
+/// The outline of some ground in thousandths of the unit of a reference system, as the blob of a
+/// feature: a polygon of one ring.
 ///
 /// # Errors
 ///

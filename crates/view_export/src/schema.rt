@@ -1,6 +1,9 @@
 //! The tables of an export, with the columns that the standards give them.
 ghost use Rattle.std.specs.Prelude.{◌≡◌, IfOk, string_bytes};
-ghost use Rattle.view_export.specs.Schema.{contents_table, export_table, extensions_table, geometry_columns_table, mapping_table, matrix_set_table, matrix_table, media_table, reference_systems_table, relations_table, rows_table, schema, sheet_tables, standard_tables, styles_table, tile_identity_table, tiles_table};
+ghost use Rattle.view_export.specs.Schema.{contents_table, export_table, extensions_table, geometry_columns_table};
+ghost use Rattle.view_export.specs.Schema.{mapping_table, matrix_set_table, matrix_table, media_table};
+ghost use Rattle.view_export.specs.Schema.{reference_systems_table, relations_table, rows_table, schema, sheet_tables};
+ghost use Rattle.view_export.specs.Schema.{standard_tables, styles_table, tile_identity_table, tiles_table};
 
 use std::alloc::{AllocError, Global};
 

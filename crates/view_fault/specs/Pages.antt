@@ -1,8 +1,12 @@
 -- The page of a folder that does not open (HTML 5). Profile.
-use Rattle.std.specs.Prelude.{ℕ, zero, suc, ◌==◌, nat_lt, List, [], ◌∷◌, ◌++◌, Option, Some, None, option_map, if◌then◌else◌, codes, slice_index_or}
+use Rattle.std.specs.Prelude.{ℕ, zero, suc, ◌==◌, nat_lt, List, [], ◌∷◌, ◌++◌, Option, Some, None, option_map}
+use Rattle.std.specs.Prelude.{if◌then◌else◌, codes, slice_index_or}
 use Rattle.command_faults.specs.Texts.{fault_text}
 use Rattle.opening_faults.specs.declared.faults.RecoverFault.{RecoverFault}
-use Rattle.opening_faults.specs.declared.faults.RecoverFault.TheVariants.{NoArchive, TwoArchives, NotAPackage, TwoCopies, MissingPackage, ForeignFrame, Dangling, OutOfAccount, Altered, OutOfMemory, StoreFault}
+use Rattle.opening_faults.specs.declared.faults.RecoverFault.TheVariants.{NoArchive, TwoArchives, NotAPackage}
+use Rattle.opening_faults.specs.declared.faults.RecoverFault.TheVariants.{TwoCopies, MissingPackage, ForeignFrame}
+use Rattle.opening_faults.specs.declared.faults.RecoverFault.TheVariants.{Dangling, OutOfAccount, Altered}
+use Rattle.opening_faults.specs.declared.faults.RecoverFault.TheVariants.{OutOfMemory, StoreFault}
 use Rattle.view_report.specs.Escaping.{escaped}
 use Rattle.view_report.specs.declared.style.TheConstants.{STYLE}
 use Rattle.view_report.specs.declared.words.TheConstants.{HEAD}
@@ -78,7 +82,8 @@ row_class n found = if n == found then codes " class=\"hit\"" else []
 
 abbrev pub row_text : ℕ → ℕ → List ℕ
 row_text found n =
-    codes "<tr" ++ (row_class n found ++ (codes "><th scope=\"row\">" ++ (fault_name n ++ (codes "</th><td>" ++ (fault_meaning n
+    codes "<tr" ++ (row_class n found ++ (codes "><th scope=\"row\">"
+    ++ (fault_name n ++ (codes "</th><td>" ++ (fault_meaning n
     ++ (codes "</td>" ++ (state_text n found ++ codes "</tr>\n")))))))
 
 -- the first n of the nine, in turn

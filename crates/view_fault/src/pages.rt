@@ -1,6 +1,7 @@
 //! The page of a folder that does not open: the fault, what is known of it, what to do, and what was asked before it.
 ghost use Rattle.std.specs.Prelude.{◌≡◌, ◌++◌, IfOk, option_map, string_bytes};
-ghost use Rattle.view_fault.specs.Pages.{fault_meaning, fault_name, fault_page, fault_remedy, page_text, place_of, row_class, row_text, rows_text, state_text};
+ghost use Rattle.view_fault.specs.Pages.{fault_meaning, fault_name, fault_page, fault_remedy, page_text, place_of};
+ghost use Rattle.view_fault.specs.Pages.{row_class, row_text, rows_text, state_text};
 
 use crate::words::{DO_HEAD, END, FAULTS_HEAD, VERDICT};
 use command_faults::texts::fault_text;
@@ -171,7 +172,8 @@ fn page_of(alloc: Global, fault: &RecoverFault) -> Result<Option<String>, AllocE
     Ok(Some(text))
 }
 
-/// The page of a fault, if it is one of the nine by which stores stand for no world: one file of HTML 5 that needs nothing else.
+/// The page of a fault, if it is one of the nine by which stores stand for no world: one file of
+/// HTML 5 that needs nothing else.
 ///
 /// # Errors
 ///

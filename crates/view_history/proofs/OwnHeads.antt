@@ -19,7 +19,8 @@ only_one : {X : Type 0} (x y : X) → In x (y ∷ []) → y ≡ x
 only_one x y i = elim i [ inl e ↦ e | inr none ↦ absurd none ]
 
 -- where one head is found, it is the package's
-pub loan_is : (f : Frame) (p : Package) (t : Tables) (says : Says f p t) (found : List HeadRow) (loan : ℕ) → AreAll (on (λ (x : HeadRow). x.id) int_cmp) t.heads found → IsLoanIn found loan → loan ≡ p.loan
+pub loan_is : (f : Frame) (p : Package) (t : Tables) (says : Says f p t) (found : List HeadRow) (loan : ℕ)
+    → AreAll (on (λ (x : HeadRow). x.id) int_cmp) t.heads found → IsLoanIn found loan → loan ≡ p.loan
 loan_is f p t says found loan all one =
     let row : HeadRow = one.0 in
     let own : HeadRow = head_row p says.created in

@@ -11,7 +11,8 @@ use Rattle.identity_register.proofs.OnePackage.{one_package}
 use Rattle.package_receipts.specs.Read.{AreSaid}
 
 -- tables that say a package and these receipts say the receipts of the package
-pub whole : (f : Frame) (p : Package) (t : Tables) → Says f p t → (found : List Receipt) → AreSaid t found → found ≡ p.receipts
+pub whole : (f : Frame) (p : Package) (t : Tables) → Says f p t → (found : List Receipt) → AreSaid t found
+    → found ≡ p.receipts
 whole f p t says found said = sym (ap (λ q. q.receipts) (one_package f t p (record p { receipts = found }) says other))
   where
     other : Says f (record p { receipts = found }) t
@@ -33,12 +34,16 @@ whole f p t says found said = sym (ap (λ q. q.receipts) (one_package f t p (rec
     }
 
 -- lists in turn, each of a package
-pub zip_lists : {L : Type 0} (items : L → List Receipt) (packages : List Package) (lists : List L) → AllZip (λ p l. items l ≡ p.receipts) packages lists → flat_map items lists ≡ flat_map (λ p. p.receipts) packages
+pub zip_lists : {L : Type 0} (items : L → List Receipt) (packages : List Package) (lists : List L)
+    → AllZip (λ p l. items l ≡ p.receipts) packages lists → flat_map items lists ≡ flat_map (λ p. p.receipts) packages
 zip_lists items [] [] each = refl
 zip_lists items [] (l ∷ ls) each = absurd each
 zip_lists items (p ∷ ps) [] each = absurd each
-zip_lists items (p ∷ ps) (l ∷ ls) each = ap (λ rs. rs ++ flat_map items ls) each.0 ∙ ap (λ rs. p.receipts ++ rs) (zip_lists items ps ls each.1)
+zip_lists items (p ∷ ps) (l ∷ ls) each = ap (λ rs. rs ++ flat_map items ls) each.0
+    ∙ ap (λ rs. p.receipts ++ rs) (zip_lists items ps ls each.1)
 
-pub flat_snoc : {L : Type 0} (items : L → List Receipt) (lists : List L) (list : L) → flat_map items (lists ++ list ∷ []) ≡ flat_map items lists ++ items list
+pub flat_snoc : {L : Type 0} (items : L → List Receipt) (lists : List L) (list : L)
+    → flat_map items (lists ++ list ∷ []) ≡ flat_map items lists ++ items list
 flat_snoc items [] list = append-nil (items list)
-flat_snoc items (l ∷ ls) list = ap (λ rs. items l ++ rs) (flat_snoc items ls list) ∙ sym (append_assoc (items l) (flat_map items ls) (items list))
+flat_snoc items (l ∷ ls) list = ap (λ rs. items l ++ rs) (flat_snoc items ls list)
+    ∙ sym (append_assoc (items l) (flat_map items ls) (items list))

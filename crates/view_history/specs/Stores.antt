@@ -36,15 +36,19 @@ module _ {S : Type 0} (g : Ghosts S) where
   AreRead f stores packages = AllZip (IsRead f) stores packages
 
   -- The store at a place was asked, and all else is as it was.
-  pub record AsksAt {X E : Type 0} (Tells : Package → X → Type 0) (old new : List (Held S)) (at : ℕ) (r : Result X E) : Type 0 where
+  pub record AsksAt {X E : Type 0} (Tells : Package → X → Type 0) (old new : List (Held S)) (at : ℕ)
+      (r : Result X E) : Type 0 where
     pub was : Held S
     pub place : slice_get old at ≡ Some was
     pub last : Held S
     pub others : new ≡ slice_set old at last
     pub looked : Looks (Sees (λ f p x. Tells p x)) (state g was) (state g last) r
 
-  -- All stores were only read, if at all, and where each disk gave back what was written the answer is true of the packages that they are of.
-  pub record AsksStores {X E : Type 0} (Answer : List Package → X → Type 0) (old new : List (Held S)) (r : Result X E) : Type 0 where
+  -- All stores were only read, if at all, and where each disk gave back what was written the answer is true of the
+  -- packages that they are of.
+  pub record AsksStores {X E : Type 0} (Answer : List Package → X → Type 0) (old new : List (Held S))
+      (r : Result X E) : Type 0 where
     pub rests : AreAtRest new
     pub read : AreOnlyRead old new
-    pub told : AreClean new → IfOk r (λ x. (f : Frame) (packages : List Package) → AreRead f old packages → Answer packages x)
+    pub told : AreClean new → IfOk r (λ x. (f : Frame) (packages : List Package) → AreRead f old packages
+        → Answer packages x)

@@ -34,7 +34,8 @@ pub(crate) fn ask_each<S: Alter + Drop, A: Drop, Q: Question<S, A>>(
     question: &Q,
 ) -> Result<Vec<A>, Fault>
     requires { AreAtRest S.Store stores.old.items }
-    ensures { AsksStores S.Store (λ packages answers. AllZip (Q.tells question.now) packages answers.items) stores.old.items stores.new.items result }
+    ensures { AsksStores S.Store (λ packages answers. AllZip (Q.tells question.now) packages answers.items)
+        stores.old.items stores.new.items result }
 {
     let mut answers = Vec::new(alloc);
     for at in 0..stores.len() {

@@ -19,7 +19,8 @@ use world::asking::Question;
 /// The receipts of the package of a store, in the order of their numbers.
 fn receipts_of<S: Alter>(conn: &mut Connection<S>, alloc: Global) -> Result<Vec<Receipt>, Fault>
     requires { Rests (state S.Store conn.old) }
-    ensures { Looks (Sees (λ f p found. found.items ≡ p.receipts)) (state S.Store conn.old) (state S.Store conn.new) result }
+    ensures { Looks (Sees (λ f p found. found.items ≡ p.receipts)) (state S.Store conn.old) (state S.Store conn.new)
+        result }
 {
     match receipts(conn, alloc)? {
         Some(found) => Ok(found),
@@ -67,7 +68,8 @@ pub fn in_order(receipts: Vec<Receipt>) -> Result<Vec<Receipt>, AllocError>
     Ok(ledger)
 }
 
-/// The receipts of the packages of stores, in the order of their numbers, with all that they moved. All of them are in memory at once, as they are while a world is opened.
+/// The receipts of the packages of stores, in the order of their numbers, with all that they moved.
+/// All of them are in memory at once, as they are while a world is opened.
 ///
 /// # Errors
 ///
@@ -77,7 +79,8 @@ pub fn ledger_of<S: Alter + Drop>(
     alloc: Global,
 ) -> Result<Vec<Receipt>, Fault>
     requires { AreAtRest S.Store stores.old.items }
-    ensures { AsksStores S.Store (λ packages ledger. ledger.items ≡ ledger_of packages) stores.old.items stores.new.items result }
+    ensures { AsksStores S.Store (λ packages ledger. ledger.items ≡ ledger_of packages) stores.old.items
+        stores.new.items result }
 {
     let lists = ask_each(stores, alloc, &ReceiptsOf)?;
     let all = all_of(alloc, lists)?;

@@ -66,7 +66,8 @@ pub fn loans_of<S: Alter + Drop>(
     alloc: Global,
 ) -> Result<Vec<u64>, Fault>
     requires { AreAtRest S.Store stores.old.items }
-    ensures { AsksStores S.Store (λ packages loans. loans.items ≡ map (λ p. p.loan) packages) stores.old.items stores.new.items result }
+    ensures { AsksStores S.Store (λ packages loans. loans.items ≡ map (λ p. p.loan) packages) stores.old.items
+        stores.new.items result }
 {
     ask_each(stores, alloc, &LoanOf)
 }

@@ -48,7 +48,8 @@ fn moment_in(row: ReceiptRow, seq: i64) -> Option<Text>
 /// The moment of the receipt of a number in the package of a store, if it stands there.
 fn moment_at<S: Alter>(conn: &mut Connection<S>, number: u64) -> Result<Option<Text>, Fault>
     requires { Rests (state S.Store conn.old) }
-    ensures { Looks (Sees (λ f p found. found ≡ moment_of p.receipts number)) (state S.Store conn.old) (state S.Store conn.new) result }
+    ensures { Looks (Sees (λ f p found. found ≡ moment_of p.receipts number)) (state S.Store conn.old)
+        (state S.Store conn.new) result }
 {
     let before = before(number)?;
     let seq = stored(number)?;
@@ -94,18 +95,21 @@ pub fn first_found(found: Vec<Option<Text>>) -> Option<Text>
         .fold(None, |first, one| either(first, one))
 }
 
-/// The moment of the receipt of a number, if it stands in one of the packages of stores. Each is asked by the key of its receipts.
+/// The moment of the receipt of a number, if it stands in one of the packages of stores. Each is
+/// asked by the key of its receipts.
 ///
 /// # Errors
 ///
-/// Want of memory, a store that failed, or a number of 2^63 or more, which a column of integers cannot have. All stores are as they were.
+/// Want of memory, a store that failed, or a number of 2^63 or more, which a column of integers
+/// cannot have. All stores are as they were.
 pub fn moment_of<S: Alter + Drop>(
     stores: &mut Vec<Connection<S>>,
     alloc: Global,
     number: u64,
 ) -> Result<Option<Text>, Fault>
     requires { AreAtRest S.Store stores.old.items }
-    ensures { AsksStores S.Store (λ packages found. found ≡ moment_of (ledger_of packages) number) stores.old.items stores.new.items result }
+    ensures { AsksStores S.Store (λ packages found. found ≡ moment_of (ledger_of packages) number) stores.old.items
+        stores.new.items result }
 {
     let found = ask_each(stores, alloc, &MomentOf { number })?;
     Ok(first_found(found))
@@ -122,7 +126,8 @@ pub fn moments_of<S: Alter + Drop>(
     numbers: &[u64],
 ) -> Result<Vec<Option<Text>>, Fault>
     requires { AreAtRest S.Store stores.old.items }
-    ensures { AsksStores S.Store (λ packages moments. moments.items ≡ map (moment_of (ledger_of packages)) numbers.now) stores.old.items stores.new.items result }
+    ensures { AsksStores S.Store (λ packages moments. moments.items
+        ≡ map (moment_of (ledger_of packages)) numbers.now) stores.old.items stores.new.items result }
 {
     let mut moments = Vec::new(alloc);
     for at in 0..numbers.len() {

@@ -15,7 +15,8 @@ item_keeper r id =
 
 abbrev pub link_keeper : Register → List ℕ → List ℕ → List ℕ
 link_keeper r base other =
-    option_map_or (λ t. keeper_text r t.holder) (tie_found r.ties.items base other) (codes "<span class=\"q\">ended</span>")
+    option_map_or (λ t. keeper_text r t.holder) (tie_found r.ties.items base other)
+    (codes "<span class=\"q\">ended</span>")
 
 -- an item in a few words, where a package holds it
 abbrev pub also_told : Register → List ℕ → List ℕ
@@ -26,8 +27,10 @@ fingerprint_text fingerprint = option_map_or digest_text fingerprint []
 
 abbrev pub lent_item : Register → Moved → List ℕ
 lent_item r m =
-    codes "<tr><th scope=\"row\">" ++ (kind_word m.kind ++ (also_told r m.base ++ (codes "</th><td>" ++ (short_text m.base
-    ++ (codes "</td><td class=\"n\" data-l=\"bytes\">" ++ (decimal m.size ++ (codes "</td><td>" ++ (fingerprint_text m.fingerprint
+    codes "<tr><th scope=\"row\">" ++ (kind_word m.kind ++ (also_told r m.base
+    ++ (codes "</th><td>" ++ (short_text m.base
+    ++ (codes "</td><td class=\"n\" data-l=\"bytes\">" ++ (decimal m.size
+    ++ (codes "</td><td>" ++ (fingerprint_text m.fingerprint
     ++ (codes "</td><td data-l=\"now with\">" ++ (item_keeper r m.base ++ codes "</td></tr>\n"))))))))))
 
 abbrev pub lent_link : Register → Moved → List ℕ → List ℕ

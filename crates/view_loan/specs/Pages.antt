@@ -1,5 +1,6 @@
 -- The whole text of a custody page (HTML 5), and of which loan there is one. Profile.
-use Rattle.std.specs.Prelude.{◌≡◌, ℕ, bytes_eq, List, [], ◌∷◌, ◌++◌, length, Option, Some, None, option_map, codes, decimal, filter, flat_map}
+use Rattle.std.specs.Prelude.{◌≡◌, ℕ, bytes_eq, List, [], ◌∷◌, ◌++◌, length, Option, Some, None, option_map, codes}
+use Rattle.std.specs.Prelude.{decimal, filter, flat_map}
 use Rattle.std.specs.Option.{option_and_then, option_map_or}
 use Rattle.sheet_ledger.specs.Flows.{flow_by}
 use Rattle.sheet_types.specs.Texts.{uuid_text}
@@ -18,7 +19,8 @@ use Rattle.view_report.specs.declared.registers.Register.{Register}
 use Rattle.view_loan.specs.Lent.{lent_row}
 use Rattle.view_loan.specs.Receipts.{receipt_if}
 use Rattle.view_loan.specs.Verdicts.{verdict_text}
-use Rattle.view_loan.specs.declared.words.TheConstants.{ACCOUNT_HEAD, BODY, CHECK, DUE_HEAD, LEDGER_HEAD, LENT_HEAD, NAVIGATION, SIGNATURES}
+use Rattle.view_loan.specs.declared.words.TheConstants.{ACCOUNT_HEAD, BODY, CHECK, DUE_HEAD, LEDGER_HEAD, LENT_HEAD}
+use Rattle.view_loan.specs.declared.words.TheConstants.{NAVIGATION, SIGNATURES}
 
 -- a live package that was lent, and its lender
 abbrev pub loan_of : Register → List ℕ → Option (Live × List ℕ)
@@ -34,7 +36,8 @@ head_text r p =
 -- what went out by its receipt, the receipts that name it, and what it holds now
 abbrev pub lists_text : Register → Live → Receipt → List ℕ
 lists_text r p x =
-    LENT_HEAD.now ++ (flat_map (lent_row r) x.items ++ (LEDGER_HEAD.now ++ (flat_map (receipt_if r p.uuid) r.receipts.items
+    LENT_HEAD.now ++ (flat_map (lent_row r) x.items ++ (LEDGER_HEAD.now
+    ++ (flat_map (receipt_if r p.uuid) r.receipts.items
     ++ (DUE_HEAD.now ++ (flat_map (thing_if r p.uuid) r.things ++ flat_map (tie_if r p.uuid) r.ties.items)))))
 
 -- its account, and places for signatures
@@ -45,7 +48,8 @@ account_section r p =
 -- all but the map
 abbrev pub told_text : Register → Live → List ℕ → Receipt → List ℕ
 told_text r p lender x =
-    head_text r p ++ (verdict_text r p lender x (ledger_digest r.receipts.items) ++ (lists_text r p x ++ account_section r p))
+    head_text r p ++ (verdict_text r p lender x (ledger_digest r.receipts.items)
+    ++ (lists_text r p x ++ account_section r p))
 
 -- by the receipt that made the loan
 abbrev pub told_if : Register → Live → List ℕ → List ℕ

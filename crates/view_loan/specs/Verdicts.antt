@@ -24,7 +24,8 @@ own_loan_if r id p = if is_below id p then own_loan r p else []
 
 abbrev pub own_rows : Register → List ℕ → List ℕ
 own_rows r id =
-    codes "<li><b>Comes home after its own loans</b> " ++ (flat_map (own_loan_if r id) r.packages.items ++ codes "</li>\n")
+    codes "<li><b>Comes home after its own loans</b> " ++ (flat_map (own_loan_if r id) r.packages.items
+    ++ codes "</li>\n")
 
 -- its own loans, where it has any
 abbrev pub own_loans : Register → List ℕ → List ℕ
@@ -41,13 +42,15 @@ lending_text r p lender =
 abbrev pub amounts_text : Live → Receipt → List ℕ
 amounts_text p x =
     codes "<li><b>Went out</b> " ++ (sums_text x.tiles x.media x.rows x.links
-    ++ (codes "</li>\n<li><b>Due home</b> " ++ (sums_text p.sums.tiles p.sums.media p.sums.rows p.sums.links ++ codes "</li>\n")))
+    ++ (codes "</li>\n<li><b>Due home</b> " ++ (sums_text p.sums.tiles p.sums.media p.sums.rows p.sums.links
+    ++ codes "</li>\n")))
 
 -- by which request, and the digest of the ledger
 abbrev pub request_text : Receipt → List ℕ → List ℕ
 request_text x digest =
     codes "<li class=\"big\"><b>Request</b> <code class=\"line\">" ++ (escaped x.line
-    ++ (codes "</code></li>\n<li class=\"big\"><b>SHA-256 of the ledger</b> <code class=\"sha\">" ++ (encode_lower digest
+    ++ (codes "</code></li>\n<li class=\"big\"><b>SHA-256 of the ledger</b> <code class=\"sha\">"
+    ++ (encode_lower digest
     ++ codes "</code></li>\n</ul>\n</section>\n")))
 
 abbrev pub verdict_text : Register → Live → List ℕ → Receipt → List ℕ → List ℕ

@@ -1,6 +1,7 @@
 //! What was lent, and who has each thing now.
 ghost use Rattle.std.specs.Prelude.{◌≡◌, ◌++◌, IfOk, flat_map, string_bytes};
-ghost use Rattle.view_loan.specs.Lent.{also_told, fingerprint_text, item_keeper, lent_item, lent_link, lent_row, link_keeper};
+ghost use Rattle.view_loan.specs.Lent.{also_told, fingerprint_text, item_keeper, lent_item, lent_link, lent_row};
+ghost use Rattle.view_loan.specs.Lent.{link_keeper};
 
 use crate::pieces::{put_keeper, put_told_pair, tie_found};
 use sheet_types::receipt::Moved;
@@ -84,7 +85,8 @@ fn put_lent_link(
     moved: &Moved,
     other: Uuid,
 ) -> Result<(), AllocError>
-    ensures { IfOk result (λ _. string_bytes text.new ≡ string_bytes text.old ++ lent_link register.now moved.now other) }
+    ensures { IfOk result (λ _. string_bytes text.new ≡ string_bytes text.old
+        ++ lent_link register.now moved.now other) }
 {
     put(text, "<tr><th scope=\"row\">")?;
     put(text, kind_word(moved.kind))?;
@@ -112,7 +114,8 @@ pub(crate) fn put_all_lent(
     register: &Register,
     items: &[Moved],
 ) -> Result<(), AllocError>
-    ensures { IfOk result (λ _. string_bytes text.new ≡ string_bytes text.old ++ flat_map (lent_row register.now) items.now) }
+    ensures { IfOk result (λ _. string_bytes text.new ≡ string_bytes text.old
+        ++ flat_map (lent_row register.now) items.now) }
 {
     for moved in items {
         put_lent(text, register, moved)?;

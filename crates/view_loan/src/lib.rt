@@ -1,4 +1,5 @@
-//! The custody page of one loan: what was lent, who has it now, what is due home, and places to sign. Functions of values, with no world and no reader.
+//! The custody page of one loan: what was lent, who has it now, what is due home, and places to
+//! sign. Functions of values, with no world and no reader.
 #![tactic(auto)]
 
 pub mod lent;

@@ -1,7 +1,8 @@
 //! A whole custody page.
 ghost use Rattle.std.specs.Prelude.{◌≡◌, ◌++◌, IfOk, IsTrue, length, option_map, string_bytes};
 ghost use Rattle.sheet_types.specs.Matrix.{is_good_frame};
-ghost use Rattle.view_loan.specs.Pages.{IsOwn, TellsLoan, account_section, end_text, head_text, lists_text, loan_of, told_if, told_text};
+ghost use Rattle.view_loan.specs.Pages.{IsOwn, TellsLoan, account_section, end_text, head_text, lists_text, loan_of};
+ghost use Rattle.view_loan.specs.Pages.{told_if, told_text};
 
 use crate::lent::put_all_lent;
 use crate::receipts::put_rows;
@@ -69,7 +70,8 @@ fn put_lists(
     live: &Live,
     receipt: &Receipt,
 ) -> Result<(), AllocError>
-    ensures { IfOk result (λ _. string_bytes text.new ≡ string_bytes text.old ++ lists_text register.now live.now receipt.now) }
+    ensures { IfOk result (λ _. string_bytes text.new ≡ string_bytes text.old
+        ++ lists_text register.now live.now receipt.now) }
 {
     put(text, LENT_HEAD)?;
     put_all_lent(text, register, receipt.items.as_slice())?;
@@ -88,7 +90,8 @@ fn put_own_account(
     register: &Register,
     live: &Live,
 ) -> Result<(), OutOfMemory>
-    ensures { IfOk result (λ _. string_bytes text.new ≡ string_bytes text.old ++ account_section register.now live.now) }
+    ensures { IfOk result (λ _. string_bytes text.new ≡ string_bytes text.old
+        ++ account_section register.now live.now) }
 {
     let flows = flows(alloc, &register.receipts)?;
     let flow = flow_of(&flows, live.uuid);
@@ -107,7 +110,8 @@ fn put_told(
     lender: Uuid,
     receipt: &Receipt,
 ) -> Result<(), OutOfMemory>
-    ensures { IfOk result (λ _. string_bytes text.new ≡ string_bytes text.old ++ told_text register.now live.now lender receipt.now) }
+    ensures { IfOk result (λ _. string_bytes text.new ≡ string_bytes text.old
+        ++ told_text register.now live.now lender receipt.now) }
 {
     let digest = ledger_digest(alloc, &register.receipts)?;
     put_head(text, register, live)?;
@@ -170,7 +174,8 @@ fn put_end(text: &mut String, own: &Register, live: Live) -> Result<(), AllocErr
     Ok(())
 }
 
-/// The custody page of a loan: one file of HTML 5 that needs nothing else. There is none of what is no loan, or does not live.
+/// The custody page of a loan: one file of HTML 5 that needs nothing else. There is none of what is
+/// no loan, or does not live.
 ///
 /// # Errors
 ///

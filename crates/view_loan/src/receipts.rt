@@ -22,7 +22,8 @@ fn put_moved(text: &mut String, register: &Register, moved: &Moved) -> Result<()
 
 /// Puts what a receipt moved: the thing where it is one, else how much.
 fn put_what(text: &mut String, register: &Register, receipt: &Receipt) -> Result<(), AllocError>
-    ensures { IfOk result (λ _. string_bytes text.new ≡ string_bytes text.old ++ told_what register.now receipt.now receipt.now.items) }
+    ensures { IfOk result (λ _. string_bytes text.new ≡ string_bytes text.old
+        ++ told_what register.now receipt.now receipt.now.items) }
 {
     match receipt.items.as_slice() {
         [one] => put_moved(text, register, one),
@@ -86,7 +87,8 @@ fn put_row_if(
     loan: Uuid,
     receipt: &Receipt,
 ) -> Result<(), AllocError>
-    ensures { IfOk result (λ _. string_bytes text.new ≡ string_bytes text.old ++ receipt_if register.now loan receipt.now) }
+    ensures { IfOk result (λ _. string_bytes text.new ≡ string_bytes text.old
+        ++ receipt_if register.now loan receipt.now) }
 {
     if names_package(loan, receipt) {
         put_row(text, register, receipt)
@@ -102,7 +104,8 @@ pub(crate) fn put_rows(
     loan: Uuid,
     receipts: &[Receipt],
 ) -> Result<(), AllocError>
-    ensures { IfOk result (λ _. string_bytes text.new ≡ string_bytes text.old ++ flat_map (receipt_if register.now loan) receipts.now) }
+    ensures { IfOk result (λ _. string_bytes text.new ≡ string_bytes text.old
+        ++ flat_map (receipt_if register.now loan) receipts.now) }
 {
     for receipt in receipts {
         put_row_if(text, register, loan, receipt)?;

@@ -1,7 +1,8 @@
 //! What a loan is: who lent it, when, by which request, and what it waits for.
 ghost use Rattle.std.specs.Prelude.{◌≡◌, ◌++◌, IfOk, flat_map, string_bytes};
 ghost use Rattle.std.specs.List.{list_any};
-ghost use Rattle.view_loan.specs.Verdicts.{amounts_text, is_below, lending_text, own_loan, own_loan_if, own_loans, own_rows, request_text, verdict_text};
+ghost use Rattle.view_loan.specs.Verdicts.{amounts_text, is_below, lending_text, own_loan, own_loan_if, own_loans};
+ghost use Rattle.view_loan.specs.Verdicts.{own_rows, request_text, verdict_text};
 
 use crate::pieces::{put_keeper, put_whole_name};
 use crate::words::VERDICT;
@@ -45,7 +46,8 @@ fn put_own_loan_if(
     loan: Uuid,
     live: &Live,
 ) -> Result<(), AllocError>
-    ensures { IfOk result (λ _. string_bytes text.new ≡ string_bytes text.old ++ own_loan_if register.now loan live.now) }
+    ensures { IfOk result (λ _. string_bytes text.new ≡ string_bytes text.old
+        ++ own_loan_if register.now loan live.now) }
 {
     if is_below(loan, live) {
         put_own_loan(text, register, live)
@@ -61,7 +63,8 @@ fn put_own_among(
     loan: Uuid,
     packages: &[Live],
 ) -> Result<(), AllocError>
-    ensures { IfOk result (λ _. string_bytes text.new ≡ string_bytes text.old ++ flat_map (own_loan_if register.now loan) packages.now) }
+    ensures { IfOk result (λ _. string_bytes text.new ≡ string_bytes text.old
+        ++ flat_map (own_loan_if register.now loan) packages.now) }
 {
     for live in packages {
         put_own_loan_if(text, register, loan, live)?;
@@ -97,7 +100,8 @@ fn put_lending(
     live: &Live,
     lender: Uuid,
 ) -> Result<(), AllocError>
-    ensures { IfOk result (λ _. string_bytes text.new ≡ string_bytes text.old ++ lending_text register.now live.now lender) }
+    ensures { IfOk result (λ _. string_bytes text.new ≡ string_bytes text.old
+        ++ lending_text register.now live.now lender) }
 {
     put_whole_name(text, &register.names, live.uuid)?;
     put(text, "</li>\n<li class=\"big\"><b>Lender</b> ")?;
@@ -162,7 +166,8 @@ pub(crate) fn put_verdict(
     receipt: &Receipt,
     digest: &[u8; 32],
 ) -> Result<(), AllocError>
-    ensures { IfOk result (λ _. string_bytes text.new ≡ string_bytes text.old ++ verdict_text register.now live.now lender receipt.now digest.now) }
+    ensures { IfOk result (λ _. string_bytes text.new ≡ string_bytes text.old
+        ++ verdict_text register.now live.now lender receipt.now digest.now) }
 {
     put(text, VERDICT)?;
     put_lending(text, register, live, lender)?;

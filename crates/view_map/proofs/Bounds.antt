@@ -14,7 +14,8 @@ pub span_range : (z : ℤ) → pos 1 ≤ℤ z → z ≤ℤ pos 2000000000000 →
 span_range (pos n) low high = (omega (arith, ints, low), omega (arith, ints, high))
 span_range (negsuc n) low high = absurd (omega (arith, ints, low))
 
-pub product_range : (a b : ℤ) (most : ℕ) → pos 1 ≤ℤ a → pos 1 ≤ℤ b → (a *ℤ b) ≤ℤ pos most → unsigned_abs a * unsigned_abs b ≤ most
+pub product_range : (a b : ℤ) (most : ℕ) → pos 1 ≤ℤ a → pos 1 ≤ℤ b → (a *ℤ b) ≤ℤ pos most
+    → unsigned_abs a * unsigned_abs b ≤ most
 product_range (pos a) (pos b) most some more whole = omega (arith, ints, whole)
 product_range (negsuc a) b most some more whole = absurd (omega (arith, ints, some))
 product_range (pos a) (negsuc b) most some more whole = absurd (omega (arith, ints, more))
@@ -35,7 +36,9 @@ product_below n m w most few whole =
 -- a product of two numbers of 64 bits
 pub product_of_words : (a b : ℕ) → a < 2 ^ 64 → b < 2 ^ 64 → a * b ≤ 340282366920938463426481119284349108225
 product_of_words a b a_fits b_fits =
-    let most : a * b ≤ 18446744073709551615 * 18446744073709551615 = mul-le-mul {n₁ = a} {m₁ = b} {n₂ = 18446744073709551615} {m₂ = 18446744073709551615} (omega (arith, a_fits)) (omega (arith, b_fits)) in
+    let most : a * b ≤ 18446744073709551615 * 18446744073709551615 =
+    mul-le-mul {n₁ = a} {m₁ = b} {n₂ = 18446744073709551615} {m₂ = 18446744073709551615}
+    (omega (arith, a_fits)) (omega (arith, b_fits)) in
     omega (arith, most)
 
 -- the layout by the two axes

@@ -1,5 +1,6 @@
 -- Walking up from the finest zoom.
-use Rattle.std.specs.Prelude.{◌≡◌, ℕ, suc, ◌-◌, ◌*◌, ◌<◌, ◌≤◌, nat_le, true, false, refl, ℤ, pos, negsuc, ◌+ℤ◌, ◌-ℤ◌, ◌≤ℤ◌, unsigned_abs}
+use Rattle.std.specs.Prelude.{◌≡◌, ℕ, suc, ◌-◌, ◌*◌, ◌<◌, ◌≤◌, nat_le, true, false, refl, ℤ, pos, negsuc, ◌+ℤ◌, ◌-ℤ◌}
+use Rattle.std.specs.Prelude.{◌≤ℤ◌, unsigned_abs}
 use Rattle.std.proofs.Common.{arith, ◌∙◌, ap}
 use Rattle.std.proofs.lemmas.Int.{ints}
 use Rattle.sheet_types.specs.declared.frame.Frame.{Frame}
@@ -13,7 +14,8 @@ pub level_below : (first : ℤ) (k : ℕ) → unsigned_abs ((first +ℤ pos k) -
 level_below first k = let same : ((first +ℤ pos k) -ℤ first) ≡ pos k = omega (arith, ints) in ap unsigned_abs same
 
 -- whether a level is small, by its layout
-pub small_by_layout : (f : Frame) (level : ℕ) (zoom : ℤ) (l : Layout) → l ≡ layout_of f zoom → zoom ≡ f.first_zoom +ℤ pos level → nat_le (l.columns * l.rows) 10000 ≡ is_small f level
+pub small_by_layout : (f : Frame) (level : ℕ) (zoom : ℤ) (l : Layout) → l ≡ layout_of f zoom
+    → zoom ≡ f.first_zoom +ℤ pos level → nat_le (l.columns * l.rows) 10000 ≡ is_small f level
 small_by_layout f level zoom l same is =
     let deep : level_of f zoom ≡ level = ap (level_of f) is ∙ level_below f.first_zoom level in
     ap (λ (x : Layout). nat_le (x.columns * x.rows) 10000) same ∙ ap (is_small f) deep
@@ -31,8 +33,10 @@ large_here : (f : Frame) (k : ℕ) → is_small f k ≡ false → finest_small f
 unfolding finest_small
 large_here f k large = rw large refl
 
-pub large_below : (f : Frame) (level : ℕ) → 0 < level → is_small f (level - 1) ≡ false → finest_small f level ≡ finest_small f (level - 1)
-large_below f level some large = let up : level ≡ suc (level - 1) = omega arith in ap (finest_small f) up ∙ large_here f (level - 1) large
+pub large_below : (f : Frame) (level : ℕ) → 0 < level → is_small f (level - 1) ≡ false
+    → finest_small f level ≡ finest_small f (level - 1)
+large_below f level some large = let up : level ≡ suc (level - 1) =
+    omega arith in ap (finest_small f) up ∙ large_here f (level - 1) large
 
 -- none is
 pub none_small : (f : Frame) (level : ℕ) → level ≤ 0 → finest_small f level ≡ 0

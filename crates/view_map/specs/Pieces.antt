@@ -1,5 +1,6 @@
 -- The texts of which a map is made (SVG 1.1). Profile.
-use Rattle.std.specs.Prelude.{ℕ, zero, suc, ◌+◌, ◌-◌, ◌*◌, ◌%◌, Bool, ◌&&◌, nat_le, if◌then◌else◌, List, [], ◌∷◌, ◌++◌, max, codes, decimal, slice_index_or}
+use Rattle.std.specs.Prelude.{ℕ, zero, suc, ◌+◌, ◌-◌, ◌*◌, ◌%◌, Bool, ◌&&◌, nat_le, if◌then◌else◌, List, [], ◌∷◌}
+use Rattle.std.specs.Prelude.{◌++◌, max, codes, decimal, slice_index_or}
 use Rattle.std.specs.List.{flat_map}
 use Rattle.sheet_types.specs.Texts.{uuid_text}
 use Rattle.view_map.specs.Layout.{map_width, map_height, column_left, row_top, line_at, sheets_on}
@@ -98,7 +99,8 @@ place_text zoom column row =
     decimal zoom ++ (codes "/" ++ (decimal column ++ (codes "/" ++ (decimal row ++ codes "</title></rect>\n"))))
 
 abbrev pub shape_box : Layout → Shape → List ℕ
-shape_box l s = box_text (column_left l s.sheet.place.column + inset s.layer) (row_top l s.sheet.place.row + inset s.layer)
+shape_box l s = box_text (column_left l s.sheet.place.column + inset s.layer)
+    (row_top l s.sheet.place.row + inset s.layer)
     (l.width - 2 * inset s.layer) (l.height - 2 * inset s.layer)
 
 -- the rectangle of a sheet
@@ -115,7 +117,8 @@ shapes_text l zoom shapes = flat_map (shape_text l zoom) shapes
 -- the colour of a package
 unfoldable pub mark_text : ℕ → List ℕ → List ℕ
 mark_text top fill =
-    codes "<rect x=\"20\" y=\"" ++ (decimal top ++ (codes "\" width=\"12\" height=\"12\" fill=\"" ++ (fill ++ codes "\"/>\n")))
+    codes "<rect x=\"20\" y=\"" ++ (decimal top ++ (codes "\" width=\"12\" height=\"12\" fill=\""
+    ++ (fill ++ codes "\"/>\n")))
 
 -- its UUID, how many sheets of the map it has, and its depth
 unfoldable pub told_text : ℕ → List ℕ → ℕ → ℕ → List ℕ

@@ -28,7 +28,8 @@ fn side(own: u64, other: u64) -> u64
     24 * own / own.min(other)
 }
 
-/// The layout of a zoom that the frame has. Places are drawn as they lie on the ground, the shorter side 24 units long, the other to a whole unit.
+/// The layout of a zoom that the frame has. Places are drawn as they lie on the ground, the shorter
+/// side 24 units long, the other to a whole unit.
 pub fn layout_of(frame: &Frame, zoom: i64) -> Layout
     requires good { IsTrue (is_good_frame frame.now) }
     requires level { IsTrue (has_level frame.now zoom) }

@@ -1,4 +1,5 @@
-//! A map of who holds which sheets: of a frame, a zoom and what each package has there, an SVG picture (SVG 1.1, UTF-8). Functions of values, with no world and no reader.
+//! A map of who holds which sheets: of a frame, a zoom and what each package has there, an SVG
+//! picture (SVG 1.1, UTF-8). Functions of values, with no world and no reader.
 #![tactic(auto)]
 
 pub mod colours;

@@ -27,7 +27,8 @@ fn add_shapes(
 ) -> Result<(), OutOfMemory>
     requires fits { IsLayout layout.now }
     requires places { AllPass (λ s. is_on layout.now s.place) sheets.now }
-    ensures { OnOk result (string_bytes text.new ≡ string_bytes text.old ++ shapes_text layout.now zoom (layered layout.now [] sheets.now)) }
+    ensures { OnOk result (string_bytes text.new ≡ string_bytes text.old
+        ++ shapes_text layout.now zoom (layered layout.now [] sheets.now)) }
 {
     let mut layers = HashMap::new(alloc);
     for sheet in sheets {
@@ -78,7 +79,9 @@ fn add_legend(
     Ok(())
 }
 
-/// The map of a zoom of a frame as an SVG picture: who holds which of its sheets, of these packages in the order of their UUIDs, which gives each its colour. A place that the zoom does not have is left out. The text has about 150 bytes for each sheet and 250 for each package.
+/// The map of a zoom of a frame as an SVG picture: who holds which of its sheets, of these packages
+/// in the order of their UUIDs, which gives each its colour. A place that the zoom does not have is
+/// left out. The text has about 150 bytes for each sheet and 250 for each package.
 ///
 /// # Errors
 ///

@@ -1,7 +1,9 @@
 //! The texts of which a map is made (SVG 1.1).
 ghost use Rattle.std.specs.Prelude.{◌≡◌, ◌^◌, ◌*◌, ◌<◌, ◌≤◌, ◌-◌, ◌++◌, IfOk, OnOk, string_bytes};
 ghost use Rattle.view_map.specs.Layout.{IsLayout, column_left, line_at, map_height, map_width, row_top, sheets_on};
-ghost use Rattle.view_map.specs.Pieces.{box_text, column_line, first_lines, grid_text, has_grid, head_text, legend_line, mark_text, outline_text, owner_text, page_text, page_width, place_text, row_line, shape_box, shape_text, title_text, told_text};
+ghost use Rattle.view_map.specs.Pieces.{box_text, column_line, first_lines, grid_text, has_grid, head_text};
+ghost use Rattle.view_map.specs.Pieces.{legend_line, mark_text, outline_text, owner_text, page_text, page_width};
+ghost use Rattle.view_map.specs.Pieces.{place_text, row_line, shape_box, shape_text, title_text, told_text};
 
 use crate::colours::colour;
 use crate::holders::Holder;
@@ -151,7 +153,8 @@ fn row_line(alloc: Global, layout: &Layout, row: u64) -> Result<String, AllocErr
 /// Adds the lines of all columns.
 fn add_column_lines(alloc: Global, path: &mut String, layout: &Layout) -> Result<(), AllocError>
     requires { IsLayout layout.now }
-    ensures { OnOk result (string_bytes path.new ≡ string_bytes path.old ++ first_lines (column_line layout.now) layout.now.columns) }
+    ensures { OnOk result (string_bytes path.new ≡ string_bytes path.old
+        ++ first_lines (column_line layout.now) layout.now.columns) }
 {
     for column in 0..layout.columns {
         let line = column_line(alloc, layout, column)?;
@@ -163,7 +166,8 @@ fn add_column_lines(alloc: Global, path: &mut String, layout: &Layout) -> Result
 /// Adds the lines of all rows.
 fn add_row_lines(alloc: Global, path: &mut String, layout: &Layout) -> Result<(), AllocError>
     requires { IsLayout layout.now }
-    ensures { OnOk result (string_bytes path.new ≡ string_bytes path.old ++ first_lines (row_line layout.now) layout.now.rows) }
+    ensures { OnOk result (string_bytes path.new ≡ string_bytes path.old
+        ++ first_lines (row_line layout.now) layout.now.rows) }
 {
     for row in 0..layout.rows {
         let line = row_line(alloc, layout, row)?;
@@ -229,7 +233,8 @@ fn shape_box(
     requires column { sheet.now.place.column < layout.now.columns }
     requires row { sheet.now.place.row < layout.now.rows }
     requires layer { layer ≤ 4 }
-    ensures { IfOk result (λ text. string_bytes text ≡ shape_box layout.now (record { sheet = sheet.now; layer = layer })) }
+    ensures { IfOk result (λ text. string_bytes text ≡ shape_box layout.now
+        (record { sheet = sheet.now; layer = layer })) }
 {
     let inset = 1 + 2 * layer;
     let x = column_left(layout, sheet.place.column) + inset;
@@ -255,7 +260,8 @@ pub(crate) fn shape_text(
     requires column { sheet.now.place.column < layout.now.columns }
     requires row { sheet.now.place.row < layout.now.rows }
     requires layer { layer ≤ 4 }
-    ensures { IfOk result (λ text. string_bytes text ≡ shape_text layout.now zoom (record { sheet = sheet.now; layer = layer })) }
+    ensures { IfOk result (λ text. string_bytes text ≡ shape_text layout.now zoom
+        (record { sheet = sheet.now; layer = layer })) }
 {
     let mut text = shape_box(alloc, layout, sheet, layer)?;
     let owner = owner_text(alloc, colour(sheet.index), sheet.uuid)?;
@@ -300,7 +306,8 @@ fn told_text(
     )
 }
 
-/// The line of a package by its place in the list: its colour, its UUID, how many sheets of the map it has, and its depth.
+/// The line of a package by its place in the list: its colour, its UUID, how many sheets of the map
+/// it has, and its depth.
 pub(crate) fn legend_line(
     alloc: Global,
     layout: &Layout,

@@ -45,7 +45,8 @@ fn finest_small(frame: &Frame, levels: u64) -> u64
     0
 }
 
-/// The zoom that is drawn where none is asked for: the finest that has at most 10,000 places, or the first where none has.
+/// The zoom that is drawn where none is asked for: the finest that has at most 10,000 places, or
+/// the first where none has.
 pub fn default_zoom(frame: &Frame) -> i64
     requires { IsTrue (is_good_frame frame.now) }
     ensures zoom { result ≡ default_zoom frame.now }

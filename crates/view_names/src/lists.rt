@@ -103,7 +103,8 @@ fn check_header(row: ByteRecord) -> Result<(), ListFault>
 /// The names that the records after the header are.
 fn names_in(alloc: Global, rows: IntoIter<ByteRecord>) -> Result<Vec<Name>, ListFault>
     ensures asks { IfOk result (λ names. AllZip Names (map fields_of (into_iter_items rows)) names.items) }
-    ensures fault { IfErr result (λ met. (met ≡ fault.Memory) ⊎ IsFaultFrom 1 (map fields_of (into_iter_items rows)) met) }
+    ensures fault { IfErr result (λ met. (met ≡ fault.Memory)
+        ⊎ IsFaultFrom 1 (map fields_of (into_iter_items rows)) met) }
 {
     let mut names = Vec::new(alloc);
     for row in rows {
@@ -116,14 +117,17 @@ fn names_in(alloc: Global, rows: IntoIter<ByteRecord>) -> Result<Vec<Name>, List
     Ok(names)
 }
 
-/// The names of a list, of its records and how they ended. A fault of the records comes before one of their end: Header where there is no record at all, Read where the reader failed after records that have no fault.
+/// The names of a list, of its records and how they ended. A fault of the records comes before one
+/// of their end: Header where there is no record at all, Read where the reader failed after records
+/// that have no fault.
 pub(crate) fn names_of(
     alloc: Global,
     rows: Vec<ByteRecord>,
     ended: Ending,
 ) -> Result<Vec<Name>, ListFault>
     ensures list { IfOk result (λ names. (ended ≡ ending.End) × AreList (map fields_of rows.items) names.items) }
-    ensures fault { IfErr result (λ met. (met ≡ fault.Memory) ⊎ IsFaultOf (map fields_of rows.items) met ⊎ IsFaultOfEnd (map fields_of rows.items) ended met) }
+    ensures fault { IfErr result (λ met. (met ≡ fault.Memory) ⊎ IsFaultOf (map fields_of rows.items) met
+        ⊎ IsFaultOfEnd (map fields_of rows.items) ended met) }
 {
     let mut rest = rows.into_iter();
     let Some(first) = rest.next() else {
@@ -153,11 +157,17 @@ fn ending_of<R: ListSource>(ended: Ending) -> Ending
     ended
 }
 
-/// The names of a list: a record of the names of the columns, and after it one record for each name. Everything is read and judged before any name is answered. A byte order mark at the start and blank lines are passed over; CR, LF and CR LF end records (RFC 4180, section 2, and beyond it as `csv` reads). A reader that fails is Read, unless a record before it is a fault. Of a text in memory Read is told of nothing but a record that cannot be read.
+/// The names of a list: a record of the names of the columns, and after it one record for each
+/// name. Everything is read and judged before any name is answered. A byte order mark at the start
+/// and blank lines are passed over; CR, LF and CR LF end records (RFC 4180, section 2, and beyond
+/// it as `csv` reads). A reader that fails is Read, unless a record before it is a fault. Of a text
+/// in memory Read is told of nothing but a record that cannot be read.
 pub fn read_names<R: ListSource + Drop>(alloc: Global, reader: R) -> Result<Vec<Name>, ListFault>
     ensures list { IfOk result (λ names. IfSome (R.remaining reader) (λ text. IsList text names.items)) }
-    ensures fault { IfErr result (λ met. (met ≡ fault.Read) ⊎ (met ≡ fault.Memory) ⊎ IfSome (R.remaining reader) (λ text. MeetsFirst text met)) }
-    ensures cause { R.never_fails → IfErr result (λ met. (met ≡ fault.Memory) ⊎ IfSome (R.remaining reader) (λ text. MeetsFirst text met)) }
+    ensures fault { IfErr result (λ met. (met ≡ fault.Read) ⊎ (met ≡ fault.Memory)
+        ⊎ IfSome (R.remaining reader) (λ text. MeetsFirst text met)) }
+    ensures cause { R.never_fails → IfErr result (λ met. (met ≡ fault.Memory)
+        ⊎ IfSome (R.remaining reader) (λ text. MeetsFirst text met)) }
 {
     let (rows, ended) = read_records(alloc, reader);
     names_of(alloc, rows, ending_of::<R>(ended))

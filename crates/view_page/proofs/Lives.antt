@@ -31,12 +31,20 @@ pub life_next : (w : World) (sights : List PackageSight) (sums : List Sums) (loa
       sums = x;
     } ∷ [] ≡ map (live_of w) (take (i + 1) w.packages)
 life_next w sights sums loans receipts kept made told i s x l k counted is is_x is_l lives so =
-    let seen = at_both sight_of (λ (p : Package). record { uuid = p.uuid; parent = p.parent; depth = p.depth; ticket = ticket w p.uuid }) sights w.packages i s kept.seen is in
+    let seen = at_both sight_of (λ (p : Package). record {
+      uuid = p.uuid;
+      parent = p.parent;
+      depth = p.depth;
+      ticket =
+          ticket w p.uuid;
+    }) sights w.packages i s kept.seen is in
     let p : Package = seen.0 in
     let of_sums = at_place sums_held sums w.packages i x kept.held is_x in
     let of_loans = at_place (λ (q : Package). q.loan) loans w.packages i l made is_l in
-    let sums_is : x ≡ sums_held p = of_sums.2 ∙ ap sums_held (some_once (slice_get w.packages i) of_sums.0 p of_sums.1 seen.1) in
-    let loan_is : l ≡ p.loan = of_loans.2 ∙ ap (λ (q : Package). q.loan) (some_once (slice_get w.packages i) of_loans.0 p of_loans.1 seen.1) in
+    let sums_is : x ≡ sums_held p = of_sums.2 ∙ ap sums_held
+    (some_once (slice_get w.packages i) of_sums.0 p of_sums.1 seen.1) in
+    let loan_is : l ≡ p.loan = of_loans.2 ∙ ap (λ (q : Package). q.loan)
+    (some_once (slice_get w.packages i) of_loans.0 p of_loans.1 seen.1) in
     let uuid_is : s.uuid ≡ p.uuid = ap (λ (v : ModelSight). v.uuid) seen.2 in
     let parent_is : s.parent ≡ p.parent = ap (λ (v : ModelSight). v.parent) seen.2 in
     let depth_is : s.depth ≡ p.depth = ap (λ (v : ModelSight). v.depth) seen.2 in
@@ -61,5 +69,6 @@ life_next w sights sums loans receipts kept made told i s x l k counted is is_x 
       ticket = ticket_is n;
       sums = sums_is n;
     } in
-    ap (λ ls. ls ++ live ∷ []) so ∙ ap (λ r. map (live_of w) (take i w.packages) ++ r ∷ []) live_is ∙ sym (map_snoc (live_of w) (take i w.packages) p)
+    ap (λ ls. ls ++ live ∷ []) so ∙ ap (λ r. map (live_of w) (take i w.packages) ++ r ∷ []) live_is
+    ∙ sym (map_snoc (live_of w) (take i w.packages) p)
     ∙ ap (map (live_of w)) (sym (take_next w.packages i p seen.1))

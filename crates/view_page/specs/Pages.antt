@@ -44,10 +44,12 @@ as_bytes bytes (Ok found) = Ok (option_map bytes found)
 as_bytes bytes (Err fault) = Err fault
 
 -- It is printed; or there is no such loan, or memory or a store gave out before, and nothing is.
-abbrev pub ShowsText : {W : Type 0} → Result (Option (List ℕ)) Fault → W → W → Option (List ℕ) → Option (List ℕ) → Ending → Type 0
+abbrev pub ShowsText : {W : Type 0} → Result (Option (List ℕ)) Fault → W → W → Option (List ℕ) → Option (List ℕ)
+    → Ending → Type 0
 ShowsText (Ok (Some text)) writer writer' before after ending = Prints text done before after ending
 ShowsText (Ok None) writer writer' before after ending = (ending ≡ NoSuchPackage) × (writer' ≡ writer)
-ShowsText (Err fault) writer writer' before after ending = (ending ≡ Usual (Stopped (of_fault fault))) × (writer' ≡ writer)
+ShowsText (Err fault) writer writer' before after ending = (ending ≡ Usual (Stopped (of_fault fault)))
+    × (writer' ≡ writer)
 
 -- the page of a folder that is not opened, where its stores stand for no world
 abbrev pub text_of_fault : OpenFault → Option (List ℕ)
@@ -61,7 +63,8 @@ page_of_fault (Loan id) fault = text_of_fault fault
 page_of_fault Map fault = None
 
 -- It is printed, and the program ends as such a folder ends it; or memory gave out before.
-abbrev pub PrintsFault : {W : Type 0} → OpenFault → Option (List ℕ) → W → W → Option (List ℕ) → Option (List ℕ) → Ending → Type 0
+abbrev pub PrintsFault : {W : Type 0} → OpenFault → Option (List ℕ) → W → W → Option (List ℕ) → Option (List ℕ)
+    → Ending → Type 0
 PrintsFault fault (Some text) writer writer' before after ending = Prints text (Unopened fault) before after ending
 PrintsFault fault None writer writer' before after ending = (ending ≡ Unopened fault) × (writer' ≡ writer)
 

@@ -72,7 +72,8 @@ fn contents_in<S: Alter + Drop>(
     world: &mut World<S>,
     holder: Uuid,
 ) -> Result<Contents, Fault>
-    ensures told { TellsOf S.Store (λ w contents. AreContents w (λ u. u) (holder ∷ []) contents) world.old world.new result }
+    ensures told { TellsOf S.Store (λ w contents. AreContents w (λ u. u) (holder ∷ []) contents) world.old world.new
+        result }
     ensures read { IsRead S.Store world.old world.new }
 {
     let (things, links) = parts_in(alloc, world, holder, &ThingOf { holder })?;
@@ -99,7 +100,8 @@ pub(crate) fn contents_among<S: Alter + Drop>(
     world: &mut World<S>,
     sights: &[PackageSight],
 ) -> Result<Contents, Fault>
-    ensures told { TellsOf S.Store (λ w contents. AreContents w (λ s. s.uuid) sights.now contents) world.old world.new result }
+    ensures told { TellsOf S.Store (λ w contents. AreContents w (λ s. s.uuid) sights.now contents) world.old world.new
+        result }
     ensures read { IsUntouched S.Store world.old world.new }
 {
     let mut all = Contents {

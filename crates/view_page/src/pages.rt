@@ -114,7 +114,8 @@ fn print<W: Write>(writer: &mut W, text: &str, due: Ending) -> Ending
 
 /// Writes what was asked, or tells that there is no such loan, or what gave out.
 fn show<W: Write>(writer: &mut W, found: Result<Option<String>, Fault>) -> Ending
-    ensures { ShowsText (as_bytes string_bytes found) writer.old writer.new (W.contents writer.old) (W.contents writer.new) result }
+    ensures { ShowsText (as_bytes string_bytes found) writer.old writer.new (W.contents writer.old)
+        (W.contents writer.new) result }
 {
     match found {
         Ok(Some(text)) => print(writer, text.as_str(), DONE),
@@ -202,7 +203,8 @@ pub fn report_for<W: Write>(
     paper: Paper,
     writer: &mut W,
 ) -> Ending
-    ensures { OpensPage ⟦<FolderStore as Store>⟧ names.items paper writer.old writer.new (W.contents writer.old) (W.contents writer.new) result }
+    ensures { OpensPage ⟦<FolderStore as Store>⟧ names.items paper writer.old writer.new (W.contents writer.old)
+        (W.contents writer.new) result }
 {
     match open_folder(rt, folder) {
         Ok(

@@ -11,7 +11,8 @@ use Rattle.view_project.specs.Parts.{beginning, closing, opening, relations, tre
 abbrev pub reference_system : ℤ → List ℕ
 reference_system srs =
     if int_lt (pos 0) srs
-    then codes "<spatialrefsys><srsid>1</srsid><authid>EPSG:" ++ (signed_decimal srs ++ codes "</authid></spatialrefsys>")
+    then codes "<spatialrefsys><srsid>1</srsid><authid>EPSG:"
+    ++ (signed_decimal srs ++ codes "</authid></spatialrefsys>")
     else []
 
 -- a bound in whole units, as the element of this name

@@ -1,6 +1,7 @@
 //! The layers of a project: tables of the export as vectors, and its sheets as a picture.
 ghost use Rattle.std.specs.Prelude.{◌≡◌, IfOk, string_bytes};
-ghost use Rattle.view_project.specs.Layers.{attributes, drawing, layer_of, layers, links, marks, outlines, sheets, source, tables};
+ghost use Rattle.view_project.specs.Layers.{attributes, drawing, layer_of, layers, links, marks, outlines, sheets};
+ghost use Rattle.view_project.specs.Layers.{source, tables};
 
 use crate::styles::{
     marks_of_sheets_style, marks_style, media_of_marks_style, media_of_sheets_style, media_style,
@@ -151,7 +152,8 @@ fn sheets(alloc: Global, file: &str, system: &str) -> Result<String, AllocError>
     )
 }
 
-/// All layers of the file of this name, which is fit for the text of an element. Those that are drawn are in this reference system.
+/// All layers of the file of this name, which is fit for the text of an element. Those that are
+/// drawn are in this reference system.
 ///
 /// # Errors
 ///

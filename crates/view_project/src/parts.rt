@@ -23,7 +23,8 @@ pub(crate) fn opening() -> &'static str
     "<projectlayers>\n"
 }
 
-/// What links lead from and to. A relation names layers by identities of more than ten letters: QGIS replaces shorter ones.
+/// What links lead from and to. A relation names layers by identities of more than ten letters:
+/// QGIS replaces shorter ones.
 pub(crate) fn relations() -> &'static str
     ensures { result.now ≡ relations }
 {

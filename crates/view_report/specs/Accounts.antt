@@ -14,7 +14,8 @@ total_cell n = codes "<td class=\"n\">" ++ (decimal n ++ codes "</td>")
 
 abbrev pub totals_row : List ℕ → Totals → List ℕ
 totals_row word t =
-    codes "<tr><th scope=\"row\">" ++ (word ++ (codes "</th>" ++ (total_cell t.tiles ++ (total_cell t.media ++ (total_cell t.rows
+    codes "<tr><th scope=\"row\">" ++ (word ++ (codes "</th>"
+    ++ (total_cell t.tiles ++ (total_cell t.media ++ (total_cell t.rows
     ++ (total_cell t.links ++ (total_cell t.bytes ++ codes "</tr>\n")))))))
 
 abbrev pub held_row : Sums → List ℕ

@@ -1,5 +1,6 @@
 -- The map of a page: all zooms nested, names of the first, and marks (SVG 1.1 in HTML 5). Profile.
-use Rattle.std.specs.Prelude.{ℕ, zero, suc, ◌+◌, min, List, [], ◌++◌, Option, Some, None, if◌then◌else◌, ℤ, ◌-ℤ◌, codes, decimal, flat_map, unsigned_abs}
+use Rattle.std.specs.Prelude.{ℕ, zero, suc, ◌+◌, min, List, [], ◌++◌, Option, Some, None, if◌then◌else◌, ℤ, ◌-ℤ◌}
+use Rattle.std.specs.Prelude.{codes, decimal, flat_map, unsigned_abs}
 use Rattle.std.specs.Fmt.{signed_decimal}
 use Rattle.std.specs.Option.{option_map_or}
 use Rattle.std.specs.Ordering.{int_eq}
@@ -44,7 +45,8 @@ also_named names id = option_map_or (λ n. codes ", " ++ escaped n.name) (name_o
 
 abbrev pub sheet_title : List Name → Thing → ℤ → ℤ → ℤ → List ℕ
 sheet_title names t zoom column row =
-    place_text zoom column row ++ (codes ", " ++ (plain_name names t.holder ++ (also_named names t.identity ++ codes "</title></rect></a>\n")))
+    place_text zoom column row ++ (codes ", " ++ (plain_name names t.holder
+    ++ (also_named names t.identity ++ codes "</title></rect></a>\n")))
 
 -- a sheet of a package, and of one that lives
 abbrev pub sheet_of : Register → Level → Thing → ℤ → ℤ → ℤ → Live → List ℕ
@@ -77,7 +79,8 @@ pattern_link l n =
 
 -- the two sides of a map
 abbrev pub sides_text : Layout → ℕ → List ℕ → List ℕ
-sides_text l by between = decimal (times by (times l.columns l.width)) ++ (between ++ decimal (times by (times l.rows l.height)))
+sides_text l by between = decimal (times by (times l.columns l.width))
+    ++ (between ++ decimal (times by (times l.rows l.height)))
 
 unfoldable pub level_text : Register → Level → List ℕ
 level_text r l =
@@ -101,14 +104,16 @@ style_text left top =
     codes " style=\"left:calc(.01%*" ++ (decimal left ++ (codes ");top:calc(.01%*" ++ (decimal top ++ codes ")\"")))
 
 unfoldable pub named_text : Name → ℕ → ℕ → List ℕ
-named_text n left top = codes "<span class=\"nm\"" ++ (style_text left top ++ (codes ">" ++ (escaped n.name ++ codes "</span>\n")))
+named_text n left top = codes "<span class=\"nm\"" ++ (style_text left top
+    ++ (codes ">" ++ (escaped n.name ++ codes "</span>\n")))
 
 -- of a sheet that has one, and where it is one of this zoom
 abbrev pub names_text : List Name → List ℕ → ℕ → ℕ → List ℕ
 names_text names id left top = option_map_or (λ n. named_text n left top) (name_of names id) []
 
 abbrev pub name_in : List Name → Layout → List ℕ → ℤ → ℤ → List ℕ
-name_in names l id column row = names_text names id (share (unsigned_abs column) l.columns) (share (plus (unsigned_abs row) 1) l.rows)
+name_in names l id column row = names_text names id (share (unsigned_abs column) l.columns)
+    (share (plus (unsigned_abs row) 1) l.rows)
 
 abbrev pub name_at : List Name → Level → List ℕ → ℤ → ℤ → ℤ → List ℕ
 name_at names l id zoom column row = if int_eq zoom l.zoom then name_in names l.layout id column row else []
@@ -135,7 +140,8 @@ mark_place f x y =
 
 abbrev pub mark_at : Register → Thing → ℕ → ℤ → ℤ → List ℕ
 mark_at r t n x y =
-    codes "<a class=\"mk " ++ (class_text n ++ (codes "\" href=\"#i-" ++ (uuid_text t.identity ++ (codes "\" tabindex=\"-1\"" ++ mark_place r.frame x y))))
+    codes "<a class=\"mk " ++ (class_text n ++ (codes "\" href=\"#i-"
+    ++ (uuid_text t.identity ++ (codes "\" tabindex=\"-1\"" ++ mark_place r.frame x y))))
 
 abbrev pub mark_text : Register → Thing → ℕ → ℤ → List ℕ → List ℕ
 mark_text r t n code label =

@@ -2,7 +2,8 @@
 use Rattle.std.specs.Prelude.{ℕ, bytes_eq, List, [], ◌++◌, if◌then◌else◌, codes, decimal, flat_map}
 use Rattle.sheet_types.specs.Texts.{uuid_text}
 use Rattle.sheet_types.specs.declared.receipt.MovedKind.{MovedKind}
-use Rattle.sheet_types.specs.declared.receipt.MovedKind.TheVariants.{TileItem, MediaItem, RowItem, TilesMediaLink, RowsMediaLink, RowsTilesLink}
+use Rattle.sheet_types.specs.declared.receipt.MovedKind.TheVariants.{TileItem, MediaItem, RowItem, TilesMediaLink}
+use Rattle.sheet_types.specs.declared.receipt.MovedKind.TheVariants.{RowsMediaLink, RowsTilesLink}
 use Rattle.view_report.specs.Pieces.{about_text, digest_text, name_text, short_text, sums_text, swatch_text, thing_text}
 use Rattle.view_report.specs.declared.words.TheConstants.{HOLDING_END, HOLDING_HEAD}
 use Rattle.view_report.specs.declared.registers.About.{About}
@@ -27,7 +28,8 @@ thing_kind (Mark x y code label) = RowItem
 
 abbrev pub thing_row : Register → Thing → List ℕ
 thing_row r t =
-    codes "<tr id=\"i-" ++ (uuid_text t.identity ++ (codes "\"><th scope=\"row\">" ++ (kind_word (thing_kind t.about) ++ (codes " "
+    codes "<tr id=\"i-" ++ (uuid_text t.identity ++ (codes "\"><th scope=\"row\">"
+    ++ (kind_word (thing_kind t.about) ++ (codes " "
     ++ (about_text r.names t ++ (codes "</th><td>" ++ (short_text t.identity
     ++ (codes "</td><td class=\"n\" data-l=\"bytes\">" ++ (decimal t.size
     ++ (codes "</td><td>" ++ (digest_text t.fingerprint ++ codes "</td></tr>\n")))))))))))
@@ -41,7 +43,8 @@ pair_text r base other = thing_text r base ++ (codes " &harr; " ++ thing_text r 
 
 abbrev pub tie_row : Register → Tie → List ℕ
 tie_row r t =
-    codes "<tr><th scope=\"row\">" ++ (kind_word t.kind ++ (codes "</th><td colspan=\"3\">" ++ (pair_text r t.base t.other ++ codes "</td></tr>\n")))
+    codes "<tr><th scope=\"row\">" ++ (kind_word t.kind ++ (codes "</th><td colspan=\"3\">"
+    ++ (pair_text r t.base t.other ++ codes "</td></tr>\n")))
 
 abbrev pub tie_if : Register → List ℕ → Tie → List ℕ
 tie_if r holder t = if bytes_eq t.holder holder then tie_row r t else []

@@ -1,5 +1,6 @@
 -- The zooms that a map draws, and where a sheet stands in one. Numbers stay within 64 bits. Profile.
-use Rattle.std.specs.Prelude.{ℕ, ◌+◌, ◌-◌, ◌*◌, ◌/◌, ◌^◌, ◌==◌, nat_lt, min, List, [], ◌∷◌, Option, Some, None, if◌then◌else◌, ℤ, pos, ◌+ℤ◌, ◌-ℤ◌, slice_index_or, unsigned_abs}
+use Rattle.std.specs.Prelude.{ℕ, ◌+◌, ◌-◌, ◌*◌, ◌/◌, ◌^◌, ◌==◌, nat_lt, min, List, [], ◌∷◌, Option, Some, None}
+use Rattle.std.specs.Prelude.{if◌then◌else◌, ℤ, pos, ◌+ℤ◌, ◌-ℤ◌, slice_index_or, unsigned_abs}
 use Rattle.sheet_types.specs.declared.frame.Frame.{Frame}
 use Rattle.view_map.specs.Layout.{layout_of}
 use Rattle.view_map.specs.Zooms.{default_zoom}
@@ -40,8 +41,15 @@ abbrev pub level_total : Frame → ℕ
 level_total f = plus (unsigned_abs (default_zoom f -ℤ f.first_zoom)) 1
 
 abbrev pub level_of : Frame → ℕ → ℕ → ℤ → Level
-level_of f total index zoom = record { index = index; finer = total - plus index 1; zoom = zoom; layout = layout_of f zoom }
+level_of f total index zoom = record {
+  index = index;
+  finer = total - plus index 1;
+  zoom = zoom;
+  layout =
+      layout_of f zoom;
+}
 
 -- the zoom with so many coarser ones
 abbrev pub level_at : Frame → ℕ → ℕ → Option Level
-level_at f total index = if nat_lt index (unsigned_abs f.levels) then Some (level_of f total index (f.first_zoom +ℤ pos index)) else None
+level_at f total index = if nat_lt index (unsigned_abs f.levels) then Some
+    (level_of f total index (f.first_zoom +ℤ pos index)) else None

@@ -11,7 +11,9 @@ use Rattle.view_report.specs.Ledgers.{ledger_digest, raw_if, receipt_if}
 use Rattle.view_report.specs.Patterns.{pattern_row}
 use Rattle.view_report.specs.Pieces.{plain_name}
 use Rattle.view_report.specs.declared.style.TheConstants.{STYLE}
-use Rattle.view_report.specs.declared.words.TheConstants.{ACCOUNT_HEAD, BODY, CHECK, HEAD, HOLDERS_HEAD, HOLDINGS_HEAD, HOMES_HEAD, LEDGER_HEAD, NAVIGATION, RAW_HEAD, SHAPES, TABLE_END, VERDICT}
+use Rattle.view_report.specs.declared.words.TheConstants.{ACCOUNT_HEAD, BODY, CHECK, HEAD, HOLDERS_HEAD}
+use Rattle.view_report.specs.declared.words.TheConstants.{HOLDINGS_HEAD, HOMES_HEAD, LEDGER_HEAD, NAVIGATION}
+use Rattle.view_report.specs.declared.words.TheConstants.{RAW_HEAD, SHAPES, TABLE_END, VERDICT}
 use Rattle.view_report.specs.declared.registers.Register.{Register}
 
 abbrev pub title_text : Register → List ℕ
@@ -19,14 +21,17 @@ title_text r = plain_name r.names r.archive
 
 abbrev pub head_text : Register → List ℕ
 head_text r =
-    HEAD.now ++ (title_text r ++ (STYLE.now ++ (BODY.now ++ (title_text r ++ (codes "</h1>\n<p class=\"lead\">Archive <code>"
-    ++ (uuid_text r.archive ++ (codes "</code>, as of receipt " ++ (decimal (length r.receipts.items) ++ (codes ".</p>\n"
+    HEAD.now ++ (title_text r ++ (STYLE.now ++ (BODY.now ++ (title_text r
+    ++ (codes "</h1>\n<p class=\"lead\">Archive <code>"
+    ++ (uuid_text r.archive ++ (codes "</code>, as of receipt "
+    ++ (decimal (length r.receipts.items) ++ (codes ".</p>\n"
     ++ (NAVIGATION.now ++ (flat_map (λ p. pattern_row p.number) r.packages.items ++ SHAPES.now)))))))))))
 
 -- with the digest of the ledger
 abbrev pub verdict_section : Register → List ℕ → List ℕ
 verdict_section r digest =
-    VERDICT.now ++ (decimal (length r.receipts.items) ++ (codes "</li>\n<li><b>Live packages</b> " ++ (decimal (length r.packages.items)
+    VERDICT.now ++ (decimal (length r.receipts.items) ++ (codes "</li>\n<li><b>Live packages</b> "
+    ++ (decimal (length r.packages.items)
     ++ (codes "</li>\n<li class=\"big\"><b>SHA-256 of the ledger</b> <code class=\"sha\">" ++ (encode_lower digest
     ++ codes "</code></li>\n</ul>\n</section>\n")))))
 
@@ -45,7 +50,8 @@ holdings_section r = HOLDINGS_HEAD.now ++ flat_map (holding_text r) r.packages.i
 
 abbrev pub ledger_section : Register → List ℕ
 ledger_section r =
-    LEDGER_HEAD.now ++ (flat_map (receipt_if r) r.receipts.items ++ (RAW_HEAD.now ++ flat_map (raw_if r) r.receipts.items))
+    LEDGER_HEAD.now ++ (flat_map (receipt_if r) r.receipts.items
+    ++ (RAW_HEAD.now ++ flat_map (raw_if r) r.receipts.items))
 
 -- each package by what came to it and what left it
 abbrev pub account_section : Register → List ℕ

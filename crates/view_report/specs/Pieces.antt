@@ -1,5 +1,6 @@
 -- The pieces that recur in a page (HTML 5). Profile.
-use Rattle.std.specs.Prelude.{ℕ, ◌+◌, ◌-◌, ◌%◌, ◌==◌, nat_le, List, [], ◌++◌, length, Option, Some, None, if◌then◌else◌, ℤ, codes, decimal}
+use Rattle.std.specs.Prelude.{ℕ, ◌+◌, ◌-◌, ◌%◌, ◌==◌, nat_le, List, [], ◌++◌, length, Option, Some, None}
+use Rattle.std.specs.Prelude.{if◌then◌else◌, ℤ, codes, decimal}
 use Rattle.std.specs.Fmt.{signed_decimal}
 use Rattle.std.specs.Option.{option_map_or}
 use Rattle.hex.specs.Hex.{encode_lower}
@@ -94,7 +95,8 @@ called names id = option_map_or (λ n. label_text n.name ++ codes " ") (name_of 
 
 -- the place of a sheet; a sheet and a mark in a few words
 abbrev pub place_text : ℤ → ℤ → ℤ → List ℕ
-place_text zoom column row = signed_decimal zoom ++ (codes "/" ++ (signed_decimal column ++ (codes "/" ++ signed_decimal row)))
+place_text zoom column row = signed_decimal zoom ++ (codes "/"
+    ++ (signed_decimal column ++ (codes "/" ++ signed_decimal row)))
 
 abbrev pub sheet_text : List Name → List ℕ → ℤ → ℤ → ℤ → List ℕ
 sheet_text names id zoom column row = called names id ++ place_text zoom column row

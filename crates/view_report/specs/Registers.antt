@@ -20,7 +20,14 @@ about_of (Media content_type bytes) = Medium content_type
 about_of (Row x y code label) = Mark x y code label
 
 abbrev pub thing_of : List ℕ → Item → Thing
-thing_of holder i = record { holder = holder; identity = i.identity; about = about_of i.content; size = size i.content; fingerprint = fingerprint i.content }
+thing_of holder i = record {
+  holder = holder;
+  identity = i.identity;
+  about = about_of i.content;
+  size =
+      size i.content;
+  fingerprint = fingerprint i.content;
+}
 
 -- what people call a package or a sheet
 abbrev pub name_of : List Name → List ℕ → Option Name

@@ -59,7 +59,8 @@ pub fn put_account(
     live: &Live,
     flow: &Flow,
 ) -> Result<(), AllocError>
-    ensures { IfOk result (λ _. string_bytes text.new ≡ string_bytes text.old ++ account_text register.now live.now flow.now) }
+    ensures { IfOk result (λ _. string_bytes text.new ≡ string_bytes text.old
+        ++ account_text register.now live.now flow.now) }
 {
     put(
         text,
@@ -98,7 +99,8 @@ pub(crate) fn put_accounts(
     packages: &[Live],
 ) -> Result<(), AllocError>
     requires { HasFlows flows.now register.now.receipts.items }
-    ensures { IfOk result (λ _. string_bytes text.new ≡ string_bytes text.old ++ flat_map (account_of register.now) packages.now) }
+    ensures { IfOk result (λ _. string_bytes text.new ≡ string_bytes text.old
+        ++ flat_map (account_of register.now) packages.now) }
 {
     for live in packages {
         put_account_by(text, register, flows, live)?;

@@ -4,7 +4,11 @@ ghost use Rattle.view_map.specs.Layout.{layout_of};
 ghost use Rattle.view_map.specs.Zooms.{default_zoom};
 ghost use Rattle.view_report.specs.Levels.{extent, inset_of, plus, share, start};
 ghost use Rattle.sheet_types.specs.Matrix.{is_good_frame};
-ghost use Rattle.view_report.specs.Drawing.{also_named, layer_of, legend_row, level_if, level_text, levels_text, link_text, map_of, mark_at, mark_if, mark_of, mark_place, mark_text, name_at, name_if, name_in, named_at, named_text, names_text, pattern_link, sheet_at, sheet_box, sheet_if, sheet_of, sheet_text, sheet_title, sides_text, style_text, whole_mark};
+ghost use Rattle.view_report.specs.Drawing.{also_named, layer_of, legend_row, level_if, level_text, levels_text};
+ghost use Rattle.view_report.specs.Drawing.{link_text, map_of, mark_at, mark_if, mark_of, mark_place, mark_text};
+ghost use Rattle.view_report.specs.Drawing.{name_at, name_if, name_in, named_at, named_text, names_text, pattern_link};
+ghost use Rattle.view_report.specs.Drawing.{sheet_at, sheet_box, sheet_if, sheet_of, sheet_text, sheet_title};
+ghost use Rattle.view_report.specs.Drawing.{sides_text, style_text, whole_mark};
 
 use crate::escaping::put_escaped;
 use crate::levels::{
@@ -89,7 +93,8 @@ pub fn put_box(
     column: i64,
     row: i64,
 ) -> Result<(), AllocError>
-    ensures { IfOk result (λ _. string_bytes text.new ≡ string_bytes text.old ++ sheet_box level.now live.now number column row) }
+    ensures { IfOk result (λ _. string_bytes text.new ≡ string_bytes text.old
+        ++ sheet_box level.now live.now number column row) }
 {
     let layer = layer_of(live);
     put(text, "<rect class=\"")?;
@@ -136,7 +141,8 @@ fn put_title(
     column: i64,
     row: i64,
 ) -> Result<(), AllocError>
-    ensures { IfOk result (λ _. string_bytes text.new ≡ string_bytes text.old ++ sheet_title names.now thing.now zoom column row) }
+    ensures { IfOk result (λ _. string_bytes text.new ≡ string_bytes text.old
+        ++ sheet_title names.now thing.now zoom column row) }
 {
     put_place(text, zoom, column, row)?;
     put(text, ", ")?;
@@ -157,7 +163,8 @@ fn put_sheet_of(
     column: i64,
     row: i64,
 ) -> Result<(), AllocError>
-    ensures { IfOk result (λ _. string_bytes text.new ≡ string_bytes text.old ++ sheet_of register.now level.now thing.now zoom column row live.now) }
+    ensures { IfOk result (λ _. string_bytes text.new ≡ string_bytes text.old
+        ++ sheet_of register.now level.now thing.now zoom column row live.now) }
 {
     let number = live.number;
     put_link(text, thing.identity)?;
@@ -176,7 +183,8 @@ fn put_sheet(
     column: i64,
     row: i64,
 ) -> Result<(), AllocError>
-    ensures { IfOk result (λ _. string_bytes text.new ≡ string_bytes text.old ++ sheet_text register.now level.now thing.now zoom column row) }
+    ensures { IfOk result (λ _. string_bytes text.new ≡ string_bytes text.old
+        ++ sheet_text register.now level.now thing.now zoom column row) }
 {
     match live_of(&register.packages, thing.holder) {
         Some(live) => put_sheet_of(text, register, level, thing, live, zoom, column, row),
@@ -194,7 +202,8 @@ fn put_sheet_at(
     column: i64,
     row: i64,
 ) -> Result<(), AllocError>
-    ensures { IfOk result (λ _. string_bytes text.new ≡ string_bytes text.old ++ sheet_at register.now level.now thing.now zoom column row) }
+    ensures { IfOk result (λ _. string_bytes text.new ≡ string_bytes text.old
+        ++ sheet_at register.now level.now thing.now zoom column row) }
 {
     if zoom == level.zoom {
         put_sheet(text, register, level, thing, zoom, column, row)
@@ -210,7 +219,8 @@ fn put_sheet_if(
     level: &Level,
     thing: &Thing,
 ) -> Result<(), AllocError>
-    ensures { IfOk result (λ _. string_bytes text.new ≡ string_bytes text.old ++ sheet_if register.now level.now thing.now) }
+    ensures { IfOk result (λ _. string_bytes text.new ≡ string_bytes text.old
+        ++ sheet_if register.now level.now thing.now) }
 {
     match &thing.about {
         About::Sheet { zoom, column, row } => {
@@ -227,7 +237,8 @@ fn put_sheets(
     level: &Level,
     things: &[Thing],
 ) -> Result<(), AllocError>
-    ensures { IfOk result (λ _. string_bytes text.new ≡ string_bytes text.old ++ flat_map (sheet_if register.now level.now) things.now) }
+    ensures { IfOk result (λ _. string_bytes text.new ≡ string_bytes text.old
+        ++ flat_map (sheet_if register.now level.now) things.now) }
 {
     for thing in things {
         put_sheet_if(text, register, level, thing)?;
@@ -396,7 +407,8 @@ fn put_name_in(
     column: i64,
     row: i64,
 ) -> Result<(), AllocError>
-    ensures { IfOk result (λ _. string_bytes text.new ≡ string_bytes text.old ++ name_in names.now layout.now id column row) }
+    ensures { IfOk result (λ _. string_bytes text.new ≡ string_bytes text.old
+        ++ name_in names.now layout.now id column row) }
 {
     let left = column_share(layout, column);
     let top = row_share(layout, row);
@@ -414,7 +426,8 @@ fn put_name_at(
     column: i64,
     row: i64,
 ) -> Result<(), AllocError>
-    ensures { IfOk result (λ _. string_bytes text.new ≡ string_bytes text.old ++ name_at names.now level.now id zoom column row) }
+    ensures { IfOk result (λ _. string_bytes text.new ≡ string_bytes text.old
+        ++ name_at names.now level.now id zoom column row) }
 {
     if zoom == level.zoom {
         put_name_in(text, names, &level.layout, id, column, row)
@@ -430,7 +443,8 @@ fn put_name_if(
     level: &Level,
     thing: &Thing,
 ) -> Result<(), AllocError>
-    ensures { IfOk result (λ _. string_bytes text.new ≡ string_bytes text.old ++ name_if names.now level.now thing.now) }
+    ensures { IfOk result (λ _. string_bytes text.new ≡ string_bytes text.old
+        ++ name_if names.now level.now thing.now) }
 {
     match &thing.about {
         About::Sheet { zoom, column, row } => {
@@ -447,7 +461,8 @@ fn put_names(
     level: &Level,
     things: &[Thing],
 ) -> Result<(), AllocError>
-    ensures { IfOk result (λ _. string_bytes text.new ≡ string_bytes text.old ++ flat_map (name_if names.now level.now) things.now) }
+    ensures { IfOk result (λ _. string_bytes text.new ≡ string_bytes text.old
+        ++ flat_map (name_if names.now level.now) things.now) }
 {
     for thing in things {
         put_name_if(text, names, level, thing)?;
@@ -488,7 +503,8 @@ fn put_mark(
     x: i64,
     y: i64,
 ) -> Result<(), AllocError>
-    ensures { IfOk result (λ _. string_bytes text.new ≡ string_bytes text.old ++ mark_at register.now thing.now number x y) }
+    ensures { IfOk result (λ _. string_bytes text.new ≡ string_bytes text.old
+        ++ mark_at register.now thing.now number x y) }
 {
     put(text, "<a class=\"mk ")?;
     put_class(text, number)?;
@@ -508,7 +524,8 @@ fn put_mark_end(
     code: i64,
     label: &str,
 ) -> Result<(), AllocError>
-    ensures { IfOk result (λ _. string_bytes text.new ≡ string_bytes text.old ++ mark_text register.now thing.now number code label.now) }
+    ensures { IfOk result (λ _. string_bytes text.new ≡ string_bytes text.old
+        ++ mark_text register.now thing.now number code label.now) }
 {
     put(text, " title=\"mark ")?;
     put_signed(text, code)?;
@@ -536,7 +553,8 @@ fn put_whole_mark(
     code: i64,
     label: &str,
 ) -> Result<(), AllocError>
-    ensures { IfOk result (λ _. string_bytes text.new ≡ string_bytes text.old ++ whole_mark register.now thing.now number x y code label.now) }
+    ensures { IfOk result (λ _. string_bytes text.new ≡ string_bytes text.old
+        ++ whole_mark register.now thing.now number x y code label.now) }
 {
     put_mark(text, register, thing, number, x, y)?;
     put_mark_end(text, register, thing, number, code, label)?;
@@ -550,7 +568,8 @@ fn put_mark_of(
     thing: &Thing,
     number: usize,
 ) -> Result<(), AllocError>
-    ensures { IfOk result (λ _. string_bytes text.new ≡ string_bytes text.old ++ mark_of register.now thing.now number thing.now.about) }
+    ensures { IfOk result (λ _. string_bytes text.new ≡ string_bytes text.old
+        ++ mark_of register.now thing.now number thing.now.about) }
 {
     match &thing.about {
         About::Mark { x, y, code, label } => put_whole_mark(
@@ -579,7 +598,8 @@ fn put_mark_if(text: &mut String, register: &Register, thing: &Thing) -> Result<
 
 /// Puts all marks.
 fn put_marks(text: &mut String, register: &Register, things: &[Thing]) -> Result<(), AllocError>
-    ensures { IfOk result (λ _. string_bytes text.new ≡ string_bytes text.old ++ flat_map (mark_if register.now) things.now) }
+    ensures { IfOk result (λ _. string_bytes text.new ≡ string_bytes text.old
+        ++ flat_map (mark_if register.now) things.now) }
 {
     for thing in things {
         put_mark_if(text, register, thing)?;
@@ -611,7 +631,8 @@ fn put_legend(text: &mut String, register: &Register, live: &Live) -> Result<(),
 
 /// Puts those of all packages.
 fn put_legends(text: &mut String, register: &Register, packages: &[Live]) -> Result<(), AllocError>
-    ensures { IfOk result (λ _. string_bytes text.new ≡ string_bytes text.old ++ flat_map (legend_row register.now) packages.now) }
+    ensures { IfOk result (λ _. string_bytes text.new ≡ string_bytes text.old
+        ++ flat_map (legend_row register.now) packages.now) }
 {
     for live in packages {
         put_legend(text, register, live)?;

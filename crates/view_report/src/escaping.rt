@@ -1,7 +1,8 @@
 //! Foreign text in a page: it ends no element and no attribute, and turns nothing around that follows it.
 ghost use Rattle.std.specs.Char.{encode_utf8};
 ghost use Rattle.std.specs.Prelude.{◌≡◌, ◌++◌, IfOk, IsTrue, string_bytes};
-ghost use Rattle.view_report.specs.Escaping.{control_picture, escaped, escaped_code, is_control, is_unseen, moment_code, moment_text, raw_code, raw_text, shown_code};
+ghost use Rattle.view_report.specs.Escaping.{control_picture, escaped, escaped_code, is_control, is_unseen};
+ghost use Rattle.view_report.specs.Escaping.{moment_code, moment_text, raw_code, raw_text, shown_code};
 
 use std::alloc::AllocError;
 

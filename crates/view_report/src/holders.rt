@@ -1,7 +1,8 @@
 //! Who holds what: a row for each live package, and one for each loan that came home.
 ghost use Rattle.std.specs.Prelude.{◌≡◌, ◌++◌, IfOk, flat_map, string_bytes};
 ghost use Rattle.std.specs.List.{list_any};
-ghost use Rattle.view_report.specs.Holders.{cell_text, dated_text, end_text, full_name, home_if, home_of, home_row, is_merge, lent_text, package_row, sum_cells, when_text};
+ghost use Rattle.view_report.specs.Holders.{cell_text, dated_text, end_text, full_name, home_if, home_of, home_row};
+ghost use Rattle.view_report.specs.Holders.{is_merge, lent_text, package_row, sum_cells, when_text};
 
 use crate::escaping::put_moment;
 use crate::lists::Names;
@@ -53,7 +54,8 @@ fn put_dated(
     receipt: &Receipt,
     seq: u64,
 ) -> Result<(), AllocError>
-    ensures { IfOk result (λ _. string_bytes text.new ≡ string_bytes text.old ++ dated_text register.now receipt.now seq) }
+    ensures { IfOk result (λ _. string_bytes text.new ≡ string_bytes text.old
+        ++ dated_text register.now receipt.now seq) }
 {
     put_moment(text, receipt.at.as_str())?;
     put(text, " &middot; ")?;
@@ -128,7 +130,8 @@ pub(crate) fn put_packages(
     register: &Register,
     packages: &[Live],
 ) -> Result<(), AllocError>
-    ensures { IfOk result (λ _. string_bytes text.new ≡ string_bytes text.old ++ flat_map (package_row register.now) packages.now) }
+    ensures { IfOk result (λ _. string_bytes text.new ≡ string_bytes text.old
+        ++ flat_map (package_row register.now) packages.now) }
 {
     for live in packages {
         put_package(text, register, live)?;
@@ -157,7 +160,8 @@ fn put_home(
     receipt: &Receipt,
     child: Uuid,
 ) -> Result<(), AllocError>
-    ensures { IfOk result (λ _. string_bytes text.new ≡ string_bytes text.old ++ home_row register.now receipt.now child) }
+    ensures { IfOk result (λ _. string_bytes text.new ≡ string_bytes text.old
+        ++ home_row register.now receipt.now child) }
 {
     put(text, "<tr id=\"p-")?;
     put_uuid(text, child)?;
@@ -186,7 +190,8 @@ fn put_home_of(
     receipt: &Receipt,
     child: Uuid,
 ) -> Result<(), AllocError>
-    ensures { IfOk result (λ _. string_bytes text.new ≡ string_bytes text.old ++ home_of register.now receipt.now child) }
+    ensures { IfOk result (λ _. string_bytes text.new ≡ string_bytes text.old
+        ++ home_of register.now receipt.now child) }
 {
     if is_merge(receipt) {
         put_home(text, register, receipt, child)
@@ -211,7 +216,8 @@ pub(crate) fn put_homes(
     register: &Register,
     receipts: &[Receipt],
 ) -> Result<(), AllocError>
-    ensures { IfOk result (λ _. string_bytes text.new ≡ string_bytes text.old ++ flat_map (home_if register.now) receipts.now) }
+    ensures { IfOk result (λ _. string_bytes text.new ≡ string_bytes text.old
+        ++ flat_map (home_if register.now) receipts.now) }
 {
     for receipt in receipts {
         put_home_if(text, register, receipt)?;

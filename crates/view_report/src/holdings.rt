@@ -1,6 +1,7 @@
 //! What each package holds: a row for each thing and each link.
 ghost use Rattle.std.specs.Prelude.{◌≡◌, ◌++◌, IfOk, flat_map, string_bytes};
-ghost use Rattle.view_report.specs.Holdings.{holding_text, kind_word, pair_text, thing_if, thing_kind, thing_row, tie_if, tie_row};
+ghost use Rattle.view_report.specs.Holdings.{holding_text, kind_word, pair_text, thing_if, thing_kind, thing_row};
+ghost use Rattle.view_report.specs.Holdings.{tie_if, tie_row};
 
 use crate::pieces::{
     put, put_about, put_count, put_digest, put_name, put_short, put_sums, put_swatch, put_thing,
@@ -64,7 +65,8 @@ fn put_item_if(
     holder: Uuid,
     thing: &Thing,
 ) -> Result<(), AllocError>
-    ensures { IfOk result (λ _. string_bytes text.new ≡ string_bytes text.old ++ thing_if register.now holder thing.now) }
+    ensures { IfOk result (λ _. string_bytes text.new ≡ string_bytes text.old
+        ++ thing_if register.now holder thing.now) }
 {
     if is_same(thing.holder, holder) {
         put_item(text, register, thing)
@@ -84,7 +86,8 @@ pub fn put_items(
     holder: Uuid,
     things: &[Thing],
 ) -> Result<(), AllocError>
-    ensures { IfOk result (λ _. string_bytes text.new ≡ string_bytes text.old ++ flat_map (thing_if register.now holder) things.now) }
+    ensures { IfOk result (λ _. string_bytes text.new ≡ string_bytes text.old
+        ++ flat_map (thing_if register.now holder) things.now) }
 {
     for thing in things {
         put_item_if(text, register, holder, thing)?;
@@ -146,7 +149,8 @@ pub fn put_ties(
     holder: Uuid,
     ties: &[Tie],
 ) -> Result<(), AllocError>
-    ensures { IfOk result (λ _. string_bytes text.new ≡ string_bytes text.old ++ flat_map (tie_if register.now holder) ties.now) }
+    ensures { IfOk result (λ _. string_bytes text.new ≡ string_bytes text.old
+        ++ flat_map (tie_if register.now holder) ties.now) }
 {
     for tie in ties {
         put_tie_if(text, register, holder, tie)?;
@@ -185,7 +189,8 @@ pub(crate) fn put_holdings(
     register: &Register,
     packages: &[Live],
 ) -> Result<(), AllocError>
-    ensures { IfOk result (λ _. string_bytes text.new ≡ string_bytes text.old ++ flat_map (holding_text register.now) packages.now) }
+    ensures { IfOk result (λ _. string_bytes text.new ≡ string_bytes text.old
+        ++ flat_map (holding_text register.now) packages.now) }
 {
     for live in packages {
         put_holding(text, register, live)?;

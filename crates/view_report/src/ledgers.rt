@@ -24,7 +24,8 @@ fn put_moved(text: &mut String, register: &Register, moved: &Moved) -> Result<()
 
 /// Puts what a receipt moved: the thing where it is one, else how much.
 fn put_what(text: &mut String, register: &Register, receipt: &Receipt) -> Result<(), AllocError>
-    ensures { IfOk result (λ _. string_bytes text.new ≡ string_bytes text.old ++ what_text register.now receipt.now receipt.now.items) }
+    ensures { IfOk result (λ _. string_bytes text.new ≡ string_bytes text.old
+        ++ what_text register.now receipt.now receipt.now.items) }
 {
     match receipt.items.as_slice() {
         [one] => put_moved(text, register, one),
@@ -91,7 +92,8 @@ pub(crate) fn put_rows(
     register: &Register,
     receipts: &[Receipt],
 ) -> Result<(), AllocError>
-    ensures { IfOk result (λ _. string_bytes text.new ≡ string_bytes text.old ++ flat_map (receipt_if register.now) receipts.now) }
+    ensures { IfOk result (λ _. string_bytes text.new ≡ string_bytes text.old
+        ++ flat_map (receipt_if register.now) receipts.now) }
 {
     for receipt in receipts {
         put_row_if(text, register, receipt)?;
@@ -132,7 +134,8 @@ pub(crate) fn put_raws(
     register: &Register,
     receipts: &[Receipt],
 ) -> Result<(), OutOfMemory>
-    ensures { IfOk result (λ _. string_bytes text.new ≡ string_bytes text.old ++ flat_map (raw_if register.now) receipts.now) }
+    ensures { IfOk result (λ _. string_bytes text.new ≡ string_bytes text.old
+        ++ flat_map (raw_if register.now) receipts.now) }
 {
     for receipt in receipts {
         put_raw_if(alloc, text, register, receipt)?;

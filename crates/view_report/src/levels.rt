@@ -1,7 +1,8 @@
 //! The zooms that a map draws, and where a sheet stands in one.
 ghost use Rattle.std.specs.Prelude.{◌≡◌, ◌-◌, ◌≤◌, IsTrue};
 ghost use Rattle.sheet_types.specs.Matrix.{has_level, is_good_frame};
-ghost use Rattle.view_report.specs.Levels.{extent, inset_of, level_at, level_of, level_total, plus, power_of, scale_of, share, start, times};
+ghost use Rattle.view_report.specs.Levels.{extent, inset_of, level_at, level_of, level_total, plus, power_of};
+ghost use Rattle.view_report.specs.Levels.{scale_of, share, start, times};
 
 use matrix_rules::levels::{level_count, zoom_at};
 use sheet_types::frame::Frame;
@@ -60,7 +61,8 @@ fn power_of(finer: u64) -> u64
     }
 }
 
-/// How far a sheet stands inside its place, in hundredths of a unit: the finer the zoom and the deeper the loan, the farther.
+/// How far a sheet stands inside its place, in hundredths of a unit: the finer the zoom and the
+/// deeper the loan, the farther.
 pub(crate) fn inset_of(level: &Level, layer: u64) -> u64
     ensures { result ≡ inset_of level.now layer }
 {

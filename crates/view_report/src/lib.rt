@@ -1,4 +1,5 @@
-//! A page that tells the register: of packages, things, receipts and names, one file of HTML 5. Functions of values, with no world and no reader.
+//! A page that tells the register: of packages, things, receipts and names, one file of HTML 5.
+//! Functions of values, with no world and no reader.
 #![tactic(auto)]
 
 pub mod accounts;

@@ -1,7 +1,8 @@
 //! A whole page.
 ghost use Rattle.std.specs.Prelude.{◌≡◌, ◌++◌, IfOk, IsTrue, length, string_bytes};
 ghost use Rattle.sheet_types.specs.Matrix.{is_good_frame};
-ghost use Rattle.view_report.specs.Pages.{account_section, head_text, home_rows, home_table, holders_section, holdings_section, ledger_section, page_text, verdict_section};
+ghost use Rattle.view_report.specs.Pages.{account_section, head_text, home_rows, home_table, holders_section};
+ghost use Rattle.view_report.specs.Pages.{holdings_section, ledger_section, page_text, verdict_section};
 
 use crate::accounts::put_accounts;
 use crate::digests::ledger_digest;
@@ -58,7 +59,8 @@ fn put_head(text: &mut String, register: &Register) -> Result<(), AllocError>
 
 /// Puts that all is in order, with the digest of the ledger.
 fn put_verdict(text: &mut String, register: &Register, digest: &[u8; 32]) -> Result<(), AllocError>
-    ensures { IfOk result (λ _. string_bytes text.new ≡ string_bytes text.old ++ verdict_section register.now digest.now) }
+    ensures { IfOk result (λ _. string_bytes text.new ≡ string_bytes text.old
+        ++ verdict_section register.now digest.now) }
 {
     let mut letters = [0; 64];
     put(text, VERDICT)?;

@@ -3,7 +3,10 @@ ghost use Rattle.std.specs.Fmt.{signed_decimal};
 ghost use Rattle.std.specs.Prelude.{◌≡◌, ◌++◌, IfOk, decimal, string_bytes};
 ghost use Rattle.hex.specs.Hex.{encode_lower};
 ghost use Rattle.sheet_types.specs.Texts.{uuid_text};
-ghost use Rattle.view_report.specs.Pieces.{about_text, amount_text, called, class_text, colour_of, digest_text, first_shown, found_text, holder_class, holder_text, label_text, mark_text, name_text, pattern_of, place_text, plain_name, receipt_text, sheet_text, short_text, some_text, sums_text, swatch_text, thing_text, word_of};
+ghost use Rattle.view_report.specs.Pieces.{about_text, amount_text, called, class_text, colour_of, digest_text};
+ghost use Rattle.view_report.specs.Pieces.{first_shown, found_text, holder_class, holder_text, label_text, mark_text};
+ghost use Rattle.view_report.specs.Pieces.{name_text, pattern_of, place_text, plain_name, receipt_text, sheet_text};
+ghost use Rattle.view_report.specs.Pieces.{short_text, some_text, sums_text, swatch_text, thing_text, word_of};
 
 use crate::escaping::put_escaped;
 use crate::lists::Names;
@@ -346,7 +349,8 @@ fn put_sheet(
     column: i64,
     row: i64,
 ) -> Result<(), AllocError>
-    ensures { IfOk result (λ _. string_bytes text.new ≡ string_bytes text.old ++ sheet_text names.now id zoom column row) }
+    ensures { IfOk result (λ _. string_bytes text.new ≡ string_bytes text.old
+        ++ sheet_text names.now id zoom column row) }
 {
     put_called(text, names, id)?;
     put_place(text, zoom, column, row)?;

@@ -89,7 +89,9 @@ pub struct Name {
     pub name: Text,
 }
 
-/// All that a page tells of. Packages stand in the order of the receipts that made them, the archive first; receipts in that of their numbers. A lender's things stand before those of its loans, since a map draws them so.
+/// All that a page tells of. Packages stand in the order of the receipts that made them, the
+/// archive first; receipts in that of their numbers. A lender's things stand before those of its
+/// loans, since a map draws them so.
 #[derive(Drop)]
 pub struct Register {
     /// The package without parent.

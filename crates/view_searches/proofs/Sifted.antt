@@ -1,5 +1,6 @@
 -- What is made of one more element of a list.
-use Rattle.std.proofs.Common.{◌≡◌, ◌∙◌, ◌<◌, ◌+◌, ◌++◌, ◌∷◌, [], ℕ, List, Option, Some, None, Bool, true, false, refl, ap, sym, subst, length, take, get_or, map, filter, cond, append_assoc}
+use Rattle.std.proofs.Common.{◌≡◌, ◌∙◌, ◌<◌, ◌+◌, ◌++◌, ◌∷◌, [], ℕ, List, Option, Some, None, Bool, true, false, refl}
+use Rattle.std.proofs.Common.{ap, sym, subst, length, take, get_or, map, filter, cond, append_assoc}
 use Rattle.std.specs.Prelude.{flat_map, option_map, MatchOption}
 use Rattle.std.specs.Bool.{then_some}
 use Rattle.std.proofs.lemmas.Grind.{flat_map-append}
@@ -13,11 +14,13 @@ use Rattle.view_searches.specs.Searches.{added_from, identities_of}
 
 sifted_by : (p : Moved → Bool) (f : Moved → List ℕ) (y : Moved) (ys zs : List Moved) (v : Bool)
     → map f (filter p (ys ++ zs)) ≡ map f (filter p ys) ++ map f (filter p zs)
-    → map f (cond v (y ∷ filter p (ys ++ zs)) (filter p (ys ++ zs))) ≡ map f (cond v (y ∷ filter p ys) (filter p ys)) ++ map f (filter p zs)
+    → map f (cond v (y ∷ filter p (ys ++ zs)) (filter p (ys ++ zs))) ≡ map f (cond v (y ∷ filter p ys) (filter p ys))
+    ++ map f (filter p zs)
 sifted_by p f y ys zs true e = ap (λ l. f y ∷ l) e
 sifted_by p f y ys zs false e = e
 
-sifted : (p : Moved → Bool) (f : Moved → List ℕ) (xs zs : List Moved) → map f (filter p (xs ++ zs)) ≡ map f (filter p xs) ++ map f (filter p zs)
+sifted : (p : Moved → Bool) (f : Moved → List ℕ) (xs zs : List Moved)
+    → map f (filter p (xs ++ zs)) ≡ map f (filter p xs) ++ map f (filter p zs)
 sifted p f [] zs = refl
 sifted p f (y ∷ ys) zs = sifted_by p f y ys zs (p y) (sifted p f ys zs)
 
@@ -57,6 +60,7 @@ alone_by false m is = absurd (cc)
 pub item_alone : (m : Moved) → is_item_kind m.kind ≡ true → identities_of (m ∷ []) ≡ m.base ∷ []
 item_alone m is = alone_by (is_item_kind m.kind) m is
 
-pub added_none : (source : Option (List ℕ)) (things : List Moved) → source ≡ None → added_from source things ≡ identities_of things
+pub added_none : (source : Option (List ℕ)) (things : List Moved) → source ≡ None
+    → added_from source things ≡ identities_of things
 added_none None things is = refl
 added_none (Some p) things is = absurd (cc)

@@ -18,7 +18,8 @@ fn is_item(kind: MovedKind) -> bool
 
 /// What is found with one more thing that moved, if it is an item.
 fn found_thing(word: &str, found: Found, thing: &Moved) -> Found
-    ensures { (before : List (List ℕ)) → IsFound word.now before found → IsFound word.now (before ++ identities_of (thing.now ∷ [])) result }
+    ensures { (before : List (List ℕ)) → IsFound word.now before found
+        → IsFound word.now (before ++ identities_of (thing.now ∷ [])) result }
 {
     if is_item(thing.kind) {
         found_with(word, found, thing.base)
@@ -29,7 +30,8 @@ fn found_thing(word: &str, found: Found, thing: &Moved) -> Found
 
 /// What is found with the items among more things that moved.
 fn found_moved(word: &str, found: Found, things: &[Moved]) -> Found
-    ensures { (before : List (List ℕ)) → IsFound word.now before found → IsFound word.now (before ++ identities_of things.now) result }
+    ensures { (before : List (List ℕ)) → IsFound word.now before found
+        → IsFound word.now (before ++ identities_of things.now) result }
 {
     let mut next = found;
     for thing in things {
@@ -40,7 +42,8 @@ fn found_moved(word: &str, found: Found, things: &[Moved]) -> Found
 
 /// What is found with the items that one more receipt added.
 fn found_added(word: &str, found: Found, receipt: &Receipt) -> Found
-    ensures { (before : List (List ℕ)) → IsFound word.now before found → IsFound word.now (before ++ added_by receipt.now) result }
+    ensures { (before : List (List ℕ)) → IsFound word.now before found
+        → IsFound word.now (before ++ added_by receipt.now) result }
 {
     match receipt.source {
         Some(_) => found,

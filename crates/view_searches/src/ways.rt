@@ -15,7 +15,8 @@ pub struct NamedWay {
     pub text: Option<String>,
 }
 
-/// What is found for a word among all items that receipts added; and the way of the item in this form, where it names one.
+/// What is found for a word among all items that receipts added; and the way of the item in this
+/// form, where it names one.
 ///
 /// # Errors
 ///

@@ -7,7 +7,8 @@ use Rattle.sheet_types.specs.declared.receipt.Receipt.{Receipt}
 use Rattle.view_text.specs.Ledgers.{last_of, ledger_line, passed}
 
 -- the lines of receipts that are borrowed
-pub flat_behind : (xs : List (Bor Receipt)) → flat_map (λ (r : Bor Receipt). ledger_line r.now) xs ≡ flat_map ledger_line (map (λ (r : Bor Receipt). r.now) xs)
+pub flat_behind : (xs : List (Bor Receipt)) → flat_map (λ (r : Bor Receipt). ledger_line r.now) xs
+    ≡ flat_map ledger_line (map (λ (r : Bor Receipt). r.now) xs)
 flat_behind [] = refl
 flat_behind (x ∷ xs) = ap (λ l. ledger_line x.now ++ l) (flat_behind xs)
 

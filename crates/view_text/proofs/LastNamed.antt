@@ -19,14 +19,19 @@ last_of-snoc y (x ∷ xs) = ap Some (last_or-snoc x y xs)
 
 -- one that passes is the last
 pub last_passes : {X : Type 0} (p : X → Bool) (xs : List X) (x : X) → p x ≡ true → last_where p (xs ++ x ∷ []) ≡ Some x
-last_passes p xs x e = ap last_of (filter-append p xs (x ∷ []) ∙ ap (λ b. filter p xs ++ (if b then x ∷ [] else [])) e) ∙ last_of-snoc x (filter p xs)
+last_passes p xs x e = ap last_of (filter-append p xs (x ∷ [])
+    ∙ ap (λ b. filter p xs ++ (if b then x ∷ [] else [])) e) ∙ last_of-snoc x (filter p xs)
 
 -- one that does not leaves the last as it was
-pub last_stays : {X : Type 0} (p : X → Bool) (xs : List X) (x : X) → p x ≡ false → last_where p (xs ++ x ∷ []) ≡ last_where p xs
-last_stays p xs x e = ap last_of (filter-append p xs (x ∷ []) ∙ ap (λ b. filter p xs ++ (if b then x ∷ [] else [])) e ∙ append-nil (filter p xs))
+pub last_stays : {X : Type 0} (p : X → Bool) (xs : List X) (x : X) → p x ≡ false
+    → last_where p (xs ++ x ∷ []) ≡ last_where p xs
+last_stays p xs x e = ap last_of (filter-append p xs (x ∷ []) ∙ ap (λ b. filter p xs ++ (if b then x ∷ [] else [])) e
+    ∙ append-nil (filter p xs))
 
-pub place_moves : (id : List ℕ) (rs : List Receipt) (r : Receipt) → names_identity id r ≡ true → place_by (rs ++ r ∷ []) id ≡ r.target
+pub place_moves : (id : List ℕ) (rs : List Receipt) (r : Receipt) → names_identity id r ≡ true
+    → place_by (rs ++ r ∷ []) id ≡ r.target
 place_moves id rs r e = ap (option_and_then (λ x. x.target)) (last_passes (names_identity id) rs r e)
 
-pub place_stays : (id : List ℕ) (rs : List Receipt) (r : Receipt) → names_identity id r ≡ false → place_by (rs ++ r ∷ []) id ≡ place_by rs id
+pub place_stays : (id : List ℕ) (rs : List Receipt) (r : Receipt) → names_identity id r ≡ false
+    → place_by (rs ++ r ∷ []) id ≡ place_by rs id
 place_stays id rs r e = ap (option_and_then (λ x. x.target)) (last_stays (names_identity id) rs r e)

@@ -1,5 +1,7 @@
--- The way of an item through the packages: a line for each receipt that names its identity, and where it stands now. Profile.
-use Rattle.std.specs.Prelude.{ℕ, Bool, not, ◌&&◌, ◌||◌, ◌==◌, bytes_eq, if◌then◌else◌, List, ◌++◌, codes, decimal, filter, flat_map, Option}
+-- The way of an item through the packages: a line for each receipt that names its identity, and where it stands now.
+-- Profile.
+use Rattle.std.specs.Prelude.{ℕ, Bool, not, ◌&&◌, ◌||◌, ◌==◌, bytes_eq, if◌then◌else◌, List, ◌++◌, codes, decimal}
+use Rattle.std.specs.Prelude.{filter, flat_map, Option}
 use Rattle.std.specs.List.{list_any, before_first}
 use Rattle.std.specs.Option.{option_and_then, option_map_or}
 use Rattle.sheet_types.specs.Balance.{names_identity}
@@ -37,19 +39,23 @@ first_word line = before_first (λ c. c == 32) line
 
 abbrev pub way_line : List ℕ → Receipt → List ℕ
 way_line id r =
-    at_right 10 (decimal r.seq) ++ (at_left 24 r.at ++ (at_left 36 (uuid_text r.request) ++ (at_left 6 (first_word r.line)
-    ++ (at_left 4 (naming_word (names_identity id r) (names_end id r)) ++ (at_left 36 (end_text r.source) ++ (end_text r.target ++ codes "\n"))))))
+    at_right 10 (decimal r.seq) ++ (at_left 24 r.at ++ (at_left 36 (uuid_text r.request)
+    ++ (at_left 6 (first_word r.line)
+    ++ (at_left 4 (naming_word (names_identity id r) (names_end id r))
+    ++ (at_left 36 (end_text r.source) ++ (end_text r.target ++ codes "\n"))))))
 
 -- those of the receipts that name the identity, in their order
 abbrev pub way_lines : List ℕ → List Receipt → List ℕ
 way_lines id receipts = flat_map (way_line id) (filter (speaks_of id) receipts)
 
--- where an item stands by these receipts, which are in the order of their numbers: the target of the last that names it itself
+-- where an item stands by these receipts, which are in the order of their numbers: the target of the last that names
+-- it itself
 abbrev pub place_by : List Receipt → List ℕ → Option (List ℕ)
 place_by receipts id = option_and_then (λ r. r.target) (last_where (names_identity id) receipts)
 
 abbrev pub place_line : Option (List ℕ) → List ℕ
-place_line place = codes "now " ++ (option_map_or (λ p. codes "in " ++ uuid_text p) place (codes "nowhere") ++ codes "\n")
+place_line place = codes "now " ++ (option_map_or (λ p. codes "in " ++ uuid_text p) place (codes "nowhere")
+    ++ codes "\n")
 
 abbrev pub way_of : List ℕ → List Receipt → List ℕ
 way_of id receipts = way_lines id receipts ++ place_line (place_by receipts id)

@@ -4,7 +4,8 @@ ghost use Rattle.sheet_types.specs.Texts.{uuid_text};
 ghost use Rattle.command_verbs.specs.Names.{begins};
 ghost use Rattle.command_verbs.specs.Verbs.{text_of};
 ghost use Rattle.sheet_types.specs.declared.receipt.Receipt.{Receipt};
-ghost use Rattle.view_text.specs.Ledgers.{asked_of, begins_end, counts_columns, excerpt_of, headings, is_asked, ledger_line, passed, touches};
+ghost use Rattle.view_text.specs.Ledgers.{asked_of, begins_end, counts_columns, excerpt_of, headings, is_asked};
+ghost use Rattle.view_text.specs.Ledgers.{ledger_line, passed, touches};
 ghost use Rattle.view_text.specs.Ways.{first_word};
 
 use crate::columns::{put, put_end, put_left, put_number};
@@ -87,7 +88,8 @@ fn asked_among<'r>(
     receipts: &'r [Receipt],
     excerpt: &Excerpt<'_>,
 ) -> Result<Vec<&'r Receipt>, AllocError>
-    ensures { IfOk result (λ found. map (λ r. r.now) found.items ≡ filter (is_asked (text_of excerpt.now.«package») excerpt.now.from) receipts.now) }
+    ensures { IfOk result (λ found. map (λ r. r.now) found.items
+        ≡ filter (is_asked (text_of excerpt.now.«package») excerpt.now.from) receipts.now) }
 {
     let mut found = Vec::new(alloc);
     for receipt in receipts {
@@ -166,7 +168,8 @@ fn put_receipt(text: &mut String, receipt: &Receipt) -> Result<(), AllocError>
 
 /// Puts the lines of receipts.
 fn put_receipts(text: &mut String, receipts: &[&Receipt]) -> Result<(), AllocError>
-    ensures { IfOk result (λ _. string_bytes text.new ≡ string_bytes text.old ++ flat_map (λ r. ledger_line r.now) receipts.now) }
+    ensures { IfOk result (λ _. string_bytes text.new ≡ string_bytes text.old
+        ++ flat_map (λ r. ledger_line r.now) receipts.now) }
 {
     for receipt in receipts {
         put_receipt(text, receipt)?;

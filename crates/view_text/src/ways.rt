@@ -4,7 +4,8 @@ ghost use Rattle.std.specs.List.{before_first, list_any};
 ghost use Rattle.sheet_types.specs.Balance.{names_identity};
 ghost use Rattle.sheet_types.specs.Custody.{ends_at};
 ghost use Rattle.sheet_types.specs.World.{is_item_kind};
-ghost use Rattle.view_text.specs.Ways.{first_word, is_end_of, names_end, naming_word, place_by, place_line, speaks_of, way_line, way_lines, way_of};
+ghost use Rattle.view_text.specs.Ways.{first_word, is_end_of, names_end, naming_word, place_by, place_line, speaks_of};
+ghost use Rattle.view_text.specs.Ways.{way_line, way_lines, way_of};
 
 use crate::columns::{put, put_end, put_last_end, put_left, put_number, put_uuid};
 use sheet_types::receipt::{Moved, MovedKind, Receipt};
@@ -72,7 +73,9 @@ fn naming_word(as_item: bool, as_end: bool) -> &'static str
 
 /// How a receipt names an identity: as that of an item, of an end of a link, or of both. `None` where it does not.
 pub fn named_as(receipt: &Receipt, identity: Uuid) -> Option<&'static str>
-    ensures { MatchOption result (speaks_of identity receipt.now ≡ false) (λ word. (speaks_of identity receipt.now ≡ true) × (word.now ≡ naming_word (names_identity identity receipt.now) (names_end identity receipt.now))) }
+    ensures { MatchOption result (speaks_of identity receipt.now ≡ false)
+        (λ word. (speaks_of identity receipt.now ≡ true) × (word.now
+        ≡ naming_word (names_identity identity receipt.now) (names_end identity receipt.now))) }
 {
     let as_item = names_item(receipt, identity);
     let as_end = names_end(receipt, identity);
@@ -100,7 +103,9 @@ fn put_line(
     as_item: bool,
     as_end: bool,
 ) -> Result<(), AllocError>
-    ensures { IfOk result (λ _. (id : List ℕ) → names_identity id receipt.now ≡ as_item → names_end id receipt.now ≡ as_end → string_bytes text.new ≡ string_bytes text.old ++ way_line id receipt.now) }
+    ensures { IfOk result (λ _. (id : List ℕ) → names_identity id receipt.now ≡ as_item
+        → names_end id receipt.now ≡ as_end → string_bytes text.new ≡ string_bytes text.old
+        ++ way_line id receipt.now) }
 {
     put_number(text, 10, receipt.seq)?;
     put_left(text, 24, receipt.at.as_str())?;
@@ -115,7 +120,8 @@ fn put_line(
 
 /// Puts the line of a receipt, if it names the identity.
 fn put_if_named(text: &mut String, receipt: &Receipt, identity: Uuid) -> Result<(), AllocError>
-    ensures { IfOk result (λ _. string_bytes text.new ≡ string_bytes text.old ++ way_lines identity (receipt.now ∷ [])) }
+    ensures { IfOk result (λ _. string_bytes text.new ≡ string_bytes text.old
+        ++ way_lines identity (receipt.now ∷ [])) }
 {
     let as_item = names_item(receipt, identity);
     let as_end = names_end(receipt, identity);
@@ -171,7 +177,8 @@ pub fn is_spoken_of(receipts: &[Receipt], identity: Uuid) -> bool
     receipts.iter().any(|receipt| names_item(receipt, identity) || names_end(receipt, identity))
 }
 
-/// The way of an item by receipts in the order of their numbers: a line for each that names its identity, and where it stands. `None` where no receipt names it.
+/// The way of an item by receipts in the order of their numbers: a line for each that names its
+/// identity, and where it stands. `None` where no receipt names it.
 ///
 /// # Errors
 ///
@@ -181,7 +188,9 @@ pub fn way_text(
     receipts: &[Receipt],
     identity: Uuid,
 ) -> Result<Option<String>, AllocError>
-    ensures { IfOk result (λ found. MatchOption found (list_any (speaks_of identity) receipts.now ≡ false) (λ text. (list_any (speaks_of identity) receipts.now ≡ true) × (string_bytes text ≡ way_of identity receipts.now))) }
+    ensures { IfOk result (λ found. MatchOption found (list_any (speaks_of identity) receipts.now ≡ false)
+        (λ text. (list_any (speaks_of identity) receipts.now ≡ true)
+        × (string_bytes text ≡ way_of identity receipts.now))) }
 {
     if !is_spoken_of(receipts, identity) {
         return Ok(None);

@@ -1,5 +1,6 @@
 -- Items of the same kinds and identities have the same numbers.
-use Rattle.std.proofs.Common.{◌≡◌, ◌<◌, ◌∙◌, refl, ℕ, length, take, List, [], ◌∷◌, ◌++◌, ◌+◌, map, true, ap, sym, subst, get_or, drop}
+use Rattle.std.proofs.Common.{◌≡◌, ◌<◌, ◌∙◌, refl, ℕ, length, take, List, [], ◌∷◌, ◌++◌, ◌+◌, map, true, ap, sym}
+use Rattle.std.proofs.Common.{subst, get_or, drop}
 use Rattle.std.specs.Prelude.{bytes_eq, if◌then◌else◌}
 use Rattle.std.specs.List.{AllZip}
 use Rattle.std.proofs.lemmas.List.{take_more}
@@ -20,12 +21,14 @@ of_item (Media content_type bytes) = refl
 of_item (Row x y code label) = refl
 
 -- what is made of its kind and identity is bare of it
-pub bare_is : (told : Moved) (bare : Item) → bare.identity ≡ told.base → (is_item_kind told.kind ≡ true → kind_of bare.content ≡ told.kind) → IsBareOf told bare
+pub bare_is : (told : Moved) (bare : Item) → bare.identity ≡ told.base
+    → (is_item_kind told.kind ≡ true → kind_of bare.content ≡ told.kind) → IsBareOf told bare
 bare_is told bare named kind i is =
     let same : told.kind ≡ kind_of i.content = ap (λ m. m.kind) is in
     (named ∙ ap (λ m. m.base) is, kind (ap is_item_kind same ∙ of_item i.content) ∙ same)
 
-alike_counted : (c : Counts) (a b : Content) → kind_of a ≡ kind_of b → (counted c a ≡ counted c b) × (next_number c a ≡ next_number c b)
+alike_counted : (c : Counts) (a b : Content) → kind_of a ≡ kind_of b → (counted c a ≡ counted c b)
+    × (next_number c a ≡ next_number c b)
 alike_counted c (Tile zoom column row bytes) (Tile zoom' column' row' bytes') e = (refl, refl)
 alike_counted c (Media content_type bytes) (Media content_type' bytes') e = (refl, refl)
 alike_counted c (Row x y code label) (Row x' y' code' label') e = (refl, refl)
@@ -36,7 +39,8 @@ alike_counted c (Media content_type bytes) (Row x y code label) e = absurd (cc)
 alike_counted c (Row x y code label) (Tile zoom column row bytes) e = absurd (cc)
 alike_counted c (Row x y code label) (Media content_type bytes) e = absurd (cc)
 
-numbers_alike : (c : Counts) (told : List Moved) (bares items : List Item) → AllZip IsBareOf told bares → told ≡ map item_moved items → (id : List ℕ) → number_behind c bares id ≡ number_behind c items id
+numbers_alike : (c : Counts) (told : List Moved) (bares items : List Item) → AllZip IsBareOf told bares
+    → told ≡ map item_moved items → (id : List ℕ) → number_behind c bares id ≡ number_behind c items id
 numbers_alike c [] [] [] each e id = refl
 numbers_alike c [] [] (i ∷ items) each e id = absurd (cc)
 numbers_alike c [] (b ∷ bares) items each e id = absurd each
@@ -53,12 +57,17 @@ numbers_alike c (m ∷ told) (b ∷ bares) (i ∷ items) each e id =
     ∙ ap (λ n. if bytes_eq i.identity id then n else number_behind (counted c b.content) bares id) alike.1
     ∙ ap (λ n. if bytes_eq i.identity id then next_number c i.content else n) later
 
-pub numbers_of_told : (told : List Moved) (bares items : List Item) → AllZip IsBareOf told bares → told ≡ map item_moved items
+pub numbers_of_told : (told : List Moved) (bares items : List Item) → AllZip IsBareOf told bares
+    → told ≡ map item_moved items
     → (id : List ℕ) → number_of bares id ≡ number_of items id
 numbers_of_told told bares items each e id = numbers_alike no_counts told bares items each e id
 
 -- one more of those that a loop goes over, and what was made of it
-pub zip_more : {A B : Type 0} (R : A → B → Type 0) (rows : List A) (i : ℕ) (row : A) (made now : List B) (x : B) → i < length rows → row ≡ get_or rows i row → now ≡ made ++ x ∷ [] → AllZip R (take i rows) made → R row x → AllZip R (take (i + 1) rows) now
+pub zip_more : {A B : Type 0} (R : A → B → Type 0) (rows : List A) (i : ℕ) (row : A) (made now : List B) (x : B)
+    → i < length rows → row ≡ get_or rows i row → now ≡ made ++ x ∷ [] → AllZip R (take i rows) made → R row x
+    → AllZip R (take (i + 1) rows) now
 zip_more R rows i row made now x less is pushed all one =
-    let cut : take (i + 1) rows ≡ take i rows ++ row ∷ [] = take_more rows i row less ∙ ap (λ r. take i rows ++ r ∷ []) (sym is) in
-    subst (λ l. AllZip R l now) (sym cut) (subst (AllZip R (take i rows ++ row ∷ [])) (sym pushed) (all_zipped_more R (take i rows) made row x all one))
+    let cut : take (i + 1) rows ≡ take i rows ++ row ∷ [] = take_more rows i row less
+    ∙ ap (λ r. take i rows ++ r ∷ []) (sym is) in
+    subst (λ l. AllZip R l now) (sym cut) (subst (AllZip R (take i rows ++ row ∷ [])) (sym pushed)
+    (all_zipped_more R (take i rows) made row x all one))

@@ -25,12 +25,15 @@ pub given_err : {T E P Q : Type 0} (r : Result T E) → (P → Q) → OnErr r P 
 given_err (Ok x) so p = tt
 given_err (Err e) so p = so p
 
-pub told_written : (w : World) (p : List ℕ) (f : Frame) (n : ℕ) (links : List Relation) (a b : Option (List ℕ)) (r : Result (Unit {0}) ManifestFault)
+pub told_written : (w : World) (p : List ℕ) (f : Frame) (n : ℕ) (links : List Relation) (a b : Option (List ℕ))
+    (r : Result (Unit {0}) ManifestFault)
     → f ≡ w.frame → n ≡ ticket w p → is_live w p ≡ true → links ≡ (holdings w p).links
-    → OnOk r (Appends a b (export_text f p n (holdings w p).items links)) → OnErr r (WentOut a b (export_text f p n (holdings w p).items links)) → IsOfLive r → WritesExport w p a b r
+    → OnOk r (Appends a b (export_text f p n (holdings w p).items links))
+    → OnErr r (WentOut a b (export_text f p n (holdings w p).items links)) → IsOfLive r → WritesExport w p a b r
 told_written w p f n links a b r frame number live same_links ok err of =
     let same = export_same w p f n (holdings w p).items links frame number refl same_links in
-    live_written w p a b r live (subst (λ t. OnOk r (Appends a b t)) same ok) (subst (λ t. OnErr r (WentOut a b t)) same err) of
+    live_written w p a b r live (subst (λ t. OnOk r (Appends a b t)) same ok)
+    (subst (λ t. OnErr r (WentOut a b t)) same err) of
 
 module _ {S : Type 0} (g : Ghosts S) where
   pub clean_untouched : (a b : Seen S) → IsUntouched g a b → AllClean g b.members → AllClean g a.members

@@ -10,11 +10,13 @@ use Rattle.view_map.specs.declared.holders.Holder.{Holder}
 use Rattle.views.specs.Printed.{HasZoom, IsMap}
 use Rattle.views.specs.Zooms.{drawn_zoom}
 
-pub made_of : (w : World) (f : Frame) (zoom : ℤ) (hs : List Holder) (text : List ℕ) → f ≡ w.frame → AreHolders w zoom hs → text ≡ map_text f zoom hs → IsWorldMap w zoom text
+pub made_of : (w : World) (f : Frame) (zoom : ℤ) (hs : List Holder) (text : List ℕ) → f ≡ w.frame
+    → AreHolders w zoom hs → text ≡ map_text f zoom hs → IsWorldMap w zoom text
 made_of w f zoom hs text frame are is = (hs, are, is ∙ ap (λ x. map_text x zoom hs) frame)
 
 -- of a zoom that a frame has, which is that of the world
-module _ (w : World) (f : Frame) (asked : Option ℤ) (zoom : ℤ) (frame : f ≡ w.frame) (is : zoom ≡ drawn_zoom f asked) where
+module _ (w : World) (f : Frame) (asked : Option ℤ) (zoom : ℤ) (frame : f ≡ w.frame)
+    (is : zoom ≡ drawn_zoom f asked) where
   drawn : zoom ≡ drawn_zoom w.frame asked
   drawn = is ∙ ap (λ x. drawn_zoom x asked) frame
 

@@ -16,7 +16,8 @@ abbrev seen : World → Package → ModelSight
 seen w p = record { uuid = p.uuid; parent = p.parent; depth = p.depth; ticket = ticket w p.uuid }
 
 -- each says the ticket of its own package
-each_says : (w : World) (sights : List PackageSight) (packages : List Package) → map sight_of sights ≡ map (seen w) packages
+each_says : (w : World) (sights : List PackageSight) (packages : List Package)
+    → map sight_of sights ≡ map (seen w) packages
     → AllByRecursion (λ (s : PackageSight). s.ticket ≡ ticket w s.uuid) sights
 each_says w [] packages same = tt
 each_says w (s ∷ sights) [] same = absurd (cc)
@@ -26,7 +27,8 @@ each_says w (s ∷ sights) (p ∷ packages) same =
     (ap (λ m. m.ticket) first ∙ ap (λ m. ticket w m.uuid) (sym first), each_says w sights packages left)
 
 -- a package that is live is among them
-is_there : (w : World) (p : List ℕ) (sights : List PackageSight) (packages : List Package) → map sight_of sights ≡ map (seen w) packages
+is_there : (w : World) (p : List ℕ) (sights : List PackageSight) (packages : List Package)
+    → map sight_of sights ≡ map (seen w) packages
     → list_any (λ (s : PackageSight). bytes_eq s.uuid p) sights ≡ list_any (λ x. bytes_eq (package_key x) p) packages
 is_there w p [] [] same = refl
 is_there w p [] (x ∷ packages) same = absurd (cc)
@@ -34,15 +36,19 @@ is_there w p (s ∷ sights) [] same = absurd (cc)
 is_there w p (s ∷ sights) (x ∷ packages) same =
     let first : sight_of s ≡ seen w x = cc in
     let left : map sight_of sights ≡ map (seen w) packages = cc in
-    ap (λ m. bytes_eq m.uuid p || list_any (λ (s : PackageSight). bytes_eq s.uuid p) sights) first ∙ ap (λ b. bytes_eq x.uuid p || b) (is_there w p sights packages left)
+    ap (λ m. bytes_eq m.uuid p || list_any (λ (s : PackageSight). bytes_eq s.uuid p) sights) first
+    ∙ ap (λ b. bytes_eq x.uuid p || b) (is_there w p sights packages left)
 
-pub ticket_seen : (w : World) (p : List ℕ) (sights : List PackageSight) (s : PackageSight) → map sight_of sights ≡ package_sights w
+pub ticket_seen : (w : World) (p : List ℕ) (sights : List PackageSight) (s : PackageSight)
+    → map sight_of sights ≡ package_sights w
     → entry (λ (s : PackageSight). s.uuid) p sights ≡ Some s → s.ticket ≡ ticket w p
 ticket_seen w p sights s same found =
-    let said = All-found (λ (s : PackageSight). s.ticket ≡ ticket w s.uuid) (λ (s : PackageSight). bytes_eq s.uuid p) s sights found (each_says w sights w.packages same) in
+    let said = All-found (λ (s : PackageSight). s.ticket ≡ ticket w s.uuid) (λ (s : PackageSight). bytes_eq s.uuid p)
+    s sights found (each_says w sights w.packages same) in
     said.0 ∙ ap (ticket w) ((bytes_eq-Decides s.uuid p).0 said.1)
 
 pub is_seen : (w : World) (p : List ℕ) (sights : List PackageSight) → map sight_of sights ≡ package_sights w
     → entry (λ (s : PackageSight). s.uuid) p sights ≡ None → is_live w p ≡ true → ⊥
 is_seen w p sights same none live =
-    false≢true (sym (none_found (λ (s : PackageSight). bytes_eq s.uuid p) sights none) ∙ is_there w p sights w.packages same ∙ live)
+    false≢true (sym (none_found (λ (s : PackageSight). bytes_eq s.uuid p) sights none)
+    ∙ is_there w p sights w.packages same ∙ live)

@@ -10,18 +10,25 @@ use Rattle.view_world.specs.Looks.{LooksInto}
 use Rattle.views.specs.Showing.{told, told_if}
 
 module _ {S : Type 0} (g : Ghosts S) {T : Type 0} (bytes : T → List ℕ) where
-  pub looks_told : (text : World → List ℕ) (seen : Seen S) (stores : List (Held S)) (r : Result T Fault) → LooksInto g (λ w t. bytes t ≡ text w) seen stores r → LooksInto g (λ w t. t ≡ text w) seen stores (told bytes r)
+  pub looks_told : (text : World → List ℕ) (seen : Seen S) (stores : List (Held S)) (r : Result T Fault)
+      → LooksInto g (λ w t. bytes t ≡ text w) seen stores r → LooksInto g (λ w t. t ≡ text w) seen stores
+      (told bytes r)
   looks_told text seen stores (Ok t) it = record { read = it.read; told = it.told }
   looks_told text seen stores (Err fault) it = record { read = it.read; told = λ clean. tt }
 
-  pub looks_told_if : (text : World → Option (List ℕ)) (seen : Seen S) (stores : List (Held S)) (r : Result (Option T) Fault) → LooksInto g (λ w found. option_map bytes found ≡ text w) seen stores r → LooksInto g (λ w found. found ≡ text w) seen stores (told_if bytes r)
+  pub looks_told_if : (text : World → Option (List ℕ)) (seen : Seen S) (stores : List (Held S))
+      (r : Result (Option T) Fault) → LooksInto g (λ w found. option_map bytes found ≡ text w) seen stores r
+      → LooksInto g (λ w found. found ≡ text w) seen stores (told_if bytes r)
   looks_told_if text seen stores (Ok found) it = record { read = it.read; told = it.told }
   looks_told_if text seen stores (Err fault) it = record { read = it.read; told = λ clean. tt }
 
-  pub tells_told : (text : World → List ℕ) (old new : Seen S) (r : Result T Fault) → TellsOf g (λ w t. bytes t ≡ text w) old new r → TellsOf g (λ w t. t ≡ text w) old new (told bytes r)
+  pub tells_told : (text : World → List ℕ) (old new : Seen S) (r : Result T Fault)
+      → TellsOf g (λ w t. bytes t ≡ text w) old new r → TellsOf g (λ w t. t ≡ text w) old new (told bytes r)
   tells_told text old new (Ok t) it = it
   tells_told text old new (Err fault) it = λ clean. tt
 
-  pub tells_told_if : (text : World → Option (List ℕ)) (old new : Seen S) (r : Result (Option T) Fault) → TellsOf g (λ w found. option_map bytes found ≡ text w) old new r → TellsOf g (λ w found. found ≡ text w) old new (told_if bytes r)
+  pub tells_told_if : (text : World → Option (List ℕ)) (old new : Seen S) (r : Result (Option T) Fault)
+      → TellsOf g (λ w found. option_map bytes found ≡ text w) old new r
+      → TellsOf g (λ w found. found ≡ text w) old new (told_if bytes r)
   tells_told_if text old new (Ok found) it = it
   tells_told_if text old new (Err fault) it = λ clean. tt

@@ -40,6 +40,7 @@ module _ {S : Type 0} (g : Ghosts S) where
   pub record Gets {W : Type 0} (word : List ℕ) (old new : Seen S) (writer writer' : W)
       (before after : Option (List ℕ)) (ending : Ending) : Type 0 where
     pub found : Result (Result (List ℕ) NameFault) Fault
-    pub told : TellsOf g (λ w r. MatchResult r (IsNamedData w word) (λ fault. the_item (world_items w) word ≡ Err fault)) old new found
+    pub told : TellsOf g (λ w r. MatchResult r (IsNamedData w word)
+        (λ fault. the_item (world_items w) word ≡ Err fault)) old new found
     pub read : IsUntouched g old new
     pub shown : ShowsData writer writer' before after found ending

@@ -1,7 +1,8 @@
 -- How a call that looks at a folder ends: its exit status, and the lines that it prints before (profile).
 use Rattle.std.specs.Prelude.{ℕ, List, [], codes}
 use Rattle.command_words.specs.Endings.{line_of}
-use Rattle.command_folder.specs.Endings.{ending_status as usual_status, output_text as usual_output, error_text as usual_error, note_text as usual_note}
+use Rattle.command_folder.specs.Endings.{ending_status as usual_status, output_text as usual_output}
+use Rattle.command_folder.specs.Endings.{error_text as usual_error, note_text as usual_note}
 use Rattle.views.specs.declared.endings.Ending.{Ending}
 use Rattle.views.specs.declared.endings.Ending.TheVariants.{Usual, NoSuchRequest, NoSuchIdentity, NoSuchZoom}
 

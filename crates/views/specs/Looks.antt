@@ -24,7 +24,8 @@ use Rattle.views.specs.declared.endings.Ending.TheVariants.{Usual}
 use Rattle.views.specs.declared.looking.Asked.{Asked}
 use Rattle.views.specs.declared.looking.Asked.TheVariants as asked
 use Rattle.views.specs.declared.looking.Look.{Look}
-use Rattle.views.specs.declared.looking.Look.TheVariants.{Status, Log, Get, Explain, Receipt, Manifest, Export, Map, Audit}
+use Rattle.views.specs.declared.looking.Look.TheVariants.{Status, Log, Get, Explain, Receipt, Manifest, Export, Map}
+use Rattle.views.specs.declared.looking.Look.TheVariants.{Audit}
 
 -- ---- the words
 

@@ -14,46 +14,53 @@ use Rattle.views.specs.declared.endings.Ending.TheVariants.{NoSuchRequest, NoSuc
 
 module _ {S : Type 0} (g : Ghosts S) where
   -- The packages were printed in this form, and so many stores beside them; the stores of the world were only read.
-  pub record ShowsStatus {W : Type 0} (form : Form) (strays : ℕ) (seen : Seen S) (stores : List (Held S)) (writer writer' : W) (before after : Option (List ℕ)) (ending : Ending) : Type 0 where
+  pub record ShowsStatus {W : Type 0} (form : Form) (strays : ℕ) (seen : Seen S) (stores : List (Held S))
+      (writer writer' : W) (before after : Option (List ℕ)) (ending : Ending) : Type 0 where
     pub found : Result (List ℕ) Fault
     pub looked : LooksInto g (λ w text. text ≡ status_text form w strays) seen stores found
     pub shown : ShowsText found writer writer' before after ending
 
   -- The receipts that are asked for were printed; the stores were only read.
-  pub record ShowsLog {W : Type 0} (form : Form) (excerpt : Excerpt) (seen : Seen S) (stores : List (Held S)) (writer writer' : W) (before after : Option (List ℕ)) (ending : Ending) : Type 0 where
+  pub record ShowsLog {W : Type 0} (form : Form) (excerpt : Excerpt) (seen : Seen S) (stores : List (Held S))
+      (writer writer' : W) (before after : Option (List ℕ)) (ending : Ending) : Type 0 where
     pub found : Result (List ℕ) Fault
     pub looked : LooksInto g (λ w text. text ≡ log_text form w excerpt) seen stores found
     pub shown : ShowsText found writer writer' before after ending
 
   -- The way of an item was printed; the stores were only read.
-  pub record ShowsWay {W : Type 0} (form : Form) (id : List ℕ) (seen : Seen S) (stores : List (Held S)) (writer writer' : W) (before after : Option (List ℕ)) (ending : Ending) : Type 0 where
+  pub record ShowsWay {W : Type 0} (form : Form) (id : List ℕ) (seen : Seen S) (stores : List (Held S))
+      (writer writer' : W) (before after : Option (List ℕ)) (ending : Ending) : Type 0 where
     pub found : Result (Option (List ℕ)) Fault
     pub looked : LooksInto g (λ w text. text ≡ way_answer form w id) seen stores found
     pub shown : Shows found NoSuchIdentity writer writer' before after ending
 
   -- The receipt of a request was printed; the world was only read.
-  pub record ShowsReceipt {W : Type 0} (id : List ℕ) (old new : Seen S) (writer writer' : W) (before after : Option (List ℕ)) (ending : Ending) : Type 0 where
+  pub record ShowsReceipt {W : Type 0} (id : List ℕ) (old new : Seen S) (writer writer' : W)
+      (before after : Option (List ℕ)) (ending : Ending) : Type 0 where
     pub found : Result (Option (List ℕ)) Fault
     pub told : TellsOf g (λ w text. text ≡ receipt_line w id) old new found
     pub read : IsRead g old new
     pub shown : Shows found NoSuchRequest writer writer' before after ending
 
   -- The same of a world that stays: the packages,
-  pub record TellsStatus {W : Type 0} (form : Form) (strays : ℕ) (old new : Seen S) (writer writer' : W) (before after : Option (List ℕ)) (ending : Ending) : Type 0 where
+  pub record TellsStatus {W : Type 0} (form : Form) (strays : ℕ) (old new : Seen S) (writer writer' : W)
+      (before after : Option (List ℕ)) (ending : Ending) : Type 0 where
     pub found : Result (List ℕ) Fault
     pub told : TellsOf g (λ w text. text ≡ status_text form w strays) old new found
     pub read : IsLookedAt g old new
     pub shown : ShowsText found writer writer' before after ending
 
   -- the receipts that are asked for,
-  pub record TellsLog {W : Type 0} (form : Form) (excerpt : Excerpt) (old new : Seen S) (writer writer' : W) (before after : Option (List ℕ)) (ending : Ending) : Type 0 where
+  pub record TellsLog {W : Type 0} (form : Form) (excerpt : Excerpt) (old new : Seen S) (writer writer' : W)
+      (before after : Option (List ℕ)) (ending : Ending) : Type 0 where
     pub found : Result (List ℕ) Fault
     pub told : TellsOf g (λ w text. text ≡ log_text form w excerpt) old new found
     pub read : IsLookedAt g old new
     pub shown : ShowsText found writer writer' before after ending
 
   -- and the way of an item.
-  pub record TellsWay {W : Type 0} (form : Form) (id : List ℕ) (old new : Seen S) (writer writer' : W) (before after : Option (List ℕ)) (ending : Ending) : Type 0 where
+  pub record TellsWay {W : Type 0} (form : Form) (id : List ℕ) (old new : Seen S) (writer writer' : W)
+      (before after : Option (List ℕ)) (ending : Ending) : Type 0 where
     pub found : Result (Option (List ℕ)) Fault
     pub told : TellsOf g (λ w text. text ≡ way_answer form w id) old new found
     pub read : IsLookedAt g old new

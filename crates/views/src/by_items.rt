@@ -153,7 +153,8 @@ fn send_by_items<S: Alter + Drop, W: Write>(
     Ok(())
 }
 
-/// Writes the SQL of a package of this frame. What its receipts tell of its items and its links are in memory, and one content.
+/// Writes the SQL of a package of this frame. What its receipts tell of its items and its links are
+/// in memory, and one content.
 pub(crate) fn write_by_items<S: Alter + Drop, W: Write>(
     alloc: Global,
     world: &mut World<S>,
@@ -161,7 +162,8 @@ pub(crate) fn write_by_items<S: Alter + Drop, W: Write>(
     writer: &mut W,
 ) -> Result<(), ManifestFault>
     ensures read { IsRead S.Store world.old world.new }
-    ensures written { IsExport S.Store «package» world.old world.new (W.contents writer.old) (W.contents writer.new) result }
+    ensures written { IsExport S.Store «package» world.old world.new (W.contents writer.old) (W.contents writer.new)
+        result }
     ensures unknown { LeavesUnknown writer.old writer.new result }
 {
     let frame = world.frame();

@@ -57,7 +57,8 @@ pub fn get_in<S: Alter + Drop, W: Write>(
     word: &str,
     writer: &mut W,
 ) -> Ending
-    ensures { Gets S.Store word.now world.old world.new writer.old writer.new (W.contents writer.old) (W.contents writer.new) result }
+    ensures { Gets S.Store word.now world.old world.new writer.old writer.new (W.contents writer.old)
+        (W.contents writer.new) result }
 {
     match named_data(alloc, world, word) {
         Ok(found) => show_named(alloc, found, writer),

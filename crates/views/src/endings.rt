@@ -53,7 +53,8 @@ pub fn error_of(ending: Ending) -> &'static str
     }
 }
 
-/// What a person can be told of an ending beside its lines, without the end of a line. It is empty where nothing more is known.
+/// What a person can be told of an ending beside its lines, without the end of a line. It is empty
+/// where nothing more is known.
 ///
 /// # Errors
 ///

@@ -19,7 +19,8 @@ pub fn explain_in<S: Alter + Drop, W: Write>(
     identity: Uuid,
     writer: &mut W,
 ) -> (Ending, Vec<Connection<S>>)
-    ensures { ShowsWay S.Store form identity world result.1.items writer.old writer.new (W.contents writer.old) (W.contents writer.new) result.0 }
+    ensures { ShowsWay S.Store form identity world result.1.items writer.old writer.new (W.contents writer.old)
+        (W.contents writer.new) result.0 }
 {
     let (found, stores) = way_of(alloc, world, form, identity);
     let ending = show_found(writer, found, Ending::NoSuchIdentity);
@@ -34,7 +35,8 @@ pub fn tell_way<S: Alter + Drop, W: Write>(
     identity: Uuid,
     writer: &mut W,
 ) -> Ending
-    ensures { TellsWay S.Store form identity world.old world.new writer.old writer.new (W.contents writer.old) (W.contents writer.new) result }
+    ensures { TellsWay S.Store form identity world.old world.new writer.old writer.new (W.contents writer.old)
+        (W.contents writer.new) result }
 {
     let found = way_text_in(alloc, world, form, identity);
     show_found(writer, found, Ending::NoSuchIdentity)

@@ -32,7 +32,8 @@ pub fn export_in<S: Alter + Drop, W: Write>(
     package: Uuid,
     writer: &mut W,
 ) -> Ending
-    ensures { EndsExport S.Store «package» world.old world.new writer.old writer.new (W.contents writer.old) (W.contents writer.new) result }
+    ensures { EndsExport S.Store «package» world.old world.new writer.old writer.new (W.contents writer.old)
+        (W.contents writer.new) result }
 {
     match write_export(alloc, world, package, writer) {
         Ok(()) => DONE,

@@ -63,7 +63,8 @@ fn holders_among<S: Alter + Drop>(
     zoom: i64,
     sights: &[PackageSight],
 ) -> Result<Vec<Holder>, Fault>
-    ensures told { TellsOf S.Store (λ w holders. AllZip (IsHolder w zoom) (map sight_of sights.now) holders.items) world.old world.new result }
+    ensures told { TellsOf S.Store (λ w holders. AllZip (IsHolder w zoom) (map sight_of sights.now) holders.items)
+        world.old world.new result }
     ensures read { IsUntouched S.Store world.old world.new }
 {
     let mut holders = Vec::new(alloc);

@@ -19,7 +19,8 @@ pub fn log_in<S: Alter + Drop, W: Write>(
     excerpt: &Excerpt<'_>,
     writer: &mut W,
 ) -> (Ending, Vec<Connection<S>>)
-    ensures { ShowsLog S.Store form excerpt.now world result.1.items writer.old writer.new (W.contents writer.old) (W.contents writer.new) result.0 }
+    ensures { ShowsLog S.Store form excerpt.now world result.1.items writer.old writer.new (W.contents writer.old)
+        (W.contents writer.new) result.0 }
 {
     let (text, stores) = log_of(alloc, world, form, excerpt);
     let ending = show(writer, text);
@@ -34,7 +35,8 @@ pub fn tell_log<S: Alter + Drop, W: Write>(
     excerpt: &Excerpt<'_>,
     writer: &mut W,
 ) -> Ending
-    ensures { TellsLog S.Store form excerpt.now world.old world.new writer.old writer.new (W.contents writer.old) (W.contents writer.new) result }
+    ensures { TellsLog S.Store form excerpt.now world.old world.new writer.old writer.new (W.contents writer.old)
+        (W.contents writer.new) result }
 {
     let text = log_text_in(alloc, world, form, excerpt);
     show(writer, text)

@@ -31,7 +31,8 @@ pub fn manifest_in<S: Alter + Drop, W: Write>(
     package: Uuid,
     writer: &mut W,
 ) -> Ending
-    ensures { EndsManifest S.Store «package» world.old world.new writer.old writer.new (W.contents writer.old) (W.contents writer.new) result }
+    ensures { EndsManifest S.Store «package» world.old world.new writer.old writer.new (W.contents writer.old)
+        (W.contents writer.new) result }
 {
     match write_manifest(alloc, world, package, writer) {
         Ok(()) => DONE,

@@ -31,7 +31,8 @@ pub fn map_in<S: Alter + Drop, W: Write>(
     zoom: Option<i64>,
     writer: &mut W,
 ) -> Ending
-    ensures { EndsMap S.Store zoom world.old world.new writer.old writer.new (W.contents writer.old) (W.contents writer.new) result }
+    ensures { EndsMap S.Store zoom world.old world.new writer.old writer.new (W.contents writer.old)
+        (W.contents writer.new) result }
 {
     match print_map(alloc, world, zoom, writer) {
         Ok(()) => Ending::Usual(DONE),

@@ -55,7 +55,8 @@ fn world_map<S: Alter + Drop>(
     }
 }
 
-/// Writes the map of a world: who holds which sheets of the zoom that is asked for, or of the one that is drawn where none is. The text is made whole before any of it is written.
+/// Writes the map of a world: who holds which sheets of the zoom that is asked for, or of the one
+/// that is drawn where none is. The text is made whole before any of it is written.
 ///
 /// # Errors
 ///
@@ -67,7 +68,8 @@ pub fn print_map<S: Alter + Drop, W: Write>(
     writer: &mut W,
 ) -> Result<(), MapFault>
     ensures read { IsUntouched S.Store world.old world.new }
-    ensures printed { IsPrinted S.Store asked world.old world.new (W.contents writer.old) (W.contents writer.new) result }
+    ensures printed { IsPrinted S.Store asked world.old world.new (W.contents writer.old) (W.contents writer.new)
+        result }
     ensures unprinted { LeavesUnprinted writer.old writer.new result }
 {
     let frame = world.frame();

@@ -17,7 +17,8 @@ pub fn receipt_in<S: Alter + Drop, W: Write>(
     request: Uuid,
     writer: &mut W,
 ) -> Ending
-    ensures { ShowsReceipt S.Store request world.old world.new writer.old writer.new (W.contents writer.old) (W.contents writer.new) result }
+    ensures { ShowsReceipt S.Store request world.old world.new writer.old writer.new (W.contents writer.old)
+        (W.contents writer.new) result }
 {
     let found = receipt_line(alloc, world, request);
     show_found(writer, found, Ending::NoSuchRequest)

@@ -28,7 +28,8 @@ fn print<W: Write>(writer: &mut W, text: &str) -> Ending
 
 /// Writes what was found, or tells what gave out.
 pub(crate) fn show<W: Write>(writer: &mut W, text: Result<String, Fault>) -> Ending
-    ensures { ShowsText (told string_bytes text) writer.old writer.new (W.contents writer.old) (W.contents writer.new) result }
+    ensures { ShowsText (told string_bytes text) writer.old writer.new (W.contents writer.old) (W.contents writer.new)
+        result }
 {
     match text {
         Ok(text) => print(writer, text.as_str()),
@@ -42,7 +43,8 @@ pub(crate) fn show_found<W: Write>(
     found: Result<Option<String>, Fault>,
     none: Ending,
 ) -> Ending
-    ensures { Shows (told_if string_bytes found) none writer.old writer.new (W.contents writer.old) (W.contents writer.new) result }
+    ensures { Shows (told_if string_bytes found) none writer.old writer.new (W.contents writer.old)
+        (W.contents writer.new) result }
 {
     match found {
         Ok(Some(text)) => print(writer, text.as_str()),

@@ -18,7 +18,8 @@ pub fn status_in<S: Alter + Drop, W: Write>(
     strays: u64,
     writer: &mut W,
 ) -> (Ending, Vec<Connection<S>>)
-    ensures { ShowsStatus S.Store form strays world result.1.items writer.old writer.new (W.contents writer.old) (W.contents writer.new) result.0 }
+    ensures { ShowsStatus S.Store form strays world result.1.items writer.old writer.new (W.contents writer.old)
+        (W.contents writer.new) result.0 }
 {
     let (text, stores) = status_of(alloc, world, form, strays);
     let ending = show(writer, text);
@@ -33,7 +34,8 @@ pub fn tell_status<S: Alter + Drop, W: Write>(
     strays: u64,
     writer: &mut W,
 ) -> Ending
-    ensures { TellsStatus S.Store form strays world.old world.new writer.old writer.new (W.contents writer.old) (W.contents writer.new) result }
+    ensures { TellsStatus S.Store form strays world.old world.new writer.old writer.new (W.contents writer.old)
+        (W.contents writer.new) result }
 {
     let text = status_text_in(alloc, world, form, strays);
     show(writer, text)

@@ -41,8 +41,10 @@ fn send_items<W: Write>(
     writer: &mut W,
 ) -> Result<(), ManifestFault>
     requires { IsTrue (is_good_frame frame.now) }
-    ensures ok { OnOk result (Appends (W.contents writer.old) (W.contents writer.new) (items_behind frame.now no_counts items.now)) }
-    ensures err { OnErr result (Began (W.contents writer.old) (W.contents writer.new) (items_behind frame.now no_counts items.now)) }
+    ensures ok { OnOk result (Appends (W.contents writer.old) (W.contents writer.new)
+        (items_behind frame.now no_counts items.now)) }
+    ensures err { OnErr result (Began (W.contents writer.old) (W.contents writer.new)
+        (items_behind frame.now no_counts items.now)) }
     ensures live { IsOfLive result }
 {
     let mut counts = Counts::none();
@@ -78,7 +80,8 @@ pub(crate) fn send_links<W: Write>(
 ///
 /// # Errors
 ///
-/// Want of memory, or a writer that failed. A beginning of the text went out, and not all of it: without its end it makes nothing.
+/// Want of memory, or a writer that failed. A beginning of the text went out, and not all of it:
+/// without its end it makes nothing.
 pub fn send_export<W: Write>(
     alloc: Global,
     frame: &Frame,
@@ -89,8 +92,10 @@ pub fn send_export<W: Write>(
     writer: &mut W,
 ) -> Result<(), ManifestFault>
     requires { IsTrue (is_good_frame frame.now) }
-    ensures ok { OnOk result (Appends (W.contents writer.old) (W.contents writer.new) (export_text frame.now «package» ticket items.now links.now)) }
-    ensures err { OnErr result (WentOut (W.contents writer.old) (W.contents writer.new) (export_text frame.now «package» ticket items.now links.now)) }
+    ensures ok { OnOk result (Appends (W.contents writer.old) (W.contents writer.new)
+        (export_text frame.now «package» ticket items.now links.now)) }
+    ensures err { OnErr result (WentOut (W.contents writer.old) (W.contents writer.new)
+        (export_text frame.now «package» ticket items.now links.now)) }
     ensures live { IsOfLive result }
 {
     let numbers = numbers_of(alloc, items)?;
@@ -131,7 +136,8 @@ pub(crate) fn is_good(frame: &Frame) -> bool
     frame.check().is_ok()
 }
 
-/// Writes the SQL of a package. Of one of many bytes one content is in memory at a time; of another all are read before any is written.
+/// Writes the SQL of a package. Of one of many bytes one content is in memory at a time; of another
+/// all are read before any is written.
 ///
 /// # Errors
 ///
@@ -143,7 +149,8 @@ pub fn write_export<S: Alter + Drop, W: Write>(
     writer: &mut W,
 ) -> Result<(), ManifestFault>
     ensures read { IsRead S.Store world.old world.new }
-    ensures written { IsExport S.Store «package» world.old world.new (W.contents writer.old) (W.contents writer.new) result }
+    ensures written { IsExport S.Store «package» world.old world.new (W.contents writer.old) (W.contents writer.new)
+        result }
     ensures unknown { LeavesUnknown writer.old writer.new result }
 {
     if is_large(world, package) {

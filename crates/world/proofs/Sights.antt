@@ -26,22 +26,32 @@ module _ {S : Type 0} (g : Ghosts S) where
       ∙ ap (λ n. record { uuid = p.uuid; parent = p.parent; depth = p.depth; ticket = n }) is.ticket
 
   -- the members are listed as the packages of the world
-  sights_told : (w : World) (ms : List (Member S)) (count : ℕ) → AreMembers g ms count w → map sight_of (map member_sight ms) ≡ package_sights w
-  sights_told w ms count are = map-map sight_of member_sight ms ∙ zip_map (IsMember g w) (λ m. sight_of (member_sight m)) (sight w) (one_sight w) ms w.packages are.each
+  sights_told : (w : World) (ms : List (Member S)) (count : ℕ) → AreMembers g ms count w
+      → map sight_of (map member_sight ms) ≡ package_sights w
+  sights_told w ms count are = map-map sight_of member_sight ms
+      ∙ zip_map (IsMember g w) (λ m. sight_of (member_sight m)) (sight w) (one_sight w) ms w.packages are.each
 
   -- and so is what was made a list of
-  pub listed : {X E : Type 0} (items : X → List Listed) (r : Result X E) (ms : List (Member S)) (now : Seen S) → ms ≡ now.members → IfOk r (λ x. items x ≡ map member_sight ms) → IfOk r (λ x. (w : World) → StandsFor g now w → map sight_of (items x) ≡ package_sights w)
-  listed items (Ok x) ms now same is = λ w stands. ap (λ ss. map sight_of ss) is ∙ sights_told w ms now.count (subst (λ ls. AreMembers g ls now.count w) (sym same) stands.members)
+  pub listed : {X E : Type 0} (items : X → List Listed) (r : Result X E) (ms : List (Member S)) (now : Seen S)
+      → ms ≡ now.members → IfOk r (λ x. items x ≡ map member_sight ms)
+      → IfOk r (λ x. (w : World) → StandsFor g now w → map sight_of (items x) ≡ package_sights w)
+  listed items (Ok x) ms now same is = λ w stands. ap (λ ss. map sight_of ss) is
+      ∙ sights_told w ms now.count (subst (λ ls. AreMembers g ls now.count w) (sym same) stands.members)
   listed items (Err e) ms now same is = tt
 
   -- the sums that are kept of a member are those of its package
-  pub sums_there : (ms : List (Member S)) (uuid : List ℕ) (at : ℕ) (m : Member S) → StandsAt g ms uuid at → slice_get ms at ≡ Some m → (w : World) (count : ℕ) → AreMembers g ms count w → Some m.sums ≡ sums_of w uuid
+  pub sums_there : (ms : List (Member S)) (uuid : List ℕ) (at : ℕ) (m : Member S) → StandsAt g ms uuid at
+      → slice_get ms at ≡ Some m → (w : World) (count : ℕ) → AreMembers g ms count w → Some m.sums ≡ sums_of w uuid
   sums_there ms uuid at m stands place w count are =
-      let here : (p : Package) × (slice_get w.packages at ≡ Some p) × IsMember g w m p = zip_at (IsMember g w) ms w.packages at m are.each place in
+      let here : (p : Package) × (slice_get w.packages at ≡ Some p) × IsMember g w m p =
+      zip_at (IsMember g w) ms w.packages at m are.each place in
       let there : slice_get w.packages at ≡ Some (holdings w uuid) = stands.holds w count are in
       let found : slice_get w.packages at ≡ Some here.0 = here.1 in
       let same : here.0 ≡ holdings w uuid = cc in
-      ap Some (here.2.sums ∙ ap sums_held same) ∙ ap (λ b. then_some b (sums_held (holdings w uuid))) (sym (stands.live w count are))
+      ap Some (here.2.sums ∙ ap sums_held same) ∙ ap (λ b. then_some b (sums_held (holdings w uuid)))
+      (sym (stands.live w count are))
 
-  pub sums_nowhere : (ms : List (Member S)) (uuid : List ℕ) → StandsNowhere g ms uuid → (w : World) (count : ℕ) → AreMembers g ms count w → None ≡ sums_of w uuid
-  sums_nowhere ms uuid stands w count are = ap (λ b. then_some b (sums_held (holdings w uuid))) (sym (stands.dead w count are))
+  pub sums_nowhere : (ms : List (Member S)) (uuid : List ℕ) → StandsNowhere g ms uuid → (w : World) (count : ℕ)
+      → AreMembers g ms count w → None ≡ sums_of w uuid
+  sums_nowhere ms uuid stands w count are = ap (λ b. then_some b (sums_held (holdings w uuid)))
+      (sym (stands.dead w count are))

@@ -23,10 +23,13 @@ module _ {S : Type 0} (g : Ghosts S) where
   }
 
   -- what rests on no UUID that is known
-  pub asks_known : {X E : Type 0} {Answer : World → X → Type 0} {old new : List (Member S)} {known : List (List ℕ)} {r : Result X E} → AsksAll g {X = X} {E = E} Answer old new r → AsksAll g {X = X} {E = E} (λ w x. Knows known w → Answer w x) old new r
+  pub asks_known : {X E : Type 0} {Answer : World → X → Type 0} {old new : List (Member S)} {known : List (List ℕ)}
+      {r : Result X E} → AsksAll g {X = X} {E = E} Answer old new r
+      → AsksAll g {X = X} {E = E} (λ w x. Knows known w → Answer w x) old new r
   asks_known {X} {E} {Answer} {old} {new} {known} {r} it = asks_weaker g r (λ x w count are told knows. told) it
 
-  module _ (f : Frame) (old new : List (Member S)) (count : ℕ) (has_failed : Bool) (strays : List (Held S)) (known : List (List ℕ)) where
+  module _ (f : Frame) (old new : List (Member S)) (count : ℕ) (has_failed : Bool) (strays : List (Held S))
+      (known : List (List ℕ)) where
     abbrev before : Seen S
     before = record { frame = f; members = old; count = count; has_failed = has_failed; strays = strays; known = known }
 
@@ -34,20 +37,36 @@ module _ {S : Type 0} (g : Ghosts S) where
     after = record { frame = f; members = new; count = count; has_failed = has_failed; strays = strays; known = known }
 
     stands_after : AllStay g old new → (w : World) → StandsFor g before w → StandsFor g after w
-    stands_after stay w stands = record { frame = stands.frame; members = members_stay g old new count w stay stands.members; known = stands.known }
+    stands_after stay w stands = record {
+      frame = stands.frame;
+      members =
+          members_stay g old new count w stay stands.members;
+      known = stands.known;
+    }
 
     read_members : AllStay g old new → IsRead g before after
-    read_members stay = record { same = refl; stay = stay; clean = clean_before g old new stay; stands = stands_after stay }
+    read_members stay = record {
+      same = refl;
+      stay = stay;
+      clean = clean_before g old new stay;
+      stands =
+          stands_after stay;
+    }
 
-    tells_members : {X E : Type 0} {Answer : World → X → Type 0} (r : Result X E) → AsksAll g {X = X} {E = E} (λ w x. Knows known w → Answer w x) old new r → TellsOf g {X = X} {E = E} Answer before after r
+    tells_members : {X E : Type 0} {Answer : World → X → Type 0} (r : Result X E)
+        → AsksAll g {X = X} {E = E} (λ w x. Knows known w → Answer w x) old new r
+        → TellsOf g {X = X} {E = E} Answer before after r
     tells_members (Ok x) it = λ clean w stands. it.told clean w count stands.members stands.known
     tells_members (Err e) it = λ clean. tt
 
-    opens_members : {X E : Type 0} {Answer : World → X → Type 0} (r : Result X E) → AsksAll g {X = X} {E = E} Answer old new r → {Was : Type 0} → (Was → AllOpen g old) → AllClean g new → OnOk r (Was → AllOpen g new)
+    opens_members : {X E : Type 0} {Answer : World → X → Type 0} (r : Result X E)
+        → AsksAll g {X = X} {E = E} Answer old new r → {Was : Type 0} → (Was → AllOpen g old) → AllClean g new
+        → OnOk r (Was → AllOpen g new)
     opens_members (Ok x) it so clean = λ was. it.stays_open clean (so was)
     opens_members (Err e) it so clean = tt
 
-    module _ {X E : Type 0} {Answer : World → X → Type 0} (r : Result X E) (it : AsksAll g {X = X} {E = E} (λ w x. Knows known w → Answer w x) old new r) where
+    module _ {X E : Type 0} {Answer : World → X → Type 0} (r : Result X E)
+        (it : AsksAll g {X = X} {E = E} (λ w x. Knows known w → Answer w x) old new r) where
       -- what the members told is told of the world
       pub world_tells : (was : Seen S) → before ≡ was → TellsOf g {X = X} {E = E} Answer was after r
       world_tells was seen = subst (λ s. TellsOf g {X = X} {E = E} Answer s after r) seen (tells_members r it)

@@ -1,5 +1,6 @@
 -- What a world asks a shelf for, and what it gives back to it. Profile.
-use Rattle.std.specs.Prelude.{◌≡◌, ◌⊎◌, ℕ, ⊤, true, false, List, [], ◌∷◌, ◌++◌, Option, Some, None, Result, Ok, Err, slice_get, bytes_eq}
+use Rattle.std.specs.Prelude.{◌≡◌, ◌⊎◌, ℕ, ⊤, true, false, List, [], ◌∷◌, ◌++◌, Option, Some, None, Result, Ok, Err}
+use Rattle.std.specs.Prelude.{slice_get, bytes_eq}
 use Rattle.std.specs.List.{AllByRecursion}
 use Rattle.sqlite.specs.Held.{Held, state}
 use Rattle.sqlite.specs.Store.{Ghosts}
@@ -84,7 +85,8 @@ module _ {S : Type 0} (g : Ghosts S) where
     -- The connection is the member's, and its store was only read.
     abbrev pub ComesHome : List (Member S) → (List ℕ → Type 0) → Held S → H → H → Type 0
     ComesHome members Fact conn before after = (at : ℕ) × (member : Member S) × (slice_get members at ≡ Some member)
-        × Stays (state g member.conn) (state g conn) × GivenBack g Takes member.uuid conn before after × Fact member.uuid
+        × Stays (state g member.conn) (state g conn) × GivenBack g Takes member.uuid conn before after
+        × Fact member.uuid
 
     -- It was given back those of these connections: of none, or of one.
     abbrev pub ComeHome : List (Member S) → (List ℕ → Type 0) → List (Held S) → H → H → Type 0
@@ -92,7 +94,8 @@ module _ {S : Type 0} (g : Ghosts S) where
     ComeHome members Fact (conn ∷ others) before after = (others ≡ []) × ComesHome members Fact conn before after
 
   module _ {H : Type 0} (Asks : List ℕ → H → H → Type 0) (Takes : List ℕ → S → H → H → Type 0) where
-    -- It was asked as above, where no member left; or it was given back the store that came home, and asked for nothing.
+    -- It was asked as above, where no member left; or it was given back the store that came home, and asked for
+    -- nothing.
     abbrev pub UsesFor : List (Member S) → Option (List ℕ) → (List ℕ → Type 0) → (List ℕ → Type 0) → List (Held S)
         → H → H → Type 0
     UsesFor members child New NoMore [] before after = AsksFor Asks Takes child New before after
@@ -138,8 +141,10 @@ module _ {S : Type 0} (g : Ghosts S) where
       ServesChild (Some child) Beside strays (Err why) before after =
           GivesBack child (Beside child) (IsLastingFault why) strays before after
 
-      -- Where a split asks for a child, this became of the store for it: after a receipt it is that of a member; else the
-      -- shelf was given a store as that of the child, and a crash leaves nothing in that or what is beside the world; or
+      -- Where a split asks for a child, this became of the store for it: after a receipt it is that of a member; else
+      -- the
+      -- shelf was given a store as that of the child, and a crash leaves nothing in that or what is beside the world;
+      -- or
       -- a store is the stray of a world that has failed.
       abbrev pub SettlesChild : Option (List ℕ) → Seen S → Result Receipt Refusal → Seen S → H → H → Type 0
       SettlesChild None old reply new before after = ⊤

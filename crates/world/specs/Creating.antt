@@ -1,5 +1,6 @@
 -- When no world is made. Profile.
-use Rattle.std.specs.Prelude.{◌≡◌, ◌≤◌, ◌+◌, ℕ, not, List, [], length, Vec, vec_capacity, Option, Result, Err, IfErr, MatchOption}
+use Rattle.std.specs.Prelude.{◌≡◌, ◌≤◌, ◌+◌, ℕ, not, List, [], length, Vec, vec_capacity, Option, Result, Err, IfErr}
+use Rattle.std.specs.Prelude.{MatchOption}
 use Rattle.std.specs.Bool.{then_some}
 use Rattle.std.specs.Option.{option_or, option_map}
 use Rattle.std.specs.declared.alloc.Global.{Global}

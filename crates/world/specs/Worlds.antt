@@ -1,5 +1,6 @@
 -- What a clause sees of a value of `World`, and the world of the model that it stands for. Profile.
-use Rattle.std.specs.Prelude.{◌≡◌, ◌⊎◌, ◌≤◌, ℕ, ℤ, Bool, true, false, List, [], ◌∷◌, ◌++◌, map, Option, None, Result, Err, IsTrue, IsOk, IfOk, IsErr, refl}
+use Rattle.std.specs.Prelude.{◌≡◌, ◌⊎◌, ◌≤◌, ℕ, ℤ, Bool, true, false, List, [], ◌∷◌, ◌++◌, map, Option, None, Result}
+use Rattle.std.specs.Prelude.{Err, IsTrue, IsOk, IfOk, IsErr, refl}
 use Rattle.std.specs.List.{AllByRecursion}
 use Rattle.std.specs.Coded.{Coded, code_by, coded×, coded_bool, coded_list, coded_option, coded_ℕ, coded_ℤ}
 use Rattle.sqlite.specs.Store.{Ghosts}
@@ -37,7 +38,15 @@ pub record Seen (S : Type 0) : Type 0 where
 
 -- a world that can be used, of these members
 abbrev pub seen_of : {S : Type 0} → Frame → List (Member S) → ℕ → List (List ℕ) → Seen S
-seen_of f members count known = record { frame = f; members = members; count = count; has_failed = false; strays = []; known = known }
+seen_of f members count known = record {
+  frame = f;
+  members = members;
+  count = count;
+  has_failed = false;
+  strays =
+      [];
+  known = known;
+}
 
 -- ---- as values that a model may have
 

@@ -1,5 +1,6 @@
 //! One request over the members of a world: what it comes to is decided, and where a change is due it is carried out.
-ghost use Rattle.std.specs.Prelude.{◌≡◌, ℕ, ◌≤◌, ◌<◌, ◌+◌, [], IsTrue, OnOk, IfSome, None, Some, length, vec_len, vec_capacity};
+ghost use Rattle.std.specs.Prelude.{◌≡◌, ℕ, ◌≤◌, ◌<◌, ◌+◌, [], IsTrue, OnOk, IfSome, None, Some, length, vec_len};
+ghost use Rattle.std.specs.Prelude.{vec_capacity};
 ghost use Rattle.sheet_types.specs.Matrix.{is_good_frame};
 ghost use Rattle.sheet_types.specs.Refuse.{greatest_receipts};
 ghost use Rattle.world_decisions.specs.Deciding.{HasPlace, child_asked};
@@ -11,7 +12,8 @@ ghost use Rattle.world.specs.Creating.{HasRoomFor};
 ghost use Rattle.world_loans.specs.Loans.{HasLendingPlace, HasReturnPlace, IsLent, IsReturned};
 ghost use Rattle.world_loans.specs.ServeFaults.{CountsShelf};
 ghost use Rattle.world.specs.Changes.{Changes};
-ghost use Rattle.world.specs.Asked.{ComeHome, HasUuidAt, IsNoPackage, ServesChild, ServesWith, UsesChild, child_returned};
+ghost use Rattle.world.specs.Asked.{ComeHome, HasUuidAt, IsNoPackage, ServesChild, ServesWith, UsesChild};
+ghost use Rattle.world.specs.Asked.{child_returned};
 ghost use Rattle.world_decisions.specs.declared.deciding.Decision.TheVariants.{ChangeDue};
 
 use crate::noting::decide_and_note;
@@ -50,7 +52,9 @@ fn make_room<S: Alter + Drop>(
     Ok(())
 }
 
-/// Carries out a split that is due, with the room for the child made before anything is written. The count of receipts goes on by the one that is entered. Where it fails, a store is given back to the shelf as that of the child, or is kept among the strays.
+/// Carries out a split that is due, with the room for the child made before anything is written.
+/// The count of receipts goes on by the one that is entered. Where it fails, a store is given back
+/// to the shelf as that of the child, or is kept among the strays.
 fn carry_out_split<S: Alter + Drop, H: Shelf<S>>(
     members: &mut Vec<Member<S>>,
     strays: &mut Vec<Connection<S>>,
@@ -71,7 +75,8 @@ fn carry_out_split<S: Alter + Drop, H: Shelf<S>>(
     ensures room { HasRoomFor members.new.items strays.new }
     ensures shelf { CountsShelf result (H.failures_of shelf.old) (H.failures_of shelf.new) }
     ensures clean { AllClean S.Store members.new.items → AllClean S.Store members.old.items }
-    ensures uses { UsesChild S.Store H.asks H.takes H.failures_of frame.now due members.old.items members.new.items strays.new.items result shelf.old shelf.new }
+    ensures uses { UsesChild S.Store H.asks H.takes H.failures_of frame.now due members.old.items members.new.items
+        strays.new.items result shelf.old shelf.new }
 {
     make_room(members, strays)?;
     let child = child_store(members, shelf, alloc, frame, &due)?;
@@ -92,9 +97,11 @@ fn child_at<S: Alter + Drop>(members: &[Member<S>], at: usize, command: &Command
     if uuid == *child { Some(uuid) } else { None }
 }
 
-/// Carries out a merge that is due. The count of receipts goes on by the one that is entered. The child's store is given back after the commit: its package is live no more.
+/// Carries out a merge that is due. The count of receipts goes on by the one that is entered. The
+/// child's store is given back after the commit: its package is live no more.
 ///
-/// What a shelf takes back it may remove. So it is given the store of the package that the command names, and no other, even where a store told something false.
+/// What a shelf takes back it may remove. So it is given the store of the package that the command
+/// names, and no other, even where a store told something false.
 fn carry_out_merge<S: Alter + Drop, H: Shelf<S>>(
     members: &mut Vec<Member<S>>,
     count: &mut u64,
@@ -108,7 +115,8 @@ fn carry_out_merge<S: Alter + Drop, H: Shelf<S>>(
         members.old.items members.new.items [] count.old count.new result)
         × ComeHome S.Store H.takes members.old.items
         (λ uuid. (child_returned command.now ≡ Some uuid)
-        × OfEachDue S.Store (λ w next. IsReturned w next due) members.old.items count.old (λ w next. IsNoPackage next uuid))
+        × OfEachDue S.Store (λ w next. IsReturned w next due) members.old.items count.old
+        (λ w next. IsNoPackage next uuid))
         it.gone shelf.old shelf.new
         × WritesTwoAtMost S.Store (child_asked command.now) (child_returned command.now)
         members.old.items members.new.items it.gone }
@@ -142,7 +150,9 @@ fn carry_out_change<S: Alter + Drop>(
     Ok(change.receipt)
 }
 
-/// Answers one request, or carries it out. The count is that of all receipts, and what they name is known. A refusal is a reply; what is an error here is a want of memory, a store that failed, or a shelf that had none.
+/// Answers one request, or carries it out. The count is that of all receipts, and what they name is
+/// known. A refusal is a reply; what is an error here is a want of memory, a store that failed, or
+/// a shelf that had none.
 pub(crate) fn serve<S: Alter + Drop, H: Shelf<S>>(
     members: &mut Vec<Member<S>>,
     strays: &mut Vec<Connection<S>>,
@@ -160,12 +170,14 @@ pub(crate) fn serve<S: Alter + Drop, H: Shelf<S>>(
     requires room { HasRoomFor members.old.items strays.old }
     ensures serves { (it : ServesAll S.Store frame.now request.now
         members.old.items members.new.items strays.new.items known.old known.new count.old count.new result)
-        × ServesWith S.Store H.asks H.takes frame.now request.now members.old.items members.new.items known.old count.old
+        × ServesWith S.Store H.asks H.takes frame.now request.now members.old.items members.new.items known.old
+        count.old
         it.gone shelf.old shelf.new
         × WritesTwoAtMost S.Store (child_asked request.now.command) (child_returned request.now.command)
         members.old.items members.new.items it.gone }
     ensures child { ServesChild S.Store H.asks H.takes H.failures_of (child_asked request.now.command)
-        (λ child trees. AllClean S.Store members.new.items → OfEachSeen S.Store frame.now known.old members.old.items count.old
+        (λ child trees. AllClean S.Store members.new.items → OfEachSeen S.Store frame.now known.old members.old.items
+        count.old
         (λ w. AllOpen S.Store members.old.items → IsChildBeside w.frame w.packages child trees))
         strays.new.items result shelf.old shelf.new }
     ensures room { HasRoomFor members.new.items strays.new }

@@ -74,9 +74,11 @@ impl<S: Alter + Drop> World<S> {
         package: Uuid,
         question: &Q,
     ) -> Result<Option<A>, Fault>
-        ensures told { TellsOf S.Store (λ w found. IsAnswer (Q.tells question.now) w «package» found) self.old self.new result }
+        ensures told { TellsOf S.Store (λ w found. IsAnswer (Q.tells question.now) w «package» found) self.old
+            self.new result }
         ensures read { IsRead S.Store self.old self.new }
-        ensures opens { AllClean S.Store self.new.members → OnOk result (AllOpen S.Store self.old.members → AllOpen S.Store self.new.members) }
+        ensures opens { AllClean S.Store self.new.members → OnOk result
+            (AllOpen S.Store self.old.members → AllOpen S.Store self.new.members) }
     {
         ask_in(&mut self.members, alloc, package, question)
     }

@@ -42,7 +42,8 @@ impl From<Fault> for CreateFault {
     }
 }
 
-/// The archive alone, in a store that is blank where its disk is clean. Its place among the members is there before anything is written.
+/// The archive alone, in a store that is blank where its disk is clean. Its place among the members
+/// is there before anything is written.
 pub(crate) fn archive_alone<S: Alter + Drop>(
     alloc: Global,
     conn: Connection<S>,
@@ -56,8 +57,10 @@ pub(crate) fn archive_alone<S: Alter + Drop>(
     ensures rests { IfOk result (λ members. AllRest S.Store members.items) }
     ensures one { IfOk result (λ members. length members.items ≡ 1) }
     ensures clean { IfOk result (λ members. AllClean S.Store members.items → HasCleanDisk (state S.Store conn)) }
-    ensures made { IfOk result (λ members. AllClean S.Store members.items → AreMembers S.Store members.items 0 (new_world archive frame.now)) }
-    ensures dated { IfOk result (λ members. AllClean S.Store members.items → AllMadeAt S.Store frame.now at.now members.items) }
+    ensures made { IfOk result (λ members. AllClean S.Store members.items
+        → AreMembers S.Store members.items 0 (new_world archive frame.now)) }
+    ensures dated { IfOk result (λ members. AllClean S.Store members.items
+        → AllMadeAt S.Store frame.now at.now members.items) }
     ensures opens { IfOk result (λ members. AllClean S.Store members.items → AllOpen S.Store members.items) }
 {
     if !is_at_rest(&conn) {

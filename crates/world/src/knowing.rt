@@ -1,4 +1,5 @@
-//! What a world is asked of a list before it is carried out: whether an identity was ever used, and whether there is room for the receipts.
+//! What a world is asked of a list before it is carried out: whether an identity was ever used, and
+//! whether there is room for the receipts.
 ghost use Rattle.std.specs.Prelude.{◌≡◌, OnOk};
 ghost use Rattle.std.specs.List.{list_any};
 ghost use Rattle.sheet_types.specs.Custody.{is_used};
@@ -49,12 +50,14 @@ impl<S: Alter + Drop> World<S> {
     pub fn is_used(&mut self, identity: Uuid) -> Result<bool, Fault>
         ensures told { TellsOf S.Store (λ w found. found ≡ is_used w identity) self.old self.new result }
         ensures read { IsRead S.Store self.old self.new }
-        ensures opens { AllClean S.Store self.new.members → OnOk result (AllOpen S.Store self.old.members → AllOpen S.Store self.new.members) }
+        ensures opens { AllClean S.Store self.new.members → OnOk result
+            (AllOpen S.Store self.old.members → AllOpen S.Store self.new.members) }
     {
         was_used(&mut self.members, &self.known, identity)
     }
 
-    /// Whether all packages and the ledger are within their limits, and so many receipts more are none too many. Nothing is looked up.
+    /// Whether all packages and the ledger are within their limits, and so many receipts more are
+    /// none too many. Nothing is looked up.
     pub fn has_room(&self, more: u64) -> bool
         ensures { (w : ModelWorld) → StandsFor S.Store self.now w → result ≡ has_room w more }
     {

@@ -29,7 +29,9 @@ fn note_due(known: &mut Known, command: &Command, decision: &Decision) -> Result
     }
 }
 
-/// What a request comes to, as `decide` tells it. What the receipt of what is due names is known then, before the first write, so that no memory is wanted once the receipt stands; if it comes to no receipt, that more is known than was named does no harm.
+/// What a request comes to, as `decide` tells it. What the receipt of what is due names is known
+/// then, before the first write, so that no memory is wanted once the receipt stands; if it comes
+/// to no receipt, that more is known than was named does no harm.
 ///
 /// # Errors
 ///

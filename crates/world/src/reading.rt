@@ -1,5 +1,7 @@
-//! What a world is asked for without changing it: the packages, what one of them holds and how much, and a kept receipt.
-ghost use Rattle.std.specs.Prelude.{◌≡◌, ◌<◌, ◌≤◌, ◌+◌, ◌++◌, ℕ, Some, IfOk, OnOk, map, length, slice_get, vec_len, vec_capacity};
+//! What a world is asked for without changing it: the packages, what one of them holds and how
+//! much, and a kept receipt.
+ghost use Rattle.std.specs.Prelude.{◌≡◌, ◌<◌, ◌≤◌, ◌+◌, ◌++◌, ℕ, Some, IfOk, OnOk, map, length, slice_get, vec_len};
+ghost use Rattle.std.specs.Prelude.{vec_capacity};
 ghost use Rattle.std.specs.Option.{option_map};
 ghost use Rattle.sheet_types.specs.Answers.{sums_of, package_sights, holdings_answer, receipt_answer};
 ghost use Rattle.sheet_types.specs.World.{World as ModelWorld, Package};
@@ -21,7 +23,8 @@ use world_queries::asking::place_of;
 use world_queries::asking_one::holdings_at;
 use world_queries::recalling::find_kept;
 
-/// What the list of packages says of a live one: its parent, where it is a loan, how many loans it is below the archive, and the number of the last receipt of it, 0 where there is none.
+/// What the list of packages says of a live one: its parent, where it is a loan, how many loans it
+/// is below the archive, and the number of the last receipt of it, 0 where there is none.
 #[derive(Clone, Copy, PartialEq, Eq)]
 pub struct PackageSight {
     /// The package's own.
@@ -108,19 +111,22 @@ impl<S: Alter + Drop> World<S> {
     ///
     /// Want of memory.
     pub fn packages(&self, alloc: Global) -> Result<Vec<PackageSight>, Fault>
-        ensures { IfOk result (λ sights. (w : ModelWorld) → StandsFor S.Store self.now w → map sight_of sights.items ≡ package_sights w) }
+        ensures { IfOk result (λ sights. (w : ModelWorld) → StandsFor S.Store self.now w
+            → map sight_of sights.items ≡ package_sights w) }
     {
         sights_of(self.members.as_slice(), alloc)
     }
 
-    /// How many tiles, media, attributes rows and links a live package holds, and the bytes of its items. `None` for a package that is not live. Nothing is looked up.
+    /// How many tiles, media, attributes rows and links a live package holds, and the bytes of its
+    /// items. `None` for a package that is not live. Nothing is looked up.
     pub fn sums(&self, package: Uuid) -> Option<Sums>
         ensures { (w : ModelWorld) → StandsFor S.Store self.now w → result ≡ sums_of w «package» }
     {
         sums_in(self.members.as_slice(), package)
     }
 
-    /// The items of a live package by kind and identity, and its links by mapping, base and medium. `None` for a package that is not live.
+    /// The items of a live package by kind and identity, and its links by mapping, base and medium.
+    /// `None` for a package that is not live.
     ///
     /// # Errors
     ///
@@ -130,9 +136,11 @@ impl<S: Alter + Drop> World<S> {
         alloc: Global,
         package: Uuid,
     ) -> Result<Option<(Vec<Item>, Vec<Relation>)>, Fault>
-        ensures told { TellsOf S.Store (λ w found. option_map (λ held. (held.0.items, held.1.items)) found ≡ holdings_answer w «package») self.old self.new result }
+        ensures told { TellsOf S.Store (λ w found. option_map (λ held. (held.0.items, held.1.items)) found
+            ≡ holdings_answer w «package») self.old self.new result }
         ensures read { IsRead S.Store self.old self.new }
-        ensures opens { AllClean S.Store self.new.members → OnOk result (AllOpen S.Store self.old.members → AllOpen S.Store self.new.members) }
+        ensures opens { AllClean S.Store self.new.members → OnOk result
+            (AllOpen S.Store self.old.members → AllOpen S.Store self.new.members) }
     {
         holdings_in(&mut self.members, alloc, package)
     }
@@ -145,12 +153,14 @@ impl<S: Alter + Drop> World<S> {
     pub fn receipt(&mut self, alloc: Global, id: Uuid) -> Result<Option<Receipt>, Fault>
         ensures told { TellsOf S.Store (λ w found. found ≡ receipt_answer w id) self.old self.new result }
         ensures read { IsRead S.Store self.old self.new }
-        ensures opens { AllClean S.Store self.new.members → OnOk result (AllOpen S.Store self.old.members → AllOpen S.Store self.new.members) }
+        ensures opens { AllClean S.Store self.new.members → OnOk result
+            (AllOpen S.Store self.old.members → AllOpen S.Store self.new.members) }
     {
         find_kept(&mut self.members, &self.known, alloc, id)
     }
 
-    /// The stores that the world holds: the strays, and behind them those of its packages in their order. Takes no memory.
+    /// The stores that the world holds: the strays, and behind them those of its packages in their
+    /// order. Takes no memory.
     pub fn into_stores(self) -> Vec<Connection<S>>
         ensures { result.items ≡ held S.Store self }
     {

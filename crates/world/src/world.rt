@@ -11,7 +11,8 @@ ghost use Rattle.world.specs.Creating.{IsCreatedOrRefused, HasRoom};
 ghost use Rattle.world_members.specs.Members.{AllRest, AllClean, AllOpen, AllMadeAt};
 ghost use Rattle.sheet_types.specs.declared.refusal.Refusal.TheVariants.{StoreFault};
 ghost use Rattle.sqlite_disk.specs.Disk.{MoreFaults};
-ghost use Rattle.world.specs.Worlds.{IsAccepted, IsHeld, IsRun, IsStep, LeavesNoTrace, StandsFor, StandsBeside, StandsStill, seen_of};
+ghost use Rattle.world.specs.Worlds.{IsAccepted, IsHeld, IsRun, IsStep, LeavesNoTrace, StandsFor, StandsBeside};
+ghost use Rattle.world.specs.Worlds.{StandsStill, seen_of};
 ghost use Rattle.world.specs.Asked.{IsStepWith, IsRunWith};
 
 use crate::applying::serve;
@@ -32,14 +33,17 @@ use world_known::known::Known;
 use world_members::members::Member;
 use world_members::reserving::{push_reserved, room_for_one};
 
-/// An archive and its loans: their stores, all of them open, with what is kept of each so that nothing is counted again.
+/// An archive and its loans: their stores, all of them open, with what is kept of each so that
+/// nothing is counted again.
 #[derive(Drop)]
 pub struct World<S: Alter + Drop> {
     pub(crate) frame: Frame,
     pub(crate) members: Vec<Member<S>>,
     pub(crate) count: u64,
     pub(crate) has_failed: bool,
-    // The stores of children that a split which failed left; a world that can be used has none. The list has room for the stores of all members too, so that all can be handed out without memory.
+    // The stores of children that a split which failed left; a world that can be used has none. The
+    // list has room for the stores of all members too, so that all can be handed out without
+    // memory.
     pub(crate) strays: Vec<Connection<S>>,
     // The UUIDs that receipts name, so that no store is asked of a new one.
     pub(crate) known: Known,
@@ -53,17 +57,36 @@ impl<S: Alter + Drop> Model for World<S> {
 
     ghost coded = { seen_code S.code };
 
-    ghost view = { λ w. record { frame = w.frame; members = w.members.items; count = w.count; has_failed = w.has_failed; strays = w.strays.items; known = w.known } };
+    ghost view = { λ w. record {
+      frame = w.frame;
+      members = w.members.items;
+      count = w.count;
+      has_failed =
+          w.has_failed;
+      strays = w.strays.items;
+      known = w.known;
+    } };
 
-    ghost invariant = { λ w. IsHeld S.Store (record { frame = w.frame; members = w.members.items; count = w.count; has_failed = w.has_failed; strays = w.strays.items; known = w.known }) × HasRoomFor w.members.items w.strays };
+    ghost invariant = { λ w. IsHeld S.Store (record {
+      frame = w.frame;
+      members = w.members.items;
+      count =
+          w.count;
+      has_failed = w.has_failed;
+      strays = w.strays.items;
+      known = w.known;
+    })
+        × HasRoomFor w.members.items w.strays };
 }
 
 impl<S: Alter + Drop> World<S> {
-    /// The world of an archive alone, with nothing in it, in a store that is blank where its disk is clean, as one over new files is. The moment is that of its making.
+    /// The world of an archive alone, with nothing in it, in a store that is blank where its disk
+    /// is clean, as one over new files is. The moment is that of its making.
     ///
     /// # Errors
     ///
-    /// The first rule that the frame breaks, or else a text that is no moment; or, in place of a world, want of memory or a store that failed. The connection is dropped then.
+    /// The first rule that the frame breaks, or else a text that is no moment; or, in place of a
+    /// world, want of memory or a store that failed. The connection is dropped then.
     pub fn create(
         alloc: Global,
         conn: Connection<S>,
@@ -72,14 +95,17 @@ impl<S: Alter + Drop> World<S> {
         frame: &Frame,
     ) -> Result<World<S>, CreateFault>
         requires blank { HasCleanDisk (state S.Store conn) → IsBlank no_schema (state S.Store conn).now }
-        ensures made { IfOk result (λ world. AllClean S.Store world.members → StandsFor S.Store world (new_world archive frame.now)) }
-        ensures dated { IfOk result (λ world. AllClean S.Store world.members → AllMadeAt S.Store frame.now at.now world.members) }
+        ensures made { IfOk result (λ world. AllClean S.Store world.members
+            → StandsFor S.Store world (new_world archive frame.now)) }
+        ensures dated { IfOk result (λ world. AllClean S.Store world.members
+            → AllMadeAt S.Store frame.now at.now world.members) }
         ensures opens { IfOk result (λ world. AllClean S.Store world.members → AllOpen S.Store world.members) }
         ensures clean { IfOk result (λ world. AllClean S.Store world.members → HasCleanDisk (state S.Store conn)) }
         ensures usable { IfOk result (λ world. world.has_failed ≡ false) }
         ensures refused { IsCreatedOrRefused frame.now at.now result }
     {
-        // Whoever read the two from words has judged them already; a `Frame` and a `&str` do not say so, and once for a world is little.
+        // Whoever read the two from words has judged them already; a `Frame` and a `&str` do not
+        // say so, and once for a world is little.
         if let Err(broken) = frame.check() {
             return Err(CreateFault::BadFrame(broken));
         }
@@ -98,7 +124,10 @@ impl<S: Alter + Drop> World<S> {
         })
     }
 
-    /// The world that members stand for, in the order of their UUIDs, with so many receipts, where all that these name is known; each member's store is at rest. That they stand for it may rest on the disks of other stores too. The list that is handed in has room for the stores of all members, so this takes no memory.
+    /// The world that members stand for, in the order of their UUIDs, with so many receipts, where
+    /// all that these name is known; each member's store is at rest. That they stand for it may
+    /// rest on the disks of other stores too. The list that is handed in has room for the stores of
+    /// all members, so this takes no memory.
     pub fn gathered(
         frame: Frame,
         members: Vec<Member<S>>,
@@ -130,7 +159,8 @@ impl<S: Alter + Drop> World<S> {
         self.frame
     }
 
-    /// Whether the world has failed: from then on it answers `StoreFault` to every request. Whoever asks also learns what each world keeps.
+    /// Whether the world has failed: from then on it answers `StoreFault` to every request. Whoever
+    /// asks also learns what each world keeps.
     pub fn has_failed(&self) -> bool
         ensures told { result ≡ self.now.has_failed }
         ensures held { IsHeld S.Store self.now }
@@ -138,13 +168,20 @@ impl<S: Alter + Drop> World<S> {
         self.has_failed
     }
 
-    /// Carries one request out, or tells why not. A request that comes again, with its line, gets the receipt that it got, and nothing is changed.
+    /// Carries one request out, or tells why not. A request that comes again, with its line, gets
+    /// the receipt that it got, and nothing is changed.
     ///
-    /// The shelf gives the store of the package that a split makes. It is asked for no other, once at most, and for none that a package of the world has. After the commit of a merge it is given back the store of the child, and no other. Where a split fails, a store is given back to it as that of the child, unless the world has failed: then a store is among the strays.
+    /// The shelf gives the store of the package that a split makes. It is asked for no other, once
+    /// at most, and for none that a package of the world has. After the commit of a merge it is
+    /// given back the store of the child, and no other. Where a split fails, a store is given back
+    /// to it as that of the child, unless the world has failed: then a store is among the strays.
     ///
     /// # Errors
     ///
-    /// The first reason that holds, or, in place of any reply, want of memory, a store that failed, or a shelf that had none. Nothing is changed then. The world has failed after any `StoreFault` but one of the shelf, and after a commit of a receipt that answered any error; after a receipt or a refusal it is as usable as before.
+    /// The first reason that holds, or, in place of any reply, want of memory, a store that failed,
+    /// or a shelf that had none. Nothing is changed then. The world has failed after any
+    /// `StoreFault` but one of the shelf, and after a commit of a receipt that answered any error;
+    /// after a receipt or a refusal it is as usable as before.
     pub fn apply<H: Shelf<S>>(
         &mut self,
         alloc: Global,
@@ -152,11 +189,14 @@ impl<S: Alter + Drop> World<S> {
         shelf: &mut H,
     ) -> Result<Receipt, Refusal>
         ensures step { IsStep S.Store request.now self.old result self.new }
-        ensures uses { IsStepWith S.Store H.asks H.takes H.failures_of request.now self.old result self.new shelf.old shelf.new }
+        ensures uses { IsStepWith S.Store H.asks H.takes H.failures_of request.now self.old result self.new shelf.old
+            shelf.new }
         ensures still { StandsStill S.Store self.old result self.new }
         ensures unharmed { LeavesNoTrace S.Store self.old result self.new }
-        ensures failed { self.old.has_failed ≡ true → (result ≡ Err StoreFault) × (self.new ≡ self.old) × (H.failures_of shelf.new ≡ H.failures_of shelf.old) }
-        ensures cause { result ≡ Err StoreFault → (self.new.has_failed ≡ true) ⊎ MoreFaults (H.failures_of shelf.old) (H.failures_of shelf.new) }
+        ensures failed { self.old.has_failed ≡ true → (result ≡ Err StoreFault) × (self.new ≡ self.old)
+            × (H.failures_of shelf.new ≡ H.failures_of shelf.old) }
+        ensures cause { result ≡ Err StoreFault → (self.new.has_failed ≡ true)
+            ⊎ MoreFaults (H.failures_of shelf.old) (H.failures_of shelf.new) }
         ensures usable { ¬ IsFault result → self.new.has_failed ≡ self.old.has_failed }
         ensures rises { self.old.has_failed ≡ false → self.new.has_failed ≡ true
             → (H.failures_of shelf.new ≡ H.failures_of shelf.old)
@@ -188,7 +228,8 @@ impl<S: Alter + Drop> World<S> {
         }
     }
 
-    /// Carries out the requests of a list, one after the other, and gives a reply for each. Room for all replies is there before the first is carried out.
+    /// Carries out the requests of a list, one after the other, and gives a reply for each. Room
+    /// for all replies is there before the first is carried out.
     ///
     /// # Errors
     ///
@@ -199,8 +240,10 @@ impl<S: Alter + Drop> World<S> {
         requests: &[Request],
         shelf: &mut H,
     ) -> Result<Vec<Result<Receipt, Refusal>>, OutOfMemory>
-        ensures ran { IfOk result (λ replies. IsRun S.Store requests.now self.old replies.items self.new (H.failures_of shelf.old) (H.failures_of shelf.new)) }
-        ensures uses { IfOk result (λ replies. IsRunWith S.Store H.asks H.takes H.failures_of requests.now self.old replies.items self.new
+        ensures ran { IfOk result (λ replies. IsRun S.Store requests.now self.old replies.items self.new
+            (H.failures_of shelf.old) (H.failures_of shelf.new)) }
+        ensures uses { IfOk result (λ replies. IsRunWith S.Store H.asks H.takes H.failures_of requests.now self.old
+            replies.items self.new
             (H.failures_of shelf.old) (H.failures_of shelf.new) shelf.old shelf.new) }
         ensures refused { OnErr result ((self.new ≡ self.old) × (H.failures_of shelf.new ≡ H.failures_of shelf.old)) }
         ensures unasked { OnErr result (shelf.new ≡ shelf.old) }

@@ -15,22 +15,31 @@ use Rattle.world_members.specs.declared.members.Member.{Member}
 module _ {S : Type 0} (g : Ghosts S) where
   -- the parts of a list
   pub left_clean : (xs ys : List (Held S)) → AreClean g (xs ++ ys) → AreClean g xs
-  left_clean xs ys clean = All-from_recursion (λ h. HasCleanDisk (state g h)) xs (All-left (λ h. HasCleanDisk (state g h)) xs ys (recursion_from_All (λ h. HasCleanDisk (state g h)) (xs ++ ys) clean))
+  left_clean xs ys clean = All-from_recursion (λ h. HasCleanDisk (state g h)) xs
+      (All-left (λ h. HasCleanDisk (state g h)) xs ys (recursion_from_All (λ h. HasCleanDisk (state g h)) (xs ++ ys)
+      clean))
 
   pub right_clean : (xs ys : List (Held S)) → AreClean g (xs ++ ys) → AreClean g ys
-  right_clean xs ys clean = All-from_recursion (λ h. HasCleanDisk (state g h)) ys (All-right (λ h. HasCleanDisk (state g h)) xs ys (recursion_from_All (λ h. HasCleanDisk (state g h)) (xs ++ ys) clean))
+  right_clean xs ys clean = All-from_recursion (λ h. HasCleanDisk (state g h)) ys
+      (All-right (λ h. HasCleanDisk (state g h)) xs ys (recursion_from_All (λ h. HasCleanDisk (state g h)) (xs ++ ys)
+      clean))
 
-  each_clean : (ms : List (Member S)) → AllByRecursion (λ h. HasCleanDisk (state g h)) (map (λ (m : Member S). m.conn) ms) → AllByRecursion (λ (m : Member S). HasCleanDisk (state g m.conn)) ms
+  each_clean : (ms : List (Member S)) → AllByRecursion (λ h. HasCleanDisk (state g h))
+      (map (λ (m : Member S). m.conn) ms) → AllByRecursion (λ (m : Member S). HasCleanDisk (state g m.conn)) ms
   each_clean [] all = tt
   each_clean (m ∷ ms) all = (all.0, each_clean ms all.1)
 
   -- clean stores of members are clean members
-  pub held_clean : (strays : List (Held S)) (ms : List (Member S)) → AreClean g (strays ++ map (λ m. m.conn) ms) → AllClean g ms
+  pub held_clean : (strays : List (Held S)) (ms : List (Member S)) → AreClean g (strays ++ map (λ m. m.conn) ms)
+      → AllClean g ms
   held_clean strays ms clean =
-      All-from_recursion (λ (m : Member S). HasCleanDisk (state g m.conn)) ms (each_clean ms (recursion_from_All (λ h. HasCleanDisk (state g h)) (map (λ (m : Member S). m.conn) ms) (right_clean strays (map (λ (m : Member S). m.conn) ms) clean)))
+      All-from_recursion (λ (m : Member S). HasCleanDisk (state g m.conn)) ms
+      (each_clean ms (recursion_from_All (λ h. HasCleanDisk (state g h)) (map (λ (m : Member S). m.conn) ms)
+      (right_clean strays (map (λ (m : Member S). m.conn) ms) clean)))
 
   -- and what they leave is what the members leave
-  pub members_left : (ms : List (Member S)) (contents : List Trees) → MayBeLeft g (map (λ m. m.conn) ms) contents → MayLeave g (λ m. m.conn) ms contents
+  pub members_left : (ms : List (Member S)) (contents : List Trees) → MayBeLeft g (map (λ m. m.conn) ms) contents
+      → MayLeave g (λ m. m.conn) ms contents
   members_left [] [] may = tt
   members_left [] (t ∷ ts) may = absurd may
   members_left (m ∷ ms) [] may = absurd may

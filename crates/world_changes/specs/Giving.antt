@@ -42,7 +42,8 @@ module _ {S : Type 0} (g : Ghosts S) where
       → AreMembers g old count w → IsLent w next due → AllOpen g old → IsChildBeside w.frame w.packages due.child trees
 
   module _ {H : Type 0} (Takes : List ℕ → S → H → H → Type 0) where
-    -- A shelf was given back the store of this connection, as that of the package of this UUID. Where its disk has given
+    -- A shelf was given back the store of this connection, as that of the package of this UUID. Where its disk has
+    -- given
     -- back what was written it had done so for the connection, and a crash leaves no more of it.
     abbrev pub GivenBack : List ℕ → Held S → H → H → Type 0
     GivenBack uuid conn before after = (store : S) × IsQuiet g.view g.faults g.recovers g.is_shielded conn.store store
@@ -53,7 +54,8 @@ module _ {S : Type 0} (g : Ghosts S) where
     ReturnsChild f due old new before after = (conn : Held S) × LeavesBlankOr (IsUnlent f due old new) conn
         × GivenBack due.child conn before after
 
-    -- The store of the child was given back where memory was wanting before the commit, and else the shelf is as it was.
+    -- The store of the child was given back where memory was wanting before the commit, and else the shelf is as it
+    -- was.
     abbrev pub ReturnsUnlent : List ℕ → Held S → Result Receipt TurnFault → H → H → Type 0
     ReturnsUnlent uuid child (Ok receipt) before after = after ≡ before
     ReturnsUnlent uuid child (Err why) before after = (why ≢ Before fault.OutOfMemory → after ≡ before)

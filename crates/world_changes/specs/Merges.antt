@@ -23,7 +23,8 @@ left_by (Err why) = []
 
 module _ {S : Type 0} (g : Ghosts S) where
   -- The parent took home what the child held, and the child has left the list, only read; or both are as they were.
-  pub record Merges (due : Returning) (old new : List (Member S)) (r : Result (Receipt × Held S) TurnFault) : Type 0 where
+  pub record Merges (due : Returning) (old new : List (Member S)) (r : Result (Receipt × Held S) TurnFault) :
+      Type 0 where
     pub rests : AllRest g new
     pub clean : AllClean g new → AreClean g (left_by r) → AllClean g old
     pub done : (merged : Receipt × Held S) → r ≡ Ok merged → (merged.0 ≡ due.receipt) × (length new + 1 ≡ length old)

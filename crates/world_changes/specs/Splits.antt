@@ -1,5 +1,6 @@
 -- What a split makes of the members of a world, once the store of the child is there. Profile.
-use Rattle.std.specs.Prelude.{◌≡◌, ◌⊎◌, ◌≤◌, ℕ, ◌+◌, true, List, [], ◌∷◌, ◌++◌, map, length, Some, Result, Ok, Err, IfOk, IsTrue, ◌≢◌}
+use Rattle.std.specs.Prelude.{◌≡◌, ◌⊎◌, ◌≤◌, ℕ, ◌+◌, true, List, [], ◌∷◌, ◌++◌, map, length, Some, Result, Ok, Err}
+use Rattle.std.specs.Prelude.{IfOk, IsTrue, ◌≢◌}
 use Rattle.sqlite.specs.Held.{Held, state}
 use Rattle.std.specs.List.{AllByRecursion, insert}
 use Rattle.sqlite.specs.Effect.{Database}
@@ -30,7 +31,16 @@ use Rattle.world_members.specs.declared.members.Member.{Member}
 
 -- the member of a child
 abbrev pub member_of_child : {S : Type 0} → Lending → Held S → Member S
-member_of_child due child = record { conn = child; uuid = due.child; parent = Some due.parent; depth = due.depth; loan = due.receipt.seq; sums = due.lent; ticket = due.receipt.seq }
+member_of_child due child = record {
+  conn = child;
+  uuid = due.child;
+  parent = Some due.parent;
+  depth =
+      due.depth;
+  loan = due.receipt.seq;
+  sums = due.lent;
+  ticket = due.receipt.seq;
+}
 
 -- It reads as the child with nothing in it, or with what was selected of its parent, which read as what this database
 -- holds: where the disk of the parent has given back what was written.

@@ -1,4 +1,5 @@
-//! A merge among the members of a world: the child's member leaves the list, the parent takes its turn, and the child's connection is handed out; or the child comes back to its place.
+//! A merge among the members of a world: the child's member leaves the list, the parent takes its
+//! turn, and the child's connection is handed out; or the child comes back to its place.
 ghost use Rattle.std.specs.Prelude.{◌≡◌, ◌<◌, length, vec_capacity};
 ghost use Rattle.world_loans.specs.Loans.{place_without};
 ghost use Rattle.world_members.specs.Members.{AllRest};
@@ -19,7 +20,8 @@ fn place_without(gone: usize, at: usize) -> usize
     if gone < at { at - 1 } else { at }
 }
 
-/// The parent takes home what the child holds, with the receipt of the merge. The child's connection is handed out beside it: it was only read. After the commit nothing takes memory.
+/// The parent takes home what the child holds, with the receipt of the merge. The child's
+/// connection is handed out beside it: it was only read. After the commit nothing takes memory.
 ///
 /// # Errors
 ///

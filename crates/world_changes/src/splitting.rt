@@ -1,5 +1,8 @@
-//! A split among the members of a world: the child's store is made and committed first, then the parent takes its turn, and the child comes to its place. After the commit that carries the receipt nothing takes memory.
-ghost use Rattle.std.specs.Prelude.{◌≡◌, ◌≢◌, ◌++◌, ◌∷◌, [], ℕ, ◌<◌, ◌≤◌, ◌+◌, true, IsTrue, Some, Err, IfOk, OnOk, OnErr, IfErr, length, vec_len, vec_capacity};
+//! A split among the members of a world: the child's store is made and committed first, then the
+//! parent takes its turn, and the child comes to its place. After the commit that carries the
+//! receipt nothing takes memory.
+ghost use Rattle.std.specs.Prelude.{◌≡◌, ◌≢◌, ◌++◌, ◌∷◌, [], ℕ, ◌<◌, ◌≤◌, ◌+◌, true, IsTrue, Some, Err, IfOk, OnOk};
+ghost use Rattle.std.specs.Prelude.{OnErr, IfErr, length, vec_len, vec_capacity};
 ghost use Rattle.sqlite.specs.Held.{state};
 ghost use Rattle.sqlite.specs.State.{HasCleanDisk};
 ghost use Rattle.sqlite_disk.specs.Disk.{CountsFault, MoreFaults};
@@ -43,7 +46,8 @@ use world_loans::loans::{Lending, ServeFault};
 use world_members::members::Member;
 use world_members::reserving::{insert_reserved, push_reserved};
 
-/// The store of a child: made, with what is selected of its parent in it, and committed. The parent is only read. Where it fails the store is handed back.
+/// The store of a child: made, with what is selected of its parent in it, and committed. The parent
+/// is only read. Where it fails the store is handed back.
 fn filled_store<S: Alter + Drop>(
     alloc: Global,
     blank: Connection<S>,
@@ -60,10 +64,15 @@ fn filled_store<S: Alter + Drop>(
     ensures opens { HasCleanDisk (state S.Store source.new) → OnOk result (IsTrue (state S.Store source.new).is_open) }
     ensures rests { IfOk result (λ made. Rests (state S.Store made)) }
     ensures is_open { IfOk result (λ made. HasCleanDisk (state S.Store made) → IsTrue (state S.Store made).is_open) }
-    ensures made { IfOk result (λ made. HasCleanDisk (state S.Store made) → HasCleanDisk (state S.Store source.new) → is_moment info.now.created.now ≡ true → (c : Cut) (from : Package) → IsSelectionOf c selection.now → Reads frame.now from (state S.Store source.old).now → IsPart c from
+    ensures made { IfOk result (λ made. HasCleanDisk (state S.Store made) → HasCleanDisk (state S.Store source.new)
+        → is_moment info.now.created.now ≡ true → (c : Cut) (from : Package) → IsSelectionOf c selection.now
+        → Reads frame.now from (state S.Store source.old).now → IsPart c from
         → MayCome c (new_package info.now.package info.now.parent info.now.depth info.now.loan)
-        → Keeps frame.now (with_cut c (new_package info.now.package info.now.parent info.now.depth info.now.loan)) (state S.Store made)) }
-    ensures left { IfErr result (λ unmade. LeavesBlankOr S.Store (ReadsAsChild frame.now info.now.created.now (new_package info.now.package info.now.parent info.now.depth info.now.loan) selection.now (state S.Store source.old).now (state S.Store source.new)) unmade.conn) }
+        → Keeps frame.now (with_cut c (new_package info.now.package info.now.parent info.now.depth info.now.loan))
+        (state S.Store made)) }
+    ensures left { IfErr result (λ unmade. LeavesBlankOr S.Store
+        (ReadsAsChild frame.now info.now.created.now (new_package info.now.package info.now.parent info.now.depth
+        info.now.loan) selection.now (state S.Store source.old).now (state S.Store source.new)) unmade.conn) }
 {
     if !is_at_rest(&blank) {
         return Err(Unmade {
@@ -83,7 +92,8 @@ fn blank_store<S: Alter + Drop, H: Shelf<S>>(
     shelf: &mut H,
     package: Uuid,
 ) -> Result<Connection<S>, ServeFault>
-    ensures blank { IfOk result (λ conn. HasCleanDisk (state S.Store conn) → IsBlank no_schema (state S.Store conn).now) }
+    ensures blank { IfOk result (λ conn. HasCleanDisk (state S.Store conn)
+        → IsBlank no_schema (state S.Store conn).now) }
     ensures early { IfErr result IsBeforeCommit }
     ensures unshelved { IfErr result IsUnshelved }
     ensures shelf { CountsShelf result (H.failures_of shelf.old) (H.failures_of shelf.new) }
@@ -93,7 +103,8 @@ fn blank_store<S: Alter + Drop, H: Shelf<S>>(
     Ok(blank)
 }
 
-/// The store of the child of a split that is due: made, filled and committed. The members are only read. Where it fails, a store is given back to the shelf as that of the child.
+/// The store of the child of a split that is due: made, filled and committed. The members are only
+/// read. Where it fails, a store is given back to the shelf as that of the child.
 pub fn child_store<S: Alter + Drop, H: Shelf<S>>(
     members: &mut Vec<Member<S>>,
     shelf: &mut H,
@@ -107,14 +118,18 @@ pub fn child_store<S: Alter + Drop, H: Shelf<S>>(
     requires good { IsTrue (is_good_frame frame.now) }
     ensures rests { AllRest S.Store members.new.items }
     ensures stay { AllStay S.Store members.old.items members.new.items }
-    ensures opens { AllClean S.Store members.new.items → OnOk result (AllOpen S.Store members.old.items → AllOpen S.Store members.new.items) }
+    ensures opens { AllClean S.Store members.new.items → OnOk result
+        (AllOpen S.Store members.old.items → AllOpen S.Store members.new.items) }
     ensures capacity { vec_capacity members.new ≡ vec_capacity members.old }
     ensures child { IfOk result (λ child. Rests (state S.Store child)) }
     ensures is_open { IfOk result (λ child. HasCleanDisk (state S.Store child) → IsTrue (state S.Store child).is_open) }
-    ensures keeps { IfOk result (λ child. AllClean S.Store members.new.items → (w next : World) (count : ℕ) → frame.now ≡ w.frame → AreMembers S.Store members.old.items count w → (lent : IsLent w next due.now) → KeepsLoan S.Store w next due.now lent child) }
+    ensures keeps { IfOk result (λ child. AllClean S.Store members.new.items → (w next : World) (count : ℕ)
+        → frame.now ≡ w.frame → AreMembers S.Store members.old.items count w → (lent : IsLent w next due.now)
+        → KeepsLoan S.Store w next due.now lent child) }
     ensures early { IfErr result IsBeforeCommit }
     ensures shelf { CountsShelf result (H.failures_of shelf.old) (H.failures_of shelf.new) }
-    ensures uses { AsksChild S.Store H.takes H.asks frame.now due.now members.old.items members.new.items result shelf.old shelf.new }
+    ensures uses { AsksChild S.Store H.takes H.asks frame.now due.now members.old.items members.new.items result
+        shelf.old shelf.new }
 {
     let blank = blank_store(shelf, due.child)?;
     let info = Info {
@@ -149,7 +164,8 @@ fn child_member<S: Alter + Drop>(due: &Lending, child: Connection<S>) -> Member<
     }
 }
 
-/// Keeps the store of a child whose parent's store failed or may have the change or not; gives it back to the shelf where memory was wanting before the commit. Takes no memory.
+/// Keeps the store of a child whose parent's store failed or may have the change or not; gives it
+/// back to the shelf where memory was wanting before the commit. Takes no memory.
 fn keep_or_return<S: Alter + Drop, H: Shelf<S>>(
     strays: &mut Vec<Connection<S>>,
     shelf: &mut H,
@@ -171,7 +187,9 @@ fn keep_or_return<S: Alter + Drop, H: Shelf<S>>(
     }
 }
 
-/// The parent lends, and the child comes to its place. Where the parent's store failed or may have the change or not, the child's store is kept among the strays; else the shelf gets it back. After the commit nothing takes memory.
+/// The parent lends, and the child comes to its place. Where the parent's store failed or may have
+/// the change or not, the child's store is kept among the strays; else the shelf gets it back.
+/// After the commit nothing takes memory.
 pub fn lend_and_place<S: Alter + Drop, H: Shelf<S>>(
     members: &mut Vec<Member<S>>,
     strays: &mut Vec<Connection<S>>,
@@ -185,7 +203,8 @@ pub fn lend_and_place<S: Alter + Drop, H: Shelf<S>>(
     requires child { Rests (state S.Store child) }
     requires room { vec_len members.old < vec_capacity members.old }
     requires stray_room { vec_len strays.old < vec_capacity strays.old }
-    ensures splits { Splits S.Store due child members.old.items members.new.items strays.old.items strays.new.items result }
+    ensures splits { Splits S.Store due child members.old.items members.new.items strays.old.items strays.new.items
+        result }
     ensures uses { ReturnsUnlent S.Store H.takes due.child child result shelf.old shelf.new }
     ensures shelf { H.failures_of shelf.new ≡ H.failures_of shelf.old }
     ensures capacity { vec_capacity members.new ≡ vec_capacity members.old }

@@ -1,4 +1,5 @@
-//! The turn that one member's store takes in a split or in a merge, with the receipt; what is kept of the member is brought up to date after the commit.
+//! The turn that one member's store takes in a split or in a merge, with the receipt; what is kept
+//! of the member is brought up to date after the commit.
 ghost use Rattle.std.specs.Prelude.{◌≡◌, ◌<◌, Err, IsTrue, OnOk, length, vec_capacity};
 ghost use Rattle.sqlite.specs.Held.{state};
 ghost use Rattle.sqlite.specs.State.{HasCleanDisk};
@@ -26,9 +27,11 @@ pub(crate) fn lend_at<S: Alter + Drop>(
 ) -> Result<(), TurnFault>
     requires within { due.now.at < length members.old.items }
     requires rests { AllRest S.Store members.old.items }
-    ensures turned { TakesTurn S.Store (Lends due.now.receipt due.now.selection) due.now.left due.now.receipt.seq members.old.items members.new.items due.now.at result }
+    ensures turned { TakesTurn S.Store (Lends due.now.receipt due.now.selection) due.now.left due.now.receipt.seq
+        members.old.items members.new.items due.now.at result }
     ensures capacity { vec_capacity members.new ≡ vec_capacity members.old }
-    ensures unharmed { (fault : Fault) → result ≡ Err (Before fault) → LeavesAsBefore S.Store members.old.items members.new.items }
+    ensures unharmed { (fault : Fault) → result ≡ Err (Before fault)
+        → LeavesAsBefore S.Store members.old.items members.new.items }
 {
     let member = &mut members[due.at];
     lend(&mut member.conn, &due.selection, &due.receipt)?;
@@ -49,9 +52,12 @@ pub(crate) fn take_home_at<S: Alter + Drop>(
     requires child { Rests (state S.Store child.old) }
     ensures child { Stays (state S.Store child.old) (state S.Store child.new) }
     ensures opens { HasCleanDisk (state S.Store child.new) → OnOk result (IsTrue (state S.Store child.new).is_open) }
-    ensures turned { TakesTurn S.Store (FromClean (state S.Store child.new) (TakesHome due.now.receipt due.now.selection (state S.Store child.old).now)) due.now.sums due.now.receipt.seq members.old.items members.new.items at result }
+    ensures turned { TakesTurn S.Store (FromClean (state S.Store child.new)
+        (TakesHome due.now.receipt due.now.selection (state S.Store child.old).now)) due.now.sums due.now.receipt.seq
+        members.old.items members.new.items at result }
     ensures capacity { vec_capacity members.new ≡ vec_capacity members.old }
-    ensures unharmed { (fault : Fault) → result ≡ Err (Before fault) → LeavesNoMore S.Store members.old.items members.new.items }
+    ensures unharmed { (fault : Fault) → result ≡ Err (Before fault)
+        → LeavesNoMore S.Store members.old.items members.new.items }
 {
     let member = &mut members[at];
     take_home(child, &mut member.conn, &due.selection, &due.receipt)?;

@@ -1,5 +1,6 @@
 -- Whether a split would leave too many, by the sums and numbers that are kept.
-use Rattle.std.specs.Prelude.{◌≡◌, ℕ, ◌+◌, cond, ◌||◌, nat_lt, List, map, length, refl, bytes_eq, Some, slice_get, slice_set, true, false}
+use Rattle.std.specs.Prelude.{◌≡◌, ℕ, ◌+◌, cond, ◌||◌, nat_lt, List, map, length, refl, bytes_eq, Some, slice_get}
+use Rattle.std.specs.Prelude.{slice_set, true, false}
 use Rattle.std.proofs.Common.{sym, ap, ◌∙◌, length-append, ◌∷◌, []}
 use Rattle.std.proofs.lemmas.List.{length-map}
 use Rattle.std.proofs.lemmas.Slice.Zip.{AllZip-long}
@@ -36,9 +37,13 @@ use Rattle.world_members.proofs.Standing.{zip_map}
 
 -- one more in order is one more
 pub length_put : {X : Type 0} (key : X → List ℕ) (x : X) (xs : List X) → length (put key x xs) ≡ length xs + 1
-length_put key x xs = sym (length_sum (λ _. 1) (λ _. refl) (put key x xs)) ∙ sum_by-put key (λ _. 1) x xs ∙ ap (λ n. n + 1) (length_sum (λ _. 1) (λ _. refl) xs)
+length_put key x xs = sym (length_sum (λ _. 1) (λ _. refl) (put key x xs)) ∙ sum_by-put key (λ _. 1) x xs
+    ∙ ap (λ n. n + 1) (length_sum (λ _. 1) (λ _. refl) xs)
 
-module _ (w : World) (id moment p child : List ℕ) (mode : Mode) (rect : Rect) (types : HasTypes (Split p child mode rect)) (register : IsRegister w) (k : Known w id moment p child mode rect types register) (at : ℕ) (there : slice_get w.packages at ≡ Some (holdings w p)) where
+module _ (w : World) (id moment p child : List ℕ) (mode : Mode) (rect : Rect)
+    (types : HasTypes (Split p child mode rect)) (register : IsRegister w)
+    (k : Known w id moment p child mode rect types register) (at : ℕ)
+    (there : slice_get w.packages at ≡ Some (holdings w p)) where
   abbrev taken : Cut
   taken = cut_of w p mode rect
 
@@ -72,36 +77,56 @@ module _ (w : World) (id moment p child : List ℕ) (mode : Mode) (rect : Rect) 
 
   others_are : list_any is_overfull others ≡ list_any is_past_limits (slice_set (map sums_held w.packages) at left)
   others_are =
-      overfull_by (λ x. cond (bytes_eq x.uuid p) (give x) x) (λ x. cond (bytes_eq x.uuid p) (sums_held (give x)) (sums_held x)) w.packages
-      (All-each (λ x. sums_held (cond (bytes_eq x.uuid p) (give x) x) ≡ cond (bytes_eq x.uuid p) (sums_held (give x)) (sums_held x))
-      (λ x. elim (bytes_eq x.uuid p) as (λ v. sums_held (cond v (give x) x) ≡ cond v (sums_held (give x)) (sums_held x)) [ true ↦ refl | false ↦ refl ]) w.packages)
-      ∙ ap (list_any is_past_limits) (apart_set p (λ x. sums_held (give x)) sums_held w.packages at (holdings w p) register.arranged there (split.uuid_p w id moment p child mode rect types register k))
+      overfull_by (λ x. cond (bytes_eq x.uuid p) (give x) x)
+      (λ x. cond (bytes_eq x.uuid p) (sums_held (give x)) (sums_held x)) w.packages
+      (All-each (λ x. sums_held (cond (bytes_eq x.uuid p) (give x) x)
+      ≡ cond (bytes_eq x.uuid p) (sums_held (give x)) (sums_held x))
+      (λ x. elim (bytes_eq x.uuid p) as (λ v. sums_held (cond v (give x) x)
+      ≡ cond v (sums_held (give x)) (sums_held x)) [ true ↦ refl | false ↦ refl ]) w.packages)
+      ∙ ap (list_any is_past_limits) (apart_set p (λ x. sums_held (give x)) sums_held w.packages at (holdings w p)
+      register.arranged there (split.uuid_p w id moment p child mode rect types register k))
       ∙ ap (λ s. list_any is_past_limits (slice_set (map sums_held w.packages) at s)) left_is
 
-  overfull : list_any is_overfull next.packages ≡ (is_past_limits (sums_moved receipt) || list_any is_past_limits (slice_set (map sums_held w.packages) at left))
+  overfull : list_any is_overfull next.packages ≡ (is_past_limits (sums_moved receipt) || list_any is_past_limits
+      (slice_set (map sums_held w.packages) at left))
   overfull =
       list_any-put package_key is_overfull made others
       ∙ ap (λ s. is_past_limits s || list_any is_overfull others) lent_is
       ∙ ap (λ b. is_past_limits (sums_moved receipt) || b) others_are
 
   packages : length next.packages ≡ length w.packages + 1
-  packages = length_put package_key made others ∙ ap (λ n. n + 1) (length-map w.packages (λ x. cond (bytes_eq x.uuid p) (give x) x))
+  packages = length_put package_key made others ∙ ap (λ n. n + 1)
+      (length-map w.packages (λ x. cond (bytes_eq x.uuid p) (give x) x))
 
   number : length (receipts_of next) ≡ length (receipts_of w) + 1
-  number = ap length (split.receipts w id moment p child mode rect types register k) ∙ length-append (receipts_of w) (receipt ∷ [])
+  number = ap length (split.receipts w id moment p child mode rect types register k)
+      ∙ length-append (receipts_of w) (receipt ∷ [])
 
-  pub many_after : too_many next ≡ (is_past_limits (sums_moved receipt) || list_any is_past_limits (slice_set (map sums_held w.packages) at left) || nat_lt greatest_packages (length w.packages + 1) || nat_lt greatest_receipts (length (receipts_of w) + 1))
+  pub many_after : too_many next ≡ (is_past_limits (sums_moved receipt) || list_any is_past_limits
+      (slice_set (map sums_held w.packages) at left) || nat_lt greatest_packages (length w.packages + 1) || nat_lt
+      greatest_receipts (length (receipts_of w) + 1))
   many_after =
-      ap (λ b. b || nat_lt greatest_packages (length next.packages) || nat_lt greatest_receipts (length (receipts_of next))) overfull
-      ∙ ap (λ n. is_past_limits (sums_moved receipt) || list_any is_past_limits (slice_set (map sums_held w.packages) at left) || nat_lt greatest_packages n || nat_lt greatest_receipts (length (receipts_of next))) packages
-      ∙ ap (λ n. is_past_limits (sums_moved receipt) || list_any is_past_limits (slice_set (map sums_held w.packages) at left) || nat_lt greatest_packages (length w.packages + 1) || nat_lt greatest_receipts n) number
+      ap (λ b. b || nat_lt greatest_packages (length next.packages) || nat_lt greatest_receipts
+      (length (receipts_of next))) overfull
+      ∙ ap (λ n. is_past_limits (sums_moved receipt) || list_any is_past_limits
+      (slice_set (map sums_held w.packages) at left) || nat_lt greatest_packages n || nat_lt greatest_receipts
+      (length (receipts_of next))) packages
+      ∙ ap (λ n. is_past_limits (sums_moved receipt) || list_any is_past_limits
+      (slice_set (map sums_held w.packages) at left) || nat_lt greatest_packages (length w.packages + 1) || nat_lt
+      greatest_receipts n) number
 
-  module _ {S : Type 0} (g : Ghosts S) (members : List (Member S)) (count : ℕ) (are : AreMembers g members count w) where
+  module _ {S : Type 0} (g : Ghosts S) (members : List (Member S)) (count : ℕ)
+      (are : AreMembers g members count w) where
     -- the members tell it
     pub members_tell : leaves_too_many members at left (sums_moved receipt) count ≡ too_many next
     members_tell =
-        ap (λ ss. is_past_limits (sums_moved receipt) || list_any is_past_limits (slice_set ss at left) || nat_lt greatest_packages (length members + 1) || nat_lt greatest_receipts (count + 1))
+        ap (λ ss. is_past_limits (sums_moved receipt) || list_any is_past_limits (slice_set ss at left) || nat_lt
+        greatest_packages (length members + 1) || nat_lt greatest_receipts (count + 1))
         (zip_map (IsMember g w) (λ m. m.sums) sums_held (λ m y is. is.sums) members w.packages are.each)
-        ∙ ap (λ n. is_past_limits (sums_moved receipt) || list_any is_past_limits (slice_set (map sums_held w.packages) at left) || nat_lt greatest_packages (n + 1) || nat_lt greatest_receipts (count + 1)) (sym (AllZip-long (IsMember g w) members w.packages are.each))
-        ∙ ap (λ n. is_past_limits (sums_moved receipt) || list_any is_past_limits (slice_set (map sums_held w.packages) at left) || nat_lt greatest_packages (length w.packages + 1) || nat_lt greatest_receipts (n + 1)) are.counted
+        ∙ ap (λ n. is_past_limits (sums_moved receipt) || list_any is_past_limits
+        (slice_set (map sums_held w.packages) at left) || nat_lt greatest_packages (n + 1) || nat_lt
+        greatest_receipts (count + 1)) (sym (AllZip-long (IsMember g w) members w.packages are.each))
+        ∙ ap (λ n. is_past_limits (sums_moved receipt) || list_any is_past_limits
+        (slice_set (map sums_held w.packages) at left) || nat_lt greatest_packages (length w.packages + 1) ||
+        nat_lt greatest_receipts (n + 1)) are.counted
         ∙ sym many_after

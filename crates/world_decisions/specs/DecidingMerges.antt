@@ -1,6 +1,7 @@
 -- What a merge comes to before anything is written: why it is refused, by what is kept of the members and by what its
 -- two packages hold. Profile.
-use Rattle.std.specs.Prelude.{◌≡◌, ℕ, ℤ, ◌+◌, ◌-◌, Bool, true, ◌||◌, nat_lt, List, [], ◌∷◌, length, find, Option, Some, None, option_map, slice_get, if◌then◌else◌}
+use Rattle.std.specs.Prelude.{◌≡◌, ℕ, ℤ, ◌+◌, ◌-◌, Bool, true, ◌||◌, nat_lt, List, [], ◌∷◌, length, find, Option}
+use Rattle.std.specs.Prelude.{Some, None, option_map, slice_get, if◌then◌else◌}
 use Rattle.std.specs.List.{list_any}
 use Rattle.std.specs.Option.{option_or}
 use Rattle.sheet_types.specs.Custody.{ends_at, kept, ticket}
@@ -8,7 +9,8 @@ use Rattle.sheet_types.specs.Cut.{Cut}
 use Rattle.sheet_types.specs.Lines.{HasTypes, IsUuid}
 use Rattle.sheet_types.specs.Matrix.{first_row}
 use Rattle.sheet_types.specs.Ordered.{is_before, arranged}
-use Rattle.sheet_types.specs.Refuse.{foreign, stale, loan_open, collides, carrying, child_of, place_key, takes_place, greatest_packages, greatest_receipts}
+use Rattle.sheet_types.specs.Refuse.{foreign, stale, loan_open, collides, carrying, child_of, place_key, takes_place}
+use Rattle.sheet_types.specs.Refuse.{greatest_packages, greatest_receipts}
 use Rattle.sheet_types.specs.World.{World, Package, is_live, holdings, receipts_of}
 use Rattle.sheet_types.specs.declared.command.Command.{Command}
 use Rattle.sheet_types.specs.declared.command.Command.TheVariants.{Merge}

@@ -1,12 +1,14 @@
 -- What a split comes to before anything is written, one step after the other. Profile.
-use Rattle.std.specs.Prelude.{◌≡◌, ℕ, Bool, not, ◌||◌, ◌&&◌, ◌+◌, nat_lt, nat_le, true, List, [], ◌∷◌, ◌++◌, length, None, Some, Result, Ok, Err, bytes_eq, slice_get}
+use Rattle.std.specs.Prelude.{◌≡◌, ℕ, Bool, not, ◌||◌, ◌&&◌, ◌+◌, nat_lt, nat_le, true, List, [], ◌∷◌, ◌++◌, length}
+use Rattle.std.specs.Prelude.{None, Some, Result, Ok, Err, bytes_eq, slice_get}
 use Rattle.std.specs.List.{list_any}
 use Rattle.sheet_types.specs.Answers.{sums_held}
 use Rattle.sheet_types.specs.Custody.{kept}
 use Rattle.sheet_types.specs.Cut.{cut}
 use Rattle.sheet_types.specs.Lines.{HasTypes, IsUuid}
 use Rattle.sheet_types.specs.Matrix.{first_row, is_good_rect}
-use Rattle.sheet_types.specs.Refuse.{is_archive, package_used, bad_rectangle, too_deep, bad_text, greatest_depth, greatest_packages, greatest_receipts}
+use Rattle.sheet_types.specs.Refuse.{is_archive, package_used, bad_rectangle, too_deep, bad_text, greatest_depth}
+use Rattle.sheet_types.specs.Refuse.{greatest_packages, greatest_receipts}
 use Rattle.sheet_types.specs.Step.{cut_of}
 use Rattle.sheet_types.specs.Texts.{is_moment}
 use Rattle.sheet_types.specs.World.{World, Package, receipts_of, holdings, is_live}

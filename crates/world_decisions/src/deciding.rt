@@ -1,5 +1,8 @@
-//! What a request comes to before anything is written: the reply, or the change that is due. The members are read in the order in which the reasons are told, and no further than the first that holds.
-ghost use Rattle.std.specs.Prelude.{◌≡◌, ◌<◌, ◌≤◌, ◌+◌, IsTrue, None, Ok, Err, IfOk, length, bytes_eq, false, if◌then◌else◌};
+//! What a request comes to before anything is written: the reply, or the change that is due. The
+//! members are read in the order in which the reasons are told, and no further than the first that
+//! holds.
+ghost use Rattle.std.specs.Prelude.{◌≡◌, ◌<◌, ◌≤◌, ◌+◌, IsTrue, None, Ok, Err, IfOk, length, bytes_eq, false};
+ghost use Rattle.std.specs.Prelude.{if◌then◌else◌};
 ghost use Rattle.std.specs.Option.{SomeIff, option_map_or};
 ghost use Rattle.sheet_types.specs.Custody.{is_used};
 ghost use Rattle.sheet_types.specs.Lines.{HasTypes};
@@ -13,7 +16,8 @@ ghost use Rattle.world_known.specs.Known.{Knows};
 ghost use Rattle.world_queries.specs.Asking.{AsksAll};
 ghost use Rattle.world_queries.specs.Sums.{CanCount};
 ghost use Rattle.world_queries.specs.TooMany.{leaves_too_many};
-ghost use Rattle.world_decisions.specs.Deciding.{IsOf, IsNewTo, IsNewChange, HasAt, IsPlaced, refusal_before, Decides, DecidesWhere, HasPlace, child_asked, Makes, MakesNone};
+ghost use Rattle.world_decisions.specs.Deciding.{IsOf, IsNewTo, IsNewChange, HasAt, IsPlaced, refusal_before, Decides};
+ghost use Rattle.world_decisions.specs.Deciding.{DecidesWhere, HasPlace, child_asked, Makes, MakesNone};
 ghost use Rattle.world_members.specs.Laws.{ChangesOnePackage, package_of};
 ghost use Rattle.world_members.specs.Members.{AllRest, AreMembers};
 ghost use Rattle.world_members.specs.Steps.{sums_after};
@@ -41,7 +45,8 @@ use world_queries::sums::{sums_after, sums_moved};
 use world_queries::texts::text_refusal;
 use world_queries::too_many::is_too_many;
 
-/// A change that is due: the place of the member whose package changes, the receipt that is the reply, and what the package holds after it.
+/// A change that is due: the place of the member whose package changes, the receipt that is the
+/// reply, and what the package holds after it.
 #[derive(Drop)]
 pub struct Change {
     /// Where the member stands.
@@ -162,7 +167,8 @@ fn has_types(command: &Command)
     }
 }
 
-/// Why a request whose package stands at a place is refused, but for what it would leave: for its text, else for a used identity, else by its package.
+/// Why a request whose package stands at a place is refused, but for what it would leave: for its
+/// text, else for a used identity, else by its package.
 fn refused_before<S: Alter + Drop>(
     members: &mut Vec<Member<S>>,
     known: &Known,
@@ -174,7 +180,8 @@ fn refused_before<S: Alter + Drop>(
     requires rests { AllRest S.Store members.old.items }
     requires good { IsTrue (is_good_frame frame.now) }
     ensures { AsksAll S.Store
-        (λ w found. Knows known.now w → HasAt frame.now at (package_of request.now.command) w → found ≡ refusal_before w request.now)
+        (λ w found. Knows known.now w → HasAt frame.now at (package_of request.now.command) w
+        → found ≡ refusal_before w request.now)
         members.old.items members.new.items result }
 {
     if let Some(why) = text_refusal(request) {
@@ -209,7 +216,8 @@ fn sums_within<S: Alter + Drop>(
     Some(sums)
 }
 
-/// What a request that is not refused before comes to by what it would leave: too many, or the change is due with this receipt.
+/// What a request that is not refused before comes to by what it would leave: too many, or the
+/// change is due with this receipt.
 fn limited<S: Alter + Drop>(
     members: &[Member<S>],
     at: usize,
@@ -252,7 +260,8 @@ fn prepared<S: Alter + Drop>(
     requires rests { AllRest S.Store members.old.items }
     requires small { count ≤ greatest_receipts }
     ensures asks { AsksAll S.Store
-        (λ w decision. IsPlaced w.frame count at request.now w → refusal_before w request.now ≡ None → Decides w request.now decision)
+        (λ w decision. IsPlaced w.frame count at request.now w → refusal_before w request.now ≡ None
+        → Decides w request.now decision)
         members.old.items members.new.items result }
     ensures place { IfOk result (λ decision. HasPlace members.new.items count decision) }
     ensures makes { IfOk result MakesNone }
@@ -358,7 +367,8 @@ fn decide_new<S: Alter + Drop>(
     }
 }
 
-/// What a request comes to, where all that the receipts of the world name is known. The count is that of the receipts so far, and the frame that of the world.
+/// What a request comes to, where all that the receipts of the world name is known. The count is
+/// that of the receipts so far, and the frame that of the world.
 ///
 /// # Errors
 ///

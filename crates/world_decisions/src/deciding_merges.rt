@@ -1,5 +1,8 @@
-//! What a merge comes to that did not come before. What is kept of the members is looked at first, then what the child holds, once, and of each of its tiles whether the place is taken in the parent.
-ghost use Rattle.std.specs.Prelude.{◌≡◌, ◌<◌, ◌≤◌, ◌+◌, ◌||◌, ◌&&◌, ℕ, pos, true, false, not, bytes_eq, IfOk, IfSome, IfNone, Some, None, length, map, slice_get};
+//! What a merge comes to that did not come before. What is kept of the members is looked at first,
+//! then what the child holds, once, and of each of its tiles whether the place is taken in the
+//! parent.
+ghost use Rattle.std.specs.Prelude.{◌≡◌, ◌<◌, ◌≤◌, ◌+◌, ◌||◌, ◌&&◌, ℕ, pos, true, false, not, bytes_eq, IfOk, IfSome};
+ghost use Rattle.std.specs.Prelude.{IfNone, Some, None, length, map, slice_get};
 ghost use Rattle.std.specs.Bool.{then_some};
 ghost use Rattle.std.specs.List.{list_any};
 ghost use Rattle.std.specs.Option.{SomeIff};
@@ -18,7 +21,8 @@ ghost use Rattle.world_queries.specs.Asking.{AsksAll, StandsAt};
 ghost use Rattle.world_queries.specs.Sums.{IsCounted};
 ghost use Rattle.world_members.specs.Steps.{sums_more};
 ghost use Rattle.world_decisions.specs.Deciding.{Decides, HasPlace, MakesNone};
-ghost use Rattle.world_decisions.specs.DecidingMerges.{IsMergeAt, refusal_by_kept, refusal_by_held, first_loan, clash_of, first_clash, nearer_clash, all_of, leaves_too_many};
+ghost use Rattle.world_decisions.specs.DecidingMerges.{IsMergeAt, refusal_by_kept, refusal_by_held, first_loan};
+ghost use Rattle.world_decisions.specs.DecidingMerges.{clash_of, first_clash, nearer_clash, all_of, leaves_too_many};
 ghost use Rattle.world_members.specs.Members.{AllRest, AreMembers};
 
 use crate::deciding::Decision;
@@ -65,7 +69,8 @@ fn is_lent_from(parent: Option<Uuid>, lender: Uuid) -> bool
     }
 }
 
-/// Whether a package may not go home to this one: it is lent from another, or is the same, and no package is lent from itself.
+/// Whether a package may not go home to this one: it is lent from another, or is the same, and no
+/// package is lent from itself.
 fn is_foreign(parent: Option<Uuid>, child: Uuid, into: Uuid) -> bool
     ensures { result ≡ (bytes_eq child into || not (ends_at parent into)) }
 {
@@ -102,7 +107,9 @@ fn kept_refusal<S: Alter + Drop>(
     ticket: i64,
 ) -> Option<Refusal>
     requires within { from < length members.now }
-    ensures told { (w : World) → (count : ℕ) → AreMembers S.Store members.now count w → is_live w child ≡ true → slice_get w.packages from ≡ Some (holdings w child) → request.now.command ≡ Merge child into ticket → result ≡ refusal_by_kept w request.now }
+    ensures told { (w : World) → (count : ℕ) → AreMembers S.Store members.now count w → is_live w child ≡ true
+        → slice_get w.packages from ≡ Some (holdings w child) → request.now.command ≡ Merge child into ticket
+        → result ≡ refusal_by_kept w request.now }
     ensures apart { IfNone result (child ≡ into → ⊥) }
 {
     if let Some(why) = text_refusal(request) {
@@ -132,7 +139,8 @@ fn has_tile_in<S: Alter + Drop>(
     requires within { at < length members.old.items }
     requires rests { AllRest S.Store members.old.items }
     ensures { AsksAll S.Store
-        (λ w found. (p : Package) → slice_get w.packages at ≡ Some p → found ≡ list_any (λ i. is_at zoom column row i.content) p.items)
+        (λ w found. (p : Package) → slice_get w.packages at ≡ Some p
+        → found ≡ list_any (λ i. is_at zoom column row i.content) p.items)
         members.old.items members.new.items result }
 {
     let member = &mut members[at];
@@ -148,7 +156,8 @@ fn clash_at<S: Alter + Drop>(
     requires within { at < length members.old.items }
     requires rests { AllRest S.Store members.old.items }
     ensures { AsksAll S.Store
-        (λ w found. (p : Package) → slice_get w.packages at ≡ Some p → found ≡ then_some (takes_place p item.now.content) (clash_of item.now))
+        (λ w found. (p : Package) → slice_get w.packages at ≡ Some p
+        → found ≡ then_some (takes_place p item.now.content) (clash_of item.now))
         members.old.items members.new.items result }
 {
     match &item.content {
@@ -265,7 +274,9 @@ fn selection_of(alloc: Global, items: &[Item], links: Vec<Relation>) -> Result<S
     Ok(Selection { identities, links })
 }
 
-/// Whether a merge would leave too many, with these sums for the member that takes all, and the number of receipts so far. The child goes; what it holds its parent holds then, so it is past a limit only where its parent is.
+/// Whether a merge would leave too many, with these sums for the member that takes all, and the
+/// number of receipts so far. The child goes; what it holds its parent holds then, so it is past a
+/// limit only where its parent is.
 fn leaves_too_many<S: Alter + Drop>(
     members: &[Member<S>],
     at: usize,
@@ -326,7 +337,9 @@ fn weighed<S: Alter + Drop>(
     requires within { at < length members.now }
     requires two { from ≡ at → ⊥ }
     requires number { receipt.seq ≡ count + 1 }
-    ensures decides { (w : World) → (q : ModelRequest) → AreMembers S.Store members.now count w → (is : IsMergeAt count from at q w) → refusal_by_held w q ≡ None → receipt ≡ receipt_of w q → IsSelectionOf (all_of (holdings w is.child)) selection → Decides w q result }
+    ensures decides { (w : World) → (q : ModelRequest) → AreMembers S.Store members.now count w
+        → (is : IsMergeAt count from at q w) → refusal_by_held w q ≡ None → receipt ≡ receipt_of w q
+        → IsSelectionOf (all_of (holdings w is.child)) selection → Decides w q result }
     ensures place { HasPlace members.now count result }
     ensures makes { MakesNone result }
 {
@@ -384,7 +397,8 @@ fn decide_whole<S: Alter + Drop>(
     Ok(weighed(members, from, at, count, receipt, selection))
 }
 
-/// What a merge comes to that is not refused by what is kept, whose child holds these items and links: the places of its tiles are looked for in its parent.
+/// What a merge comes to that is not refused by what is kept, whose child holds these items and
+/// links: the places of its tiles are looked for in its parent.
 fn decide_held<S: Alter + Drop>(
     members: &mut Vec<Member<S>>,
     from: usize,
@@ -423,7 +437,8 @@ fn decide_held<S: Alter + Drop>(
     }
 }
 
-/// What a merge comes to that is not refused by what is kept: what the child holds is read, and looked for in its parent.
+/// What a merge comes to that is not refused by what is kept: what the child holds is read, and
+/// looked for in its parent.
 fn decide_read<S: Alter + Drop>(
     members: &mut Vec<Member<S>>,
     from: usize,
@@ -438,7 +453,8 @@ fn decide_read<S: Alter + Drop>(
     requires rests { AllRest S.Store members.old.items }
     requires small { count ≤ greatest_receipts }
     ensures asks { AsksAll S.Store
-        (λ w decision. IsMergeAt count from at request.now w → refusal_by_kept w request.now ≡ None → Decides w request.now decision)
+        (λ w decision. IsMergeAt count from at request.now w → refusal_by_kept w request.now ≡ None
+        → Decides w request.now decision)
         members.old.items members.new.items result }
     ensures place { IfOk result (λ decision. HasPlace members.new.items count decision) }
     ensures makes { IfOk result MakesNone }

@@ -1,5 +1,8 @@
-//! What a split comes to that did not come before: the first reason that holds, or all that it needs to be carried out, made before anything is written. The members are read in the order in which the reasons are told, and no further than the first that holds.
-ghost use Rattle.std.specs.Prelude.{◌≡◌, ◌<◌, ◌≤◌, ◌+◌, ◌&&◌, ℕ, true, IsTrue, None, Some, IfOk, length, slice_get, bytes_eq, is_none};
+//! What a split comes to that did not come before: the first reason that holds, or all that it
+//! needs to be carried out, made before anything is written. The members are read in the order in
+//! which the reasons are told, and no further than the first that holds.
+ghost use Rattle.std.specs.Prelude.{◌≡◌, ◌<◌, ◌≤◌, ◌+◌, ◌&&◌, ℕ, true, IsTrue, None, Some, IfOk, length, slice_get};
+ghost use Rattle.std.specs.Prelude.{bytes_eq, is_none};
 ghost use Rattle.std.specs.List.{list_any};
 ghost use Rattle.sheet_types.specs.Lines.{HasTypes, is_rect};
 ghost use Rattle.sheet_types.specs.Matrix.{is_good_frame, is_good_rect, first_row};
@@ -12,7 +15,9 @@ ghost use Rattle.sheet_types.specs.declared.command.Request.{Request};
 ghost use Rattle.world_known.specs.Known.{Knows};
 ghost use Rattle.world_queries.specs.Asking.{AsksAll};
 ghost use Rattle.world_decisions.specs.Deciding.{IsNewTo, Decides, DecidesWhere, HasPlace, Makes};
-ghost use Rattle.world_decisions.specs.DecidingSplits.{command_of, IsPlacedSplit, IsAskedSplit, IsLender, uuid_used, reasons_before_cut, place_reasons, value_reasons, IsCutOut, IsSelectedFor, leaves_too_many, IsMadeOf};
+ghost use Rattle.world_decisions.specs.DecidingSplits.{command_of, IsPlacedSplit, IsAskedSplit, IsLender, uuid_used};
+ghost use Rattle.world_decisions.specs.DecidingSplits.{reasons_before_cut, place_reasons, value_reasons, IsCutOut};
+ghost use Rattle.world_decisions.specs.DecidingSplits.{IsSelectedFor, leaves_too_many, IsMadeOf};
 ghost use Rattle.world_members.specs.Members.{AllRest, AreMembers};
 ghost use Rattle.world_members.specs.Steps.{sums_moved, sums_less};
 ghost use Rattle.world_decisions.specs.declared.deciding_splits.Asked.{Asked};
@@ -150,7 +155,8 @@ fn refused_before_cut<S: Alter + Drop>(
     requires rests { AllRest S.Store members.old.items }
     requires good { IsTrue (is_good_frame frame.now) }
     ensures asks { AsksAll S.Store
-        (λ w found. Knows known.now w → IsAskedSplit frame.now request.now asked.now depth w → found ≡ first_row (reasons_before_cut w request.now))
+        (λ w found. Knows known.now w → IsAskedSplit frame.now request.now asked.now depth w
+        → found ≡ first_row (reasons_before_cut w request.now))
         members.old.items members.new.items result }
     ensures rect { IfOk result (λ found. found ≡ None → IsTrue (is_good_rect frame.now asked.now.rect)) }
     ensures shallow { IfOk result (λ found. found ≡ None → depth < greatest_depth) }
@@ -175,14 +181,16 @@ fn cut_at<S: Alter + Drop>(
     requires frame { IsTrue (is_good_frame frame.now) }
     requires rect { IsTrue (is_good_rect frame.now rect.now) }
     ensures { AsksAll S.Store
-        (λ w answer. frame.now ≡ w.frame → (p : Package) → slice_get w.packages at ≡ Some p → IsCutOut w p mode rect.now answer)
+        (λ w answer. frame.now ≡ w.frame → (p : Package) → slice_get w.packages at ≡ Some p
+        → IsCutOut w p mode rect.now answer)
         members.old.items members.new.items result }
 {
     let member = &mut members[at];
     select(&mut member.conn, alloc, frame, rect, mode)
 }
 
-/// Whether a split would leave too many, with the sums that it leaves of the member at a place, those of the loan, and the number of receipts so far.
+/// Whether a split would leave too many, with the sums that it leaves of the member at a place,
+/// those of the loan, and the number of receipts so far.
 fn is_too_many<S: Alter + Drop>(
     members: &[Member<S>],
     at: usize,
@@ -231,7 +239,8 @@ fn left_of(lent: Sums, held: Sums) -> Result<Sums, Fault>
     }
 }
 
-/// The receipt of this number for what is selected of the package of the member that lends, and what the package is left with.
+/// The receipt of this number for what is selected of the package of the member that lends, and
+/// what the package is left with.
 fn parted_at<S: Alter + Drop>(
     members: &mut Vec<Member<S>>,
     lender: Lender,

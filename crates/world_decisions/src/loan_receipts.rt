@@ -1,5 +1,6 @@
 //! The receipt of a split or a merge, made before anything is written: what is moved, and how much that is.
-ghost use Rattle.std.specs.Prelude.{◌≡◌, ◌<◌, ◌++◌, not, map, Some, IfOk, IsPermutation, length, slice_get, sum_by, option_map};
+ghost use Rattle.std.specs.Prelude.{◌≡◌, ◌<◌, ◌++◌, not, map, Some, IfOk, IsPermutation, length, slice_get, sum_by};
+ghost use Rattle.std.specs.Prelude.{option_map};
 ghost use Rattle.sheet_types.specs.Cut.{Cut, moved_of};
 ghost use Rattle.sheet_types.specs.Ordered.{IsArranged};
 ghost use Rattle.sheet_types.specs.Step.{receipt_over, count_of, links_of};
@@ -30,7 +31,8 @@ fn thing_at<S: Alter + Drop>(
     requires within { at < length members.old.items }
     requires rests { AllRest S.Store members.old.items }
     ensures { AsksAll S.Store
-        (λ w thing. (p : Package) → slice_get w.packages at ≡ Some p → thing ≡ option_map item_moved (item_of p identity))
+        (λ w thing. (p : Package) → slice_get w.packages at ≡ Some p
+        → thing ≡ option_map item_moved (item_of p identity))
         members.old.items members.new.items result }
 {
     match item_at(members, at, identity)? {
@@ -49,7 +51,8 @@ fn things_under<S: Alter + Drop>(
     requires within { at < length members.old.items }
     requires rests { AllRest S.Store members.old.items }
     ensures { AsksAll S.Store
-        (λ w things. (p : Package) → slice_get w.packages at ≡ Some p → map (λ id. option_map item_moved (item_of p id)) identities.now ≡ map Some things.items)
+        (λ w things. (p : Package) → slice_get w.packages at ≡ Some p
+        → map (λ id. option_map item_moved (item_of p id)) identities.now ≡ map Some things.items)
         members.old.items members.new.items result }
 {
     let mut things = Vec::new(alloc);
@@ -83,7 +86,8 @@ fn with_links(alloc: Global, things: Vec<Moved>, links: &[Relation]) -> Result<V
     Ok(things.into_iter().chain(linked).collect(alloc)?)
 }
 
-/// What is selected of the package of the member at a place, as a receipt names it: items by kind and identity, then links.
+/// What is selected of the package of the member at a place, as a receipt names it: items by kind
+/// and identity, then links.
 ///
 /// # Errors
 ///
@@ -97,7 +101,8 @@ pub(crate) fn things_at<S: Alter + Drop>(
     requires within { at < length members.old.items }
     requires rests { AllRest S.Store members.old.items }
     ensures { AsksAll S.Store
-        (λ w things. (p : Package) (c : Cut) → slice_get w.packages at ≡ Some p → IsSelectionOf c selection.now → IsPart c p → things ≡ moved_of c.items c.links)
+        (λ w things. (p : Package) (c : Cut) → slice_get w.packages at ≡ Some p → IsSelectionOf c selection.now
+        → IsPart c p → things ≡ moved_of c.items c.links)
         members.old.items members.new.items result }
 {
     let items = things_under(members, at, alloc, &selection.identities)?;

@@ -1,5 +1,7 @@
 -- A merge that is accepted is due, by what is kept of the world.
-use Rattle.std.specs.Prelude.{◌≡◌, ℕ, ℤ, ◌+◌, ◌≤◌, Bool, true, false, cond, ◌||◌, List, [], ◌∷◌, ◌++◌, map, length, refl, bytes_eq, Some, is_some, unwrap_or, sum_by, count_by, flat_map, slice_get, slice_set, Contains}
+use Rattle.std.specs.Prelude.{◌≡◌, ℕ, ℤ, ◌+◌, ◌≤◌, Bool, true, false, cond, ◌||◌, List, [], ◌∷◌, ◌++◌, map, length}
+use Rattle.std.specs.Prelude.{refl, bytes_eq, Some, is_some, unwrap_or, sum_by, count_by, flat_map, slice_get}
+use Rattle.std.specs.Prelude.{slice_set, Contains}
 use Rattle.std.proofs.Common.{sym, ap, subst, ◌∙◌, arith, length-append}
 use Rattle.std.proofs.lemmas.Bool.{true≢false, false_from_ne_true}
 use Rattle.std.proofs.lemmas.Slice.Eq.{bytes_eq-Decides}
@@ -18,7 +20,9 @@ use Rattle.sheet_types.specs.Ordered.{arranged, has, without, IsArranged}
 use Rattle.sheet_types.specs.Register.{IsRegister, IsKeptPackage, HasEnds}
 use Rattle.sheet_types.specs.Step.{accepted, joined, receipt_of}
 use Rattle.sheet_types.specs.Texts.{line, size, is_moment}
-use Rattle.sheet_types.specs.World.{World, Package, package_key, receipt_key, item_key, item_thing, link_key, receipts_of, holdings, no_package, is_live, with_receipt, has_item, is_tile, is_medium, is_row}
+use Rattle.sheet_types.specs.World.{World, Package, package_key, receipt_key, item_key, item_thing, link_key}
+use Rattle.sheet_types.specs.World.{receipts_of, holdings, no_package, is_live, with_receipt, has_item, is_tile}
+use Rattle.sheet_types.specs.World.{is_medium, is_row}
 use Rattle.sheet_types.specs.declared.command.Command.TheVariants.{Merge}
 use Rattle.sheet_types.specs.declared.command.Item.{Item}
 use Rattle.sheet_types.specs.declared.receipt.Receipt.{Receipt}
@@ -53,20 +57,26 @@ use Rattle.world_loans.proofs.Tickets.{ticket_next}
 -- ---- all that a package holds
 
 -- all that a package holds is a part of it
-pub whole_part : (x : Package) → IsArranged item_key x.items → IsArranged link_key x.links → IsPart (record { items = x.items; links = x.links }) x
+pub whole_part : (x : Package) → IsArranged item_key x.items → IsArranged link_key x.links
+    → IsPart (record { items = x.items; links = x.links }) x
 whole_part x items links = record {
   items = recursion_from_All (Contains x.items) x.items (All-contains_itself x.items);
   links = recursion_from_All (Contains x.links) x.links (All-contains_itself x.links);
   item_order = items;
   link_order = links;
-  whole = All-each (λ i. AllByRecursion (λ l. has_end i.identity l ≡ true → has link_key (link_key l) x.links ≡ true) x.links)
-      (λ i. All-weaker (λ l. has link_key (link_key l) x.links ≡ true) (λ l. has_end i.identity l ≡ true → has link_key (link_key l) x.links ≡ true) (λ l h _. h) x.links (self_has link_key x.links)) x.items;
+  whole = All-each (λ i. AllByRecursion (λ l. has_end i.identity l ≡ true → has link_key (link_key l) x.links ≡ true)
+      x.links)
+      (λ i. All-weaker (λ l. has link_key (link_key l) x.links ≡ true)
+      (λ l. has_end i.identity l ≡ true → has link_key (link_key l) x.links ≡ true) (λ l h _. h) x.links
+      (self_has link_key x.links)) x.items;
 }
 
 -- what a package holds that has with_cut the things of another
-pub sums_joined : (r : Receipt) (x p : Package) → sums_held (returned r (record { items = x.items; links = x.links }) x p) ≡ sums_more (sums_held x) (sums_held p)
+pub sums_joined : (r : Receipt) (x p : Package) → sums_held (returned r (record { items = x.items; links = x.links })
+    x p) ≡ sums_more (sums_held x) (sums_held p)
 sums_joined r x p =
-    let more : (f : Item → ℕ) → sum_by f (arranged item_key (x.items ++ p.items)) ≡ sum_by f p.items + sum_by f x.items =
+    let more : (f : Item → ℕ) → sum_by f (arranged item_key (x.items ++ p.items))
+    ≡ sum_by f p.items + sum_by f x.items =
     λ f. omega (arith, sum_by-arranged item_key f (x.items ++ p.items), sum_by-append f x.items p.items) in
     let links : length (arranged link_key (x.links ++ p.links)) ≡ length p.links + length x.links = omega (
       arith,
@@ -86,7 +96,9 @@ sums_joined r x p =
 
 -- ---- the merge
 
-module _ (w : World) (id moment child into : List ℕ) (ticket' : ℤ) (types : HasTypes (Merge child into ticket')) (register : IsRegister w) (uuid : is_uuid id ≡ true) (k : Known w id moment child into ticket' types register) where
+module _ (w : World) (id moment child into : List ℕ) (ticket' : ℤ) (types : HasTypes (Merge child into ticket'))
+    (register : IsRegister w) (uuid : is_uuid id ≡ true) (k :
+    Known w id moment child into ticket' types register) where
   abbrev receipt : Receipt
   receipt = receipt_of w (merge_request id moment child into ticket')
 
@@ -123,17 +135,25 @@ module _ (w : World) (id moment child into : List ℕ) (ticket' : ℤ) (types : 
 
   come : MayCome taken (holdings w into)
   come = record {
-    identities = All-weaker (λ i. holds (holdings w child) (item_thing i) ≡ true) (λ i. has_item (holdings w into) i.identity ≡ false)
-        (λ i held. false_from_ne_true (has_item (holdings w into) i.identity) (λ there. never_both (item_thing i) held (ap (λ v. v || has link_key (item_thing i) (holdings w into).links) there)))
+    identities = All-weaker (λ i. holds (holdings w child) (item_thing i) ≡ true)
+        (λ i. has_item (holdings w into) i.identity ≡ false)
+        (λ i held. false_from_ne_true (has_item (holdings w into) i.identity)
+        (λ there. never_both (item_thing i) held (ap (λ v. v || has link_key (item_thing i)
+        (holdings w into).links) there)))
         (holdings w child).items (items_held (holdings w child));
-    links = All-weaker (λ l. holds (holdings w child) (link_key l) ≡ true) (λ l. has link_key (link_key l) (holdings w into).links ≡ false)
-        (λ l held. false_from_ne_true (has link_key (link_key l) (holdings w into).links) (λ there. never_both (link_key l) held (ap (λ v. has item_thing (link_key l) (holdings w into).items || v) there ∙ or-true (has item_thing (link_key l) (holdings w into).items))))
+    links = All-weaker (λ l. holds (holdings w child) (link_key l) ≡ true)
+        (λ l. has link_key (link_key l) (holdings w into).links ≡ false)
+        (λ l held. false_from_ne_true (has link_key (link_key l) (holdings w into).links)
+        (λ there. never_both (link_key l) held (ap (λ v. has item_thing (link_key l) (holdings w into).items || v)
+        there ∙ or-true (has item_thing (link_key l) (holdings w into).items))))
         (holdings w child).links (links_held (holdings w child));
-    ends = All-weaker (HasEnds (holdings w child)) (HasEnds (with_cut taken (holdings w into))) (merge.ends_child w id moment child into ticket' types register k) (holdings w child).links kept_child.ends;
+    ends = All-weaker (HasEnds (holdings w child)) (HasEnds (with_cut taken (holdings w into)))
+        (merge.ends_child w id moment child into ticket' types register k) (holdings w child).links kept_child.ends;
   }
 
   -- what one receipt at most meets is met in one package at most
-  only_in_child : (t : Receipt → Bool) → count_by t (receipts_of w) ≤ 1 → list_any t (holdings w child).receipts ≡ true → list_any t (holdings w into).receipts ≡ false
+  only_in_child : (t : Receipt → Bool) → count_by t (receipts_of w) ≤ 1
+      → list_any t (holdings w child).receipts ≡ true → list_any t (holdings w into).receipts ≡ false
   only_in_child t one there = none_any t (holdings w into).receipts (none_counted t (holdings w into).receipts (omega (
     arith,
     one,
@@ -145,35 +165,55 @@ module _ (w : World) (id moment child into : List ℕ) (ticket' : ℤ) (types : 
 
   are_apart : AreApart (holdings w child) (with_cut taken (holdings w into))
   are_apart =
-      All-weaker (λ r. has receipt_key (receipt_key r) (holdings w child).receipts ≡ true) (λ r. has receipt_key (receipt_key r) (holdings w into).receipts ≡ false)
-      (λ r there. only_in_child (λ s. bytes_eq (receipt_key s) (receipt_key r)) (counts_arranged receipt_key (receipt_key r) (receipts_of w) (ledger_arranged (archive_of w) [] (receipts_of w) register.balanced.ledger)) there)
+      All-weaker (λ r. has receipt_key (receipt_key r) (holdings w child).receipts ≡ true)
+      (λ r. has receipt_key (receipt_key r) (holdings w into).receipts ≡ false)
+      (λ r there. only_in_child (λ s. bytes_eq (receipt_key s) (receipt_key r))
+      (counts_arranged receipt_key (receipt_key r) (receipts_of w)
+      (ledger_arranged (archive_of w) [] (receipts_of w) register.balanced.ledger)) there)
       (holdings w child).receipts (self_has receipt_key (holdings w child).receipts)
 
   -- what no receipt of either meets
-  in_neither : (t : Receipt → Bool) → list_any t (holdings w child).receipts ≡ false → list_any t (holdings w into).receipts ≡ false → list_any t (arranged receipt_key ((holdings w child).receipts ++ (holdings w into).receipts)) ≡ false
-  in_neither t a b = list_any-arranged receipt_key t ((holdings w child).receipts ++ (holdings w into).receipts) ∙ list_any-append t (holdings w child).receipts (holdings w into).receipts
+  in_neither : (t : Receipt → Bool) → list_any t (holdings w child).receipts ≡ false
+      → list_any t (holdings w into).receipts ≡ false → list_any t
+      (arranged receipt_key ((holdings w child).receipts ++ (holdings w into).receipts)) ≡ false
+  in_neither t a b = list_any-arranged receipt_key t ((holdings w child).receipts ++ (holdings w into).receipts)
+      ∙ list_any-append t (holdings w child).receipts (holdings w into).receipts
       ∙ ap (λ v. v || list_any t (holdings w into).receipts) a ∙ b
 
   no_request : (u : List ℕ) → list_any (of_request id) (holdings w u).receipts ≡ false
-  no_request u = none_any (of_request id) (holdings w u).receipts (of_package (λ r. of_request id r ≡ false) w u (none_pass (of_request id) (receipts_of w) k.new_request))
+  no_request u = none_any (of_request id) (holdings w u).receipts
+      (of_package (λ r. of_request id r ≡ false) w u (none_pass (of_request id) (receipts_of w) k.new_request))
 
-  new : is_moment moment ≡ true → IsNewReceipt receipt (with_receipts_of (holdings w child) (with_cut taken (holdings w into)))
+  new : is_moment moment ≡ true → IsNewReceipt receipt (with_receipts_of (holdings w child)
+      (with_cut taken (holdings w into)))
   new timed =
-      let uuids : (is_uuid child ≡ true) × (is_uuid into ≡ true) = (subst IsUuid uuid_child kept_child.uuid, subst IsUuid uuid_into (merge.kept_into w id moment child into ticket' types register k).uuid) in
+      let uuids : (is_uuid child ≡ true) × (is_uuid into ≡ true) = (
+        subst IsUuid uuid_child kept_child.uuid,
+        subst IsUuid uuid_into
+            (merge.kept_into w id moment child into ticket' types register k).uuid,
+      ) in
       record {
-        number = in_neither (λ s. bytes_eq (receipt_key s) (receipt_key receipt)) (new_number w child register) (new_number w into register);
+        number = in_neither (λ s. bytes_eq (receipt_key s) (receipt_key receipt)) (new_number w child register)
+            (new_number w into register);
         request = in_neither (of_request id) (no_request child) (no_request into);
         fit = record {
           request = uuid;
           source = uuids.0;
           target = uuids.1;
-          items = fit_moved (holdings w child) (holdings w child).items (holdings w child).links kept_child.uuids kept_child.uuids kept_child.ends;
+          items = fit_moved (holdings w child) (holdings w child).items (holdings w child).links kept_child.uuids
+              kept_child.uuids kept_child.ends;
         };
         moment = timed;
       }
 
   may : is_moment moment ≡ true → MayReturn receipt taken (holdings w child) (holdings w into)
-  may timed = record { part = whole_part (holdings w child) kept_child.items kept_child.links; come = come; apart = are_apart; receipt = new timed }
+  may timed = record {
+    part = whole_part (holdings w child) kept_child.items kept_child.links;
+    come = come;
+    apart =
+        are_apart;
+    receipt = new timed;
+  }
 
   pub one_more : receipts_of next ≡ receipts_of w ++ receipt ∷ []
   one_more = merge.receipts w id moment child into ticket' types register k
@@ -191,22 +231,28 @@ module _ (w : World) (id moment child into : List ℕ) (ticket' : ℤ) (types : 
   -- no package of the world after has the child's UUID
   child_gone : AllByRecursion (λ x. bytes_eq x.uuid (holdings w child).uuid ≡ false) next.packages
   child_gone = subst (λ u. AllByRecursion (λ x. bytes_eq x.uuid u ≡ false) next.packages) (sym uuid_child)
-      (All-without package_key child (λ x. bytes_eq x.uuid child ≡ false) all_changed (All-each (λ x. bytes_eq x.uuid child ≡ false → bytes_eq x.uuid child ≡ false) (λ x h. h) all_changed))
+      (All-without package_key child (λ x. bytes_eq x.uuid child ≡ false) all_changed
+      (All-each (λ x. bytes_eq x.uuid child ≡ false → bytes_eq x.uuid child ≡ false) (λ x h. h) all_changed))
 
-  module _ (from at : ℕ) (child_there : slice_get w.packages from ≡ Some (holdings w child)) (into_there : slice_get w.packages at ≡ Some (holdings w into)) where
+  module _ (from at : ℕ) (child_there : slice_get w.packages from ≡ Some (holdings w child))
+      (into_there : slice_get w.packages at ≡ Some (holdings w into)) where
     pub two : ¬ (from ≡ at)
     two same =
-        let one : Some (holdings w child) ≡ Some (holdings w into) = sym child_there ∙ ap (slice_get w.packages) same ∙ into_there in
+        let one : Some (holdings w child) ≡ Some (holdings w into) =
+        sym child_there ∙ ap (slice_get w.packages) same ∙ into_there in
         let named : child ≡ into = sym uuid_child ∙ ap (λ o. (unwrap_or o no_package).uuid) one ∙ uuid_into in
         true≢false (sym ((bytes_eq-Decides child into).1 named) ∙ k.apart)
 
     is_set : all_changed ≡ slice_set w.packages at (take_all (holdings w into))
     is_set = changed_set into take_all w.packages at (holdings w into) register.arranged into_there uuid_into
 
-    pub packages_after : next.packages ≡ slice_set (remove w.packages from) (place_without from at) (take_all (holdings w into))
+    pub packages_after : next.packages ≡ slice_set (remove w.packages from) (place_without from at)
+        (take_all (holdings w into))
     packages_after =
-        without_at package_key child all_changed from (holdings w child) (changed_arranged take_all into w.packages (λ x. refl) register.arranged)
-        (ap (λ zs. slice_get zs from) is_set ∙ set_elsewhere w.packages at from (take_all (holdings w into)) two ∙ child_there) uuid_child
+        without_at package_key child all_changed from (holdings w child)
+        (changed_arranged take_all into w.packages (λ x. refl) register.arranged)
+        (ap (λ zs. slice_get zs from) is_set ∙ set_elsewhere w.packages at from (take_all (holdings w into)) two
+        ∙ child_there) uuid_child
         ∙ ap (λ zs. remove zs from) is_set
         ∙ set_then_removed w.packages from at (take_all (holdings w into)) two
 
@@ -218,18 +264,31 @@ module _ (w : World) (id moment child into : List ℕ) (ticket' : ℤ) (types : 
 
     rest_other : AllByRecursion (λ x. bytes_eq x.uuid child ≡ false) (remove w.packages from)
     rest_other = subst (AllByRecursion (λ x. bytes_eq x.uuid child ≡ false)) rest_is
-        (All-without package_key child (λ x. bytes_eq x.uuid child ≡ false) w.packages (All-each (λ x. bytes_eq x.uuid child ≡ false → bytes_eq x.uuid child ≡ false) (λ x h. h) w.packages))
+        (All-without package_key child (λ x. bytes_eq x.uuid child ≡ false) w.packages
+        (All-each (λ x. bytes_eq x.uuid child ≡ false → bytes_eq x.uuid child ≡ false) (λ x h. h) w.packages))
 
     others_stay : OthersStay w next (remove w.packages from) (place_without from at)
     others_stay n x here other =
-        let not_child : bytes_eq child x.uuid ≡ false = bytes_eq_swap child x.uuid ∙ all_at (λ y. bytes_eq y.uuid child ≡ false) (remove w.packages from) n x rest_other here in
-        let not_into : bytes_eq into x.uuid ≡ false = ap (λ u. bytes_eq u x.uuid) (sym uuid_into) ∙ other_key package_key (remove w.packages from) (place_without from at) n (holdings w into) x rest_arranged (still_there w.packages from at (holdings w into) into_there two) here other in
-        ticket_after x.uuid ∙ ap (λ b. cond (b || bytes_eq into x.uuid) receipt.seq (ticket w x.uuid)) not_child ∙ ap (λ b. cond b receipt.seq (ticket w x.uuid)) not_into
+        let not_child : bytes_eq child x.uuid ≡ false = bytes_eq_swap child x.uuid
+        ∙ all_at (λ y. bytes_eq y.uuid child ≡ false) (remove w.packages from) n x rest_other here in
+        let not_into : bytes_eq into x.uuid ≡ false = ap (λ u. bytes_eq u x.uuid) (sym uuid_into)
+        ∙ other_key package_key (remove w.packages from) (place_without from at) n (holdings w into) x
+        rest_arranged (still_there w.packages from at (holdings w into) into_there two) here other in
+        ticket_after x.uuid ∙ ap (λ b. cond (b || bytes_eq into x.uuid) receipt.seq (ticket w x.uuid)) not_child
+        ∙ ap (λ b. cond b receipt.seq (ticket w x.uuid)) not_into
 
     abbrev exact : Selection → Returning
-    exact selection = record { from = from; into = at; selection = selection; receipt = receipt; sums = sums_held (returned receipt taken (holdings w child) (holdings w into)) }
+    exact selection = record {
+      from = from;
+      into = at;
+      selection = selection;
+      receipt = receipt;
+      sums =
+          sums_held (returned receipt taken (holdings w child) (holdings w into));
+    }
 
-    is_returned : is_moment moment ≡ true → (selection : Selection) → IsSelectionOf taken selection → IsReturned w next (exact selection)
+    is_returned : is_moment moment ≡ true → (selection : Selection) → IsSelectionOf taken selection
+        → IsReturned w next (exact selection)
     is_returned timed selection selected = record {
       after = is_next;
       child = holdings w child;
@@ -242,21 +301,39 @@ module _ (w : World) (id moment child into : List ℕ) (ticket' : ℤ) (types : 
       may = may timed;
       sums = refl;
       packages = packages_after;
-      parent_ticket = ticket_after (holdings w into).uuid ∙ ap (λ b. cond b receipt.seq (ticket w (holdings w into).uuid)) (ap (λ b. bytes_eq child (holdings w into).uuid || b) (ap (bytes_eq into) uuid_into ∙ bytes_eq_itself into) ∙ or-true (bytes_eq child (holdings w into).uuid));
+      parent_ticket = ticket_after (holdings w into).uuid ∙ ap
+          (λ b. cond b receipt.seq (ticket w (holdings w into).uuid))
+          (ap (λ b. bytes_eq child (holdings w into).uuid || b) (ap (bytes_eq into) uuid_into ∙ bytes_eq_itself into)
+          ∙ or-true (bytes_eq child (holdings w into).uuid));
       tickets = others_stay;
       apart = child_gone;
     }
 
   -- what was made of it is that
-  returned_of : is_moment moment ≡ true → (due : Returning) → IsMerge w id moment child into ticket' due → IsReturned w next due
+  returned_of : is_moment moment ≡ true → (due : Returning) → IsMerge w id moment child into ticket' due
+      → IsReturned w next due
   returned_of timed due is =
       let sums : due.sums ≡ sums_held (returned receipt taken (holdings w child) (holdings w into)) = is.sums
-      ∙ ap (λ s. sums_more s (sums_held (holdings w into))) (sym (held_moved receipt.seq (merge_request id moment child into ticket') (holdings w child)))
+      ∙ ap (λ s. sums_more s (sums_held (holdings w into))) (sym
+      (held_moved receipt.seq (merge_request id moment child into ticket') (holdings w child)))
       ∙ sym (sums_joined receipt (holdings w child) (holdings w into)) in
-      let same : due ≡ exact due.from due.into is.child_at is.parent_at due.selection = λ j. record { from = due.from; into = due.into; selection = due.selection; receipt = is.receipt j; sums = sums j } in
-      subst (IsReturned w next) (sym same) (is_returned due.from due.into is.child_at is.parent_at timed due.selection is.selected)
+      let same : due ≡ exact due.from due.into is.child_at is.parent_at due.selection =
+      λ j. record {
+        from = due.from;
+        into = due.into;
+        selection = due.selection;
+        receipt =
+            is.receipt j;
+        sums = sums j;
+      } in
+      subst (IsReturned w next) (sym same) (is_returned due.from due.into is.child_at is.parent_at timed due.selection
+      is.selected)
 
 -- A new merge that is not refused is due, where what is due was made of it.
 pub returned_where_accepted : ReturnedWhereAccepted
 returned_where_accepted w id moment child into ticket' due register uuid types new none made =
-    returned_of w id moment child into ticket' types register uuid (merge.known w id moment child into ticket' types register (ap (λ k. option_and_then (λ r. then_some (bytes_eq r.line (line (Merge child into ticket'))) r) k) new) none) (says_moment w (accepted w (merge_request id moment child into ticket')) (merge_request id moment child into ticket') none) due made
+    returned_of w id moment child into ticket' types register uuid
+    (merge.known w id moment child into ticket' types register
+    (ap (λ k. option_and_then (λ r. then_some (bytes_eq r.line (line (Merge child into ticket'))) r) k) new) none)
+    (says_moment w (accepted w (merge_request id moment child into ticket'))
+    (merge_request id moment child into ticket') none) due made

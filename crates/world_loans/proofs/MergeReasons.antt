@@ -20,13 +20,18 @@ both_live false b h = refl
 pub merge_refused_in_turn : MergeRefusedInTurn
 merge_refused_in_turn w next id moment child into ticket' new child_live into_live =
     let q : Request = merge_request id moment child into ticket' in
-    let rows : List (Bool × Refusal) = (not (is_live w child && (is_live w into && true)), UnknownPackage) ∷ merge_reasons w next (merge_request id moment child into ticket') in
+    let rows : List (Bool × Refusal) = (not (is_live w child && (is_live w into && true)), UnknownPackage)
+    ∷ merge_reasons w next (merge_request id moment child into ticket') in
     ap (λ b. cond b (Some IdReused) (first_row rows)) (none_reused w q new)
-    ∙ ap (λ b. cond (not b) (Some UnknownPackage) (first_row (merge_reasons w next (merge_request id moment child into ticket')))) (and_from (is_live w child) (is_live w into && true) child_live (and_from (is_live w into) true into_live refl))
+    ∙ ap (λ b. cond (not b) (Some UnknownPackage) (first_row
+    (merge_reasons w next (merge_request id moment child into ticket'))))
+    (and_from (is_live w child) (is_live w into && true) child_live
+    (and_from (is_live w into) true into_live refl))
 
 pub merge_refused_as_unknown : MergeRefusedAsUnknown
 merge_refused_as_unknown w next id moment child into ticket' new dead =
     let q : Request = merge_request id moment child into ticket' in
     let rest : Option Refusal = first_row (merge_reasons w next (merge_request id moment child into ticket')) in
-    ap (λ b. cond b (Some IdReused) (cond (not (is_live w child && (is_live w into && true))) (Some UnknownPackage) rest)) (none_reused w q new)
+    ap (λ b. cond b (Some IdReused) (cond (not (is_live w child && (is_live w into && true))) (Some UnknownPackage)
+    rest)) (none_reused w q new)
     ∙ ap (λ b. cond b (Some UnknownPackage) rest) (both_live (is_live w child) (is_live w into) dead)

@@ -13,9 +13,11 @@ use Rattle.world_members.proofs.Fitting.{none_reused}
 pub split_refused_in_turn : SplitRefusedInTurn
 split_refused_in_turn w next id moment p child mode rect new live =
     let q : Request = split_request id moment p child mode rect in
-    let rows : List (Bool × Refusal) = (not (is_live w p && true), UnknownPackage) ∷ split_reasons w next (split_request id moment p child mode rect) in
+    let rows : List (Bool × Refusal) = (not (is_live w p && true), UnknownPackage)
+    ∷ split_reasons w next (split_request id moment p child mode rect) in
     ap (λ b. cond b (Some IdReused) (first_row rows)) (none_reused w q new)
-    ∙ ap (λ b. cond (not (b && true)) (Some UnknownPackage) (first_row (split_reasons w next (split_request id moment p child mode rect)))) live
+    ∙ ap (λ b. cond (not (b && true)) (Some UnknownPackage) (first_row
+    (split_reasons w next (split_request id moment p child mode rect)))) live
 
 pub split_refused_as_unknown : SplitRefusedAsUnknown
 split_refused_as_unknown w next id moment p child mode rect new dead =

@@ -1,6 +1,7 @@
 -- When a split or a merge is due, by what is kept of a world: which member gives, which takes, and what the world is
 -- after it. Profile.
-use Rattle.std.specs.Prelude.{◌≡◌, ◌<◌, ◌≤◌, ℕ, ℤ, Bool, not, ◌||◌, ◌&&◌, [], ◌∷◌, ◌+◌, ◌-◌, List, Some, None, length, slice_get, slice_set, if◌then◌else◌, bytes_eq, nat_lt, false, true, is_some, count_by}
+use Rattle.std.specs.Prelude.{◌≡◌, ◌<◌, ◌≤◌, ℕ, ℤ, Bool, not, ◌||◌, ◌&&◌, [], ◌∷◌, ◌+◌, ◌-◌, List, Some, None, length}
+use Rattle.std.specs.Prelude.{slice_get, slice_set, if◌then◌else◌, bytes_eq, nat_lt, false, true, is_some, count_by}
 use Rattle.std.specs.List.{insert, remove, AllByRecursion}
 use Rattle.sheet_types.specs.Answers.{sums_held}
 use Rattle.sheet_types.specs.Custody.{kept, ticket}
@@ -9,7 +10,9 @@ use Rattle.sheet_types.specs.Lines.{HasTypes, IsUuid}
 use Rattle.sheet_types.specs.Matrix.{first_row}
 use Rattle.sheet_types.specs.Ordered.{is_before}
 use Rattle.sheet_types.specs.Texts.{is_moment}
-use Rattle.sheet_types.specs.Refuse.{refusal, package_used, bad_rectangle, too_deep, nothing_to_lend, cut_link, bad_text, foreign, stale, child_of, loan_open, collides, carrying, too_many, greatest_depth, greatest_receipts}
+use Rattle.sheet_types.specs.Refuse.{refusal, package_used, bad_rectangle, too_deep, nothing_to_lend, cut_link}
+use Rattle.sheet_types.specs.Refuse.{bad_text, foreign, stale, child_of, loan_open, collides, carrying, too_many}
+use Rattle.sheet_types.specs.Refuse.{greatest_depth, greatest_receipts}
 use Rattle.sheet_types.specs.Register.{IsRegister}
 use Rattle.sheet_types.specs.Step.{less, accepted, cut_of, receipt_of}
 use Rattle.sheet_types.specs.World.{World, Package, receipts_of, holdings, is_live}
@@ -18,7 +21,9 @@ use Rattle.sheet_types.specs.declared.command.Mode.{Mode}
 use Rattle.sheet_types.specs.declared.frame.Rect.{Rect}
 use Rattle.sheet_types.specs.declared.command.Request.{Request}
 use Rattle.sheet_types.specs.declared.refusal.Refusal.{Refusal}
-use Rattle.sheet_types.specs.declared.refusal.Refusal.TheVariants.{PackageUsed, BadRectangle, TooDeep, NothingToLend, CutLink, BadText, Foreign, Stale, LoanOpen, Collides, TooMany, UnknownPackage}
+use Rattle.sheet_types.specs.declared.refusal.Refusal.TheVariants.{PackageUsed, BadRectangle, TooDeep, NothingToLend}
+use Rattle.sheet_types.specs.declared.refusal.Refusal.TheVariants.{CutLink, BadText, Foreign, Stale, LoanOpen}
+use Rattle.sheet_types.specs.declared.refusal.Refusal.TheVariants.{Collides, TooMany, UnknownPackage}
 use Rattle.sheet_laws.specs.Laws.{split_request, merge_request}
 use Rattle.custody.specs.Receipts.{IsNewReceipt}
 use Rattle.identity_register.specs.Creation.{new_package}
@@ -61,7 +66,8 @@ pub record IsLent (w next : World) (due : Lending) : Type 0 where
   pub come : MayCome taken (new_package due.child (Some due.parent) due.depth due.receipt.seq)
   pub left : due.left ≡ sums_held (lent due.receipt taken parent)
   pub held : due.lent ≡ sums_held (loan due taken)
-  pub packages : next.packages ≡ insert (slice_set w.packages due.at (lent due.receipt taken parent)) due.child_at (loan due taken)
+  pub packages : next.packages ≡ insert (slice_set w.packages due.at (lent due.receipt taken parent)) due.child_at
+      (loan due taken)
   pub parent_ticket : ticket next parent.uuid ≡ due.receipt.seq
   pub child_ticket : ticket next due.child ≡ due.receipt.seq
   pub tickets : OthersStay w next w.packages due.at
@@ -144,7 +150,8 @@ pub record IsReturned (w next : World) (due : Returning) : Type 0 where
   pub selected : IsSelectionOf taken due.selection
   pub may : MayReturn due.receipt taken child parent
   pub sums : due.sums ≡ sums_held (returned due.receipt taken child parent)
-  pub packages : next.packages ≡ slice_set (remove w.packages due.from) (place_without due.from due.into) (returned due.receipt taken child parent)
+  pub packages : next.packages ≡ slice_set (remove w.packages due.from) (place_without due.from due.into)
+      (returned due.receipt taken child parent)
   pub parent_ticket : ticket next parent.uuid ≡ due.receipt.seq
   pub tickets : OthersStay w next (remove w.packages due.from) (place_without due.from due.into)
   -- no package of the world after has the child's UUID
@@ -155,9 +162,11 @@ pub record IsReturned (w next : World) (due : Returning) : Type 0 where
 pub record IsMerge (w : World) (id moment child into : List ℕ) (ticket' : ℤ) (due : Returning) : Type 0 where
   pub child_at : slice_get w.packages due.from ≡ Some (holdings w child)
   pub parent_at : slice_get w.packages due.into ≡ Some (holdings w into)
-  pub selected : IsSelectionOf (record { items = (holdings w child).items; links = (holdings w child).links }) due.selection
+  pub selected : IsSelectionOf (record { items = (holdings w child).items; links = (holdings w child).links })
+      due.selection
   pub receipt : due.receipt ≡ receipt_of w (merge_request id moment child into ticket')
-  pub sums : due.sums ≡ sums_more (sums_moved (receipt_of w (merge_request id moment child into ticket'))) (sums_held (holdings w into))
+  pub sums : due.sums ≡ sums_more (sums_moved (receipt_of w (merge_request id moment child into ticket')))
+      (sums_held (holdings w into))
 
 -- A new merge that is not refused is due, and the world after it is the accepted one, where what is due was made of it.
 abbrev pub ReturnedWhereAccepted : Type 0

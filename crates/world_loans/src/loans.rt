@@ -1,6 +1,7 @@
 //! What is due after a decision: all that a split or a merge needs, made before anything is written.
 ghost use Rattle.std.specs.Prelude.{◌≡◌, ◌↔◌, IsTrue};
-ghost use Rattle.world_loans.specs.Loans.{SplitRefusedInTurn, SplitRefusedAsUnknown, LentWhereAccepted, ReturnedWhereAccepted, MergeRefusedInTurn, MergeRefusedAsUnknown};
+ghost use Rattle.world_loans.specs.Loans.{SplitRefusedInTurn, SplitRefusedAsUnknown, LentWhereAccepted};
+ghost use Rattle.world_loans.specs.Loans.{ReturnedWhereAccepted, MergeRefusedInTurn, MergeRefusedAsUnknown};
 ghost use Rattle.world_loans.specs.ServeFaults.{IsLastingFault, told_refusal};
 
 use identity_register::selection::Selection;
@@ -128,7 +129,8 @@ pub fn returned_where_accepted()
     ensures { ReturnedWhereAccepted }
 {}
 
-/// A new merge of live packages is refused for the first reason that holds: its texts, a foreign parent, a stale ticket, an open loan, a taken place, or what would be too many.
+/// A new merge of live packages is refused for the first reason that holds: its texts, a foreign
+/// parent, a stale ticket, an open loan, a taken place, or what would be too many.
 pub fn merge_refused_in_turn()
     ensures { MergeRefusedInTurn }
 {}
@@ -138,7 +140,8 @@ pub fn merge_refused_as_unknown()
     ensures { MergeRefusedAsUnknown }
 {}
 
-/// A new split of a live package is refused for the first reason that holds: a used UUID, its texts, its rectangle, the depth, nothing to lend, a torn link, or what would be too many.
+/// A new split of a live package is refused for the first reason that holds: a used UUID, its
+/// texts, its rectangle, the depth, nothing to lend, a torn link, or what would be too many.
 pub fn split_refused_in_turn()
     ensures { SplitRefusedInTurn }
 {}

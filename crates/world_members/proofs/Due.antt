@@ -24,15 +24,21 @@ due_where_accepted w q at register uuid types one new none place =
     let id : List ℕ = package_of q.command in
     let against : NothingAgainst w q = nothing_against_accepted w (accepted w q) q one new none in
     let fits = fits_where_accepted w q register uuid types one against in
-    let is : accepted w q ≡ world_after (receipt_of w q) q.command w = carried_out_in_one w (receipt_of w q) q.command one in
-    let keeps : IsRegister (outcome w q).1 = step_keeps_register w q (outcome w q).0 (outcome w q).1 types register (inl (refl, refl)) in
+    let is : accepted w q ≡ world_after (receipt_of w q) q.command w =
+    carried_out_in_one w (receipt_of w q) q.command one in
+    let keeps : IsRegister (outcome w q).1 = step_keeps_register w q (outcome w q).0 (outcome w q).1 types register
+    (inl (refl, refl)) in
     record {
       holds = holdings w (package_of q.command);
       place = place;
-      named = (at_all w (λ _. Unit {0}) (package_of q.command) (All-each (λ _. Unit {0}) (λ _. tt) w.packages) against.live).1;
+      named = (at_all w (λ _. Unit {0}) (package_of q.command) (All-each (λ _. Unit {0}) (λ _. tt) w.packages)
+          against.live).1;
       fits = fits;
       sums = sym (sums_after_command w q register against.live fits).1;
-      tickets = λ p. subst (λ v. ticket v p ≡ (if bytes_eq p (package_of q.command) then length (receipts_of w) + 1 else ticket w p)) is (ticket_after w q p register one against.live);
-      counted = subst (λ v. length (receipts_of v) ≡ length (receipts_of w) + 1) is (ap length (receipts_next w q register one against.live) ∙ length-append (receipts_of w) (receipt_of w q ∷ []));
+      tickets = λ p. subst (λ v. ticket v p ≡ (if bytes_eq p (package_of q.command) then length (receipts_of w) +
+          1 else ticket w p)) is (ticket_after w q p register one against.live);
+      counted = subst (λ v. length (receipts_of v) ≡ length (receipts_of w) + 1) is
+          (ap length (receipts_next w q register one against.live)
+          ∙ length-append (receipts_of w) (receipt_of w q ∷ []));
       register = subst IsRegister (ap (λ o. o.1) (accepted_outcome w q one new none)) keeps;
     }

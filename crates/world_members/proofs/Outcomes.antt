@@ -16,20 +16,24 @@ use Rattle.world_members.proofs.Carrying.{carried_out_in_one}
 use Rattle.world_members.proofs.FirstRows.{holds}
 
 -- the kept reply, by what is kept
-reply_of : (w : World) (q : Request) (found : Option Receipt) → kept w q.id ≡ found → kept_reply w q ≡ option_and_then (λ r. then_some (bytes_eq r.line (line q.command)) r) found
+reply_of : (w : World) (q : Request) (found : Option Receipt) → kept w q.id ≡ found
+    → kept_reply w q ≡ option_and_then (λ r. then_some (bytes_eq r.line (line q.command)) r) found
 reply_of w q found is = ap (option_and_then (λ r. then_some (bytes_eq r.line (line q.command)) r)) is
 
 pub kept_outcome : KeptOutcome
-kept_outcome w q r is same = ap (λ k. outcome_by w q k (refuses w q)) (reply_of w q (Some r) is ∙ ap (λ b. then_some b r) same)
+kept_outcome w q r is same = ap (λ k. outcome_by w q k (refuses w q))
+    (reply_of w q (Some r) is ∙ ap (λ b. then_some b r) same)
 
 pub reused_outcome : ReusedOutcome
 reused_outcome w q r is other =
-    let reused : id_reused w q ≡ true = ap (λ k. option_map_or (λ s. not (bytes_eq s.line (line q.command))) k false) is ∙ ap not other in
+    let reused : id_reused w q ≡ true = ap (λ k. option_map_or (λ s. not (bytes_eq s.line (line q.command))) k false)
+    is ∙ ap not other in
     ap (λ k. outcome_by w q k (refuses w q)) (reply_of w q (Some r) is ∙ ap (λ b. then_some b r) other)
     ∙ ap (outcome_by w q None) (sym (holds (id_reused w q) IdReused (drop 1 (reasons w (accepted w q) q)) reused))
 
 pub refused_outcome : RefusedOutcome
-refused_outcome w q why is refused = ap (λ k. outcome_by w q k (refuses w q)) (reply_of w q None is) ∙ ap (outcome_by w q None) refused
+refused_outcome w q why is refused = ap (λ k. outcome_by w q k (refuses w q)) (reply_of w q None is)
+    ∙ ap (outcome_by w q None) refused
 
 pub accepted_outcome : AcceptedOutcome
 accepted_outcome w q one is none =

@@ -9,7 +9,8 @@ use Rattle.sheet_types.specs.declared.frame.Frame.{Frame}
 use Rattle.sheet_types.specs.declared.receipt.Receipt.{Receipt}
 use Rattle.identity_register.specs.Calls.{HasLastChange}
 use Rattle.identity_register.specs.Reads.{Reads}
-use Rattle.identity_register.specs.Changes.{IsNewItem, item_added, IsLooseItem, item_deleted, IsNewLink, link_added, IsLink, link_removed}
+use Rattle.identity_register.specs.Changes.{IsNewItem, item_added, IsLooseItem, item_deleted, IsNewLink, link_added}
+use Rattle.identity_register.specs.Changes.{IsLink, link_removed}
 use Rattle.custody.specs.Receipts.{IsNewReceipt}
 
 -- The package is as the command's change needs it. A split and a merge change more than one package, so nothing is

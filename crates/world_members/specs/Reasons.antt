@@ -16,7 +16,9 @@ use Rattle.sheet_types.specs.declared.command.Relation.{Relation}
 use Rattle.sheet_types.specs.declared.command.Request.{Request}
 use Rattle.sheet_types.specs.declared.frame.Frame.{Frame}
 use Rattle.sheet_types.specs.declared.refusal.Refusal.{Refusal}
-use Rattle.sheet_types.specs.declared.refusal.Refusal.TheVariants.{BadText, TooLarge, UnknownItem, WrongKind, BadPlace, OutOfFrame, PlaceTaken, LinkThere, UnknownLink, Linked}
+use Rattle.sheet_types.specs.declared.refusal.Refusal.TheVariants.{BadText, TooLarge, UnknownItem, WrongKind}
+use Rattle.sheet_types.specs.declared.refusal.Refusal.TheVariants.{BadPlace, OutOfFrame, PlaceTaken, LinkThere}
+use Rattle.sheet_types.specs.declared.refusal.Refusal.TheVariants.{UnknownLink, Linked}
 use Rattle.identity_register.specs.declared.look_ups.LinkState.{LinkState}
 use Rattle.identity_register.specs.declared.look_ups.LinkState.TheVariants.{UnknownEnd, WrongKinds, Absent, There}
 
@@ -63,7 +65,9 @@ unlink_reasons p l = (not (has link_key (link_key l) p.links), UnknownLink) ∷ 
 abbrev pub package_reasons : Frame → Package → Command → List (Bool × Refusal)
 package_reasons f p (Add uuid identity content) = content_reasons f p content
 package_reasons f p (Delete uuid identity) = delete_reasons p identity
-package_reasons f p (Link uuid mapping base other) = link_reasons p (record { mapping = mapping; base = base; other = other })
-package_reasons f p (Unlink uuid mapping base other) = unlink_reasons p (record { mapping = mapping; base = base; other = other })
+package_reasons f p (Link uuid mapping base other) = link_reasons p
+    (record { mapping = mapping; base = base; other = other })
+package_reasons f p (Unlink uuid mapping base other) = unlink_reasons p
+    (record { mapping = mapping; base = base; other = other })
 package_reasons f p (Split uuid child mode rect) = []
 package_reasons f p (Merge child into ticket) = []

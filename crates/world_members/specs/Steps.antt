@@ -1,6 +1,7 @@
 -- What a request makes of a world, by what is kept of it: the outcome, what each package holds, the limits and the
 -- tickets. Profile.
-use Rattle.std.specs.Prelude.{◌≡◌, ◌≤◌, ℕ, ◌+◌, ◌-◌, ◌*◌, Bool, true, false, ◌||◌, nat_lt, ⊤, List, map, length, if◌then◌else◌, Some, None, Ok, Err, bytes_eq}
+use Rattle.std.specs.Prelude.{◌≡◌, ◌≤◌, ℕ, ◌+◌, ◌-◌, ◌*◌, Bool, true, false, ◌||◌, nat_lt, ⊤, List, map, length}
+use Rattle.std.specs.Prelude.{if◌then◌else◌, Some, None, Ok, Err, bytes_eq}
 use Rattle.std.specs.Bool.{then_some}
 use Rattle.std.specs.List.{list_any}
 use Rattle.std.specs.Option.{option_or}
@@ -8,7 +9,8 @@ use Rattle.sheet_types.specs.Answers.{sums_held}
 use Rattle.sheet_types.specs.Custody.{kept, ticket}
 use Rattle.sheet_types.specs.Lines.{IsUuid, HasTypes}
 use Rattle.sheet_types.specs.Matrix.{first_row}
-use Rattle.sheet_types.specs.Refuse.{greatest_items, greatest_links, greatest_packages, greatest_receipts, refusal, identity_used, too_many}
+use Rattle.sheet_types.specs.Refuse.{greatest_items, greatest_links, greatest_packages, greatest_receipts, refusal}
+use Rattle.sheet_types.specs.Refuse.{identity_used, too_many}
 use Rattle.sheet_types.specs.Register.{IsRegister}
 use Rattle.sheet_types.specs.Step.{accepted, added_item, outcome, receipt_of}
 use Rattle.sheet_types.specs.Texts.{line, is_moment}
@@ -66,8 +68,10 @@ NothingAgainstAccepted = (w next : World) (q : Request) → ChangesOnePackage q.
 abbrev pub RefusedInTurn : Type 0
 RefusedInTurn = (w next : World) (q : Request) → ChangesOnePackage q.command → kept w q.id ≡ None
     → is_live w (package_of q.command) ≡ true →
-    refusal w next q ≡ option_or (first_row (text_reasons q)) (option_or (then_some (identity_used w q.command) IdentityUsed)
-    (option_or (first_row (package_reasons w.frame (holdings w (package_of q.command)) q.command)) (then_some (too_many next) TooMany)))
+    refusal w next q ≡ option_or (first_row (text_reasons q))
+    (option_or (then_some (identity_used w q.command) IdentityUsed)
+    (option_or (first_row (package_reasons w.frame (holdings w (package_of q.command)) q.command))
+    (then_some (too_many next) TooMany)))
 
 -- One whose package is not live is refused for that.
 abbrev pub RefusedAsUnknown : Type 0
@@ -82,10 +86,24 @@ sums_moved r = record { tiles = r.tiles; media = r.media; rows = r.rows; links =
 
 -- so much more, and so much less
 abbrev pub sums_more : Sums → Sums → Sums
-sums_more some held = record { tiles = held.tiles + some.tiles; media = held.media + some.media; rows = held.rows + some.rows; links = held.links + some.links; bytes = held.bytes + some.bytes }
+sums_more some held = record {
+  tiles = held.tiles + some.tiles;
+  media = held.media + some.media;
+  rows =
+      held.rows + some.rows;
+  links = held.links + some.links;
+  bytes = held.bytes + some.bytes;
+}
 
 abbrev pub sums_less : Sums → Sums → Sums
-sums_less some held = record { tiles = held.tiles - some.tiles; media = held.media - some.media; rows = held.rows - some.rows; links = held.links - some.links; bytes = held.bytes - some.bytes }
+sums_less some held = record {
+  tiles = held.tiles - some.tiles;
+  media = held.media - some.media;
+  rows =
+      held.rows - some.rows;
+  links = held.links - some.links;
+  bytes = held.bytes - some.bytes;
+}
 
 -- so much is there
 pub record IsWithin (some held : Sums) : Type 0 where
@@ -139,7 +157,8 @@ is_past_limits held = nat_lt greatest_items held.tiles || nat_lt greatest_items 
 
 -- what each package holds after a request
 abbrev pub sums_next : World → Request → List Sums
-sums_next w q = map (λ x. if bytes_eq x.uuid (package_of q.command) then sums_after q.command (sums_moved (receipt_of w q)) (sums_held x) else sums_held x) w.packages
+sums_next w q = map (λ x. if bytes_eq x.uuid (package_of q.command) then sums_after q.command
+    (sums_moved (receipt_of w q)) (sums_held x) else sums_held x) w.packages
 
 -- Whether a request would leave too many is told by what each package holds, the number of packages and that of the
 -- receipts.

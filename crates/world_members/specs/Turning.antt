@@ -1,5 +1,6 @@
 -- The change of one member of a world, and what all members stand for after it. Profile.
-use Rattle.std.specs.Prelude.{◌≡◌, ℕ, ◌+◌, List, Some, slice_get, slice_set, length, if◌then◌else◌, bytes_eq, None, Result, Ok, Err, IsTrue}
+use Rattle.std.specs.Prelude.{◌≡◌, ℕ, ◌+◌, List, Some, slice_get, slice_set, length, if◌then◌else◌, bytes_eq, None}
+use Rattle.std.specs.Prelude.{Result, Ok, Err, IsTrue}
 use Rattle.sqlite.specs.Effect.{Database}
 use Rattle.sqlite.specs.Held.{Held, state}
 use Rattle.sqlite.specs.State.{State}
@@ -53,7 +54,8 @@ abbrev pub DueWhereAccepted : Type 0
 DueWhereAccepted = (w : World) (q : Request) (at : ℕ) → IsRegister w → IsUuid q.id → HasTypes q.command
     → ChangesOnePackage q.command → kept w q.id ≡ None → refusal w (accepted w q) q ≡ None →
     slice_get w.packages at ≡ Some (holdings w (package_of q.command)) →
-    IsDue w at (receipt_of w q) q.command (sums_after q.command (sums_moved (receipt_of w q)) (sums_held (holdings w (package_of q.command))))
+    IsDue w at (receipt_of w q) q.command (sums_after q.command (sums_moved (receipt_of w q))
+    (sums_held (holdings w (package_of q.command))))
 
 -- ---- the stores
 

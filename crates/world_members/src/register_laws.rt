@@ -1,4 +1,5 @@
-//! What each package of a register tells of the whole, so that a world is judged package by package. Each law is the contract of a function that does nothing.
+//! What each package of a register tells of the whole, so that a world is judged package by
+//! package. Each law is the contract of a function that does nothing.
 ghost use Rattle.world_members.specs.Register.{UsedIsNamed, NoneIsKept, KeptIsThere, NumberIsCount};
 
 /// An identity is used where a receipt of some package names it as that of an item.

@@ -1,7 +1,11 @@
-//! What a request makes of a world, by what is kept of it, so that a request is carried out without looking over the whole world. Each law is the contract of a function that does nothing.
-ghost use Rattle.world_members.specs.Steps.{FitsWhereAccepted, NothingAgainstAccepted, RefusedInTurn, RefusedAsUnknown, BytesWithin, SumsAfter, TooManyBySums, TicketAfter, KeptOutcome, ReusedOutcome, RefusedOutcome, AcceptedOutcome};
+//! What a request makes of a world, by what is kept of it, so that a request is carried out without
+//! looking over the whole world. Each law is the contract of a function that does nothing.
+ghost use Rattle.world_members.specs.Steps.{FitsWhereAccepted, NothingAgainstAccepted, RefusedInTurn};
+ghost use Rattle.world_members.specs.Steps.{RefusedAsUnknown, BytesWithin, SumsAfter, TooManyBySums, TicketAfter};
+ghost use Rattle.world_members.specs.Steps.{KeptOutcome, ReusedOutcome, RefusedOutcome, AcceptedOutcome};
 
-/// The receipt of a request to change one package that nothing speaks against is new to its package, which is as the command's change needs it.
+/// The receipt of a request to change one package that nothing speaks against is new to its
+/// package, which is as the command's change needs it.
 pub fn fits_where_accepted()
     ensures { FitsWhereAccepted }
 {}
@@ -11,7 +15,8 @@ pub fn nothing_against_accepted()
     ensures { NothingAgainstAccepted }
 {}
 
-/// A new request to change one package that is live is refused for its text, else for a used identity, else by its package, else for what would be too many.
+/// A new request to change one package that is live is refused for its text, else for a used
+/// identity, else by its package, else for what would be too many.
 pub fn refused_in_turn()
     ensures { RefusedInTurn }
 {}
@@ -21,7 +26,8 @@ pub fn refused_as_unknown()
     ensures { RefusedAsUnknown }
 {}
 
-/// After a command that fits it, a package holds what it held and what came in, or what it held less what went out, which was there.
+/// After a command that fits it, a package holds what it held and what came in, or what it held
+/// less what went out, which was there.
 pub fn sums_after_command()
     ensures { SumsAfter }
 {}
@@ -56,7 +62,8 @@ pub fn refused_outcome()
     ensures { RefusedOutcome }
 {}
 
-/// A request to change one package that is new and not refused gets its receipt, and changes the one package that it names.
+/// A request to change one package that is new and not refused gets its receipt, and changes the
+/// one package that it names.
 pub fn accepted_outcome()
     ensures { AcceptedOutcome }
 {}

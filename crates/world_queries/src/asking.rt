@@ -1,4 +1,7 @@
-//! What is looked up in all live packages: a kept receipt, a used identity, a loan that was ever made, and the place of a package. The look-ups are made in the order of the members and stop at the first that answers. An error is want of memory, or a store that failed; all members are as they were.
+//! What is looked up in all live packages: a kept receipt, a used identity, a loan that was ever
+//! made, and the place of a package. The look-ups are made in the order of the members and stop at
+//! the first that answers. An error is want of memory, or a store that failed; all members are as
+//! they were.
 ghost use Rattle.std.specs.Prelude.{◌≡◌, ◌<◌, ◌↔◌, IsTrue, length};
 ghost use Rattle.store_sql.specs.Transactions.{Looks};
 ghost use Rattle.sheet_types.specs.Custody.{kept, is_used};

@@ -1,4 +1,7 @@
-//! What is asked of the one live package that a request names: why it does not take a command, an item of it, all that it holds, and what a command moves of it. All other members are left alone, so the answers stand beside those of `asking`. An error is want of memory, or a store that failed; all members are as they were.
+//! What is asked of the one live package that a request names: why it does not take a command, an
+//! item of it, all that it holds, and what a command moves of it. All other members are left alone,
+//! so the answers stand beside those of `asking`. An error is want of memory, or a store that
+//! failed; all members are as they were.
 ghost use Rattle.std.specs.Prelude.{◌≡◌, ◌<◌, [], ◌∷◌, IsTrue, Some, MatchOption, length, slice_get};
 ghost use Rattle.sheet_types.specs.Matrix.{is_good_frame, first_row};
 ghost use Rattle.sheet_types.specs.World.{Package, item_of, holdings};
@@ -32,7 +35,8 @@ pub fn refusal_at<S: Alter + Drop>(
     requires rests { AllRest S.Store members.old.items }
     requires good { IsTrue (is_good_frame frame.now) }
     ensures { AsksAll S.Store
-        (λ w found. frame.now ≡ w.frame → (p : Package) → slice_get w.packages at ≡ Some p → found ≡ first_row (package_reasons w.frame p command.now))
+        (λ w found. frame.now ≡ w.frame → (p : Package) → slice_get w.packages at ≡ Some p
+        → found ≡ first_row (package_reasons w.frame p command.now))
         members.old.items members.new.items result }
 {
     let member = &mut members[at];
@@ -54,7 +58,8 @@ pub fn item_at<S: Alter + Drop>(
     find(&mut member.conn, identity)
 }
 
-/// What a command that changes one package moves, which is one thing or, of a delete that finds no item, none. The member at the place is of the package that the command names.
+/// What a command that changes one package moves, which is one thing or, of a delete that finds no
+/// item, none. The member at the place is of the package that the command names.
 pub fn thing_moved<S: Alter + Drop>(
     members: &mut Vec<Member<S>>,
     at: usize,
@@ -63,7 +68,9 @@ pub fn thing_moved<S: Alter + Drop>(
     requires within { at < length members.old.items }
     requires rests { AllRest S.Store members.old.items }
     ensures { AsksAll S.Store
-        (λ w found. ChangesOnePackage command.now → slice_get w.packages at ≡ Some (holdings w (package_of command.now)) → MatchOption found (moved w command.now ≡ []) (λ m. moved w command.now ≡ m ∷ []))
+        (λ w found. ChangesOnePackage command.now → slice_get w.packages at
+        ≡ Some (holdings w (package_of command.now)) → MatchOption found (moved w command.now ≡ [])
+        (λ m. moved w command.now ≡ m ∷ []))
         members.old.items members.new.items result }
 {
     match command {
@@ -106,7 +113,8 @@ pub fn holdings_at<S: Alter + Drop>(
     requires within { at < length members.old.items }
     requires rests { AllRest S.Store members.old.items }
     ensures { AsksAll S.Store
-        (λ w held. (p : Package) → slice_get w.packages at ≡ Some p → (held.0.items ≡ p.items) × (held.1.items ≡ p.links))
+        (λ w held. (p : Package) → slice_get w.packages at ≡ Some p → (held.0.items ≡ p.items)
+        × (held.1.items ≡ p.links))
         members.old.items members.new.items result }
 {
     let member = &mut members[at];

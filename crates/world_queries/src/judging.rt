@@ -1,10 +1,13 @@
-//! Why a package does not take a command. Each reason is looked up by a key or an index, and the look-ups stop at the first that holds. An error is want of memory, or a store that failed, and tells nothing of the package.
+//! Why a package does not take a command. Each reason is looked up by a key or an index, and the
+//! look-ups stop at the first that holds. An error is want of memory, or a store that failed, and
+//! tells nothing of the package.
 ghost use Rattle.std.specs.Prelude.{◌≡◌, IsTrue};
 ghost use Rattle.sqlite.specs.Held.{state};
 ghost use Rattle.store_sql.specs.Transactions.{Rests};
 ghost use Rattle.sheet_types.specs.Matrix.{is_good_frame, first_row};
 ghost use Rattle.world_members.specs.Calls.{Judges};
-ghost use Rattle.world_members.specs.Reasons.{tile_reasons, content_reasons, delete_reasons, link_reasons, reason_told, unlink_reasons, package_reasons};
+ghost use Rattle.world_members.specs.Reasons.{tile_reasons, content_reasons, delete_reasons, link_reasons};
+ghost use Rattle.world_members.specs.Reasons.{reason_told, unlink_reasons, package_reasons};
 
 use identity_register::look_ups::{LinkState, has_link, has_tile_at, is_linked, link_state};
 use matrix_rules::ground::{has_place, in_frame};
@@ -25,7 +28,8 @@ fn refusal_of_tile<S: Alter>(
 ) -> Result<Option<Refusal>, Fault>
     requires rests { Rests (state S.Store conn.old) }
     requires good { IsTrue (is_good_frame frame.now) }
-    ensures { Judges (λ f p found. f ≡ frame.now → found ≡ first_row (tile_reasons f p zoom column row)) (state S.Store conn.old) (state S.Store conn.new) result }
+    ensures { Judges (λ f p found. f ≡ frame.now → found ≡ first_row (tile_reasons f p zoom column row))
+        (state S.Store conn.old) (state S.Store conn.new) result }
 {
     if !has_place(frame, zoom, column, row) {
         return Ok(Some(Refusal::BadPlace));
@@ -42,7 +46,8 @@ fn refusal_of_add<S: Alter>(
 ) -> Result<Option<Refusal>, Fault>
     requires rests { Rests (state S.Store conn.old) }
     requires good { IsTrue (is_good_frame frame.now) }
-    ensures { Judges (λ f p found. f ≡ frame.now → found ≡ first_row (content_reasons f p content.now)) (state S.Store conn.old) (state S.Store conn.new) result }
+    ensures { Judges (λ f p found. f ≡ frame.now → found ≡ first_row (content_reasons f p content.now))
+        (state S.Store conn.old) (state S.Store conn.new) result }
 {
     match content {
         Content::Tile {
@@ -64,7 +69,8 @@ fn refusal_of_delete<S: Alter>(
     identity: Uuid,
 ) -> Result<Option<Refusal>, Fault>
     requires { Rests (state S.Store conn.old) }
-    ensures { Judges (λ f p found. found ≡ first_row (delete_reasons p identity)) (state S.Store conn.old) (state S.Store conn.new) result }
+    ensures { Judges (λ f p found. found ≡ first_row (delete_reasons p identity)) (state S.Store conn.old)
+        (state S.Store conn.new) result }
 {
     match is_linked(conn, identity)? {
         None => Ok(Some(Refusal::UnknownItem)),
@@ -90,7 +96,8 @@ fn refusal_of_link<S: Alter>(
     relation: Relation,
 ) -> Result<Option<Refusal>, Fault>
     requires { Rests (state S.Store conn.old) }
-    ensures { Judges (λ f p found. found ≡ first_row (link_reasons p relation)) (state S.Store conn.old) (state S.Store conn.new) result }
+    ensures { Judges (λ f p found. found ≡ first_row (link_reasons p relation)) (state S.Store conn.old)
+        (state S.Store conn.new) result }
 {
     let found = link_state(conn, relation)?;
     Ok(reason_told(found))
@@ -102,13 +109,15 @@ fn refusal_of_unlink<S: Alter>(
     relation: Relation,
 ) -> Result<Option<Refusal>, Fault>
     requires { Rests (state S.Store conn.old) }
-    ensures { Judges (λ f p found. found ≡ first_row (unlink_reasons p relation)) (state S.Store conn.old) (state S.Store conn.new) result }
+    ensures { Judges (λ f p found. found ≡ first_row (unlink_reasons p relation)) (state S.Store conn.old)
+        (state S.Store conn.new) result }
 {
     let there = has_link(conn, relation)?;
     Ok((!there).then_some(Refusal::UnknownLink))
 }
 
-/// Why the package of a store and its frame do not take a command, if they do not. Of a split and a merge it tells nothing: none of these reasons is theirs.
+/// Why the package of a store and its frame do not take a command, if they do not. Of a split and a
+/// merge it tells nothing: none of these reasons is theirs.
 pub fn package_refusal<S: Alter>(
     conn: &mut Connection<S>,
     frame: &Frame,
@@ -116,7 +125,8 @@ pub fn package_refusal<S: Alter>(
 ) -> Result<Option<Refusal>, Fault>
     requires rests { Rests (state S.Store conn.old) }
     requires good { IsTrue (is_good_frame frame.now) }
-    ensures { Judges (λ f p found. f ≡ frame.now → found ≡ first_row (package_reasons f p command.now)) (state S.Store conn.old) (state S.Store conn.new) result }
+    ensures { Judges (λ f p found. f ≡ frame.now → found ≡ first_row (package_reasons f p command.now))
+        (state S.Store conn.old) (state S.Store conn.new) result }
 {
     match command {
         Command::Add { content, .. } => refusal_of_add(conn, frame, content),

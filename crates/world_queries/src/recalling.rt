@@ -1,4 +1,6 @@
-//! What is looked up of a UUID that receipts may name: nothing where it is not known; else in the package to which it leads, and only where that one has no answer in all of them. An error is want of memory, or a store that failed; all members are as they were.
+//! What is looked up of a UUID that receipts may name: nothing where it is not known; else in the
+//! package to which it leads, and only where that one has no answer in all of them. An error is
+//! want of memory, or a store that failed; all members are as they were.
 ghost use Rattle.std.specs.Prelude.{◌≡◌, ◌<◌, Some, IfSome, IsTrue, true, length};
 ghost use Rattle.sheet_types.specs.Custody.{kept, is_used};
 ghost use Rattle.world_known.specs.Known.{Knows};
@@ -17,7 +19,9 @@ use uuid::Uuid;
 use world_known::known::Known;
 use world_members::members::Member;
 
-/// Where the package stands that has what was entered in a package: the same one or, where that was merged, the one that took it, or took that one in turn. A loan is at most four below the archive.
+/// Where the package stands that has what was entered in a package: the same one or, where that was
+/// merged, the one that took it, or took that one in turn. A loan is at most four below the
+/// archive.
 pub(crate) fn live_place<S: Alter + Drop>(
     members: &[Member<S>],
     known: &Known,
@@ -35,7 +39,8 @@ pub(crate) fn live_place<S: Alter + Drop>(
     None
 }
 
-/// The receipt that the package of the member at a place keeps for a request, which is the one of the world; that it keeps none tells nothing.
+/// The receipt that the package of the member at a place keeps for a request, which is the one of
+/// the world; that it keeps none tells nothing.
 fn kept_at<S: Alter + Drop>(
     members: &mut Vec<Member<S>>,
     at: usize,
@@ -138,7 +143,8 @@ pub fn was_used<S: Alter + Drop>(
     is_named_in_all(members, identity)
 }
 
-/// Whether the package of the member at a place has the receipt of a split that made a package of this UUID; that it does not tells nothing.
+/// Whether the package of the member at a place has the receipt of a split that made a package of
+/// this UUID; that it does not tells nothing.
 fn lent_at<S: Alter + Drop>(
     members: &mut Vec<Member<S>>,
     at: usize,

@@ -60,7 +60,8 @@ pub fn receipt_over(
     thing: Moved,
 ) -> Result<Receipt, OutOfMemory>
     ensures number { IfOk result (λ receipt. receipt.seq ≡ seq) }
-    ensures whole { IfOk result (λ receipt. IsAddedBy request.now.command thing → receipt ≡ receipt_over seq request.now (thing ∷ [])) }
+    ensures whole { IfOk result (λ receipt. IsAddedBy request.now.command thing
+        → receipt ≡ receipt_over seq request.now (thing ∷ [])) }
 {
     let sums = sums_of(thing);
     let things = Vec::from_slice(alloc, &[thing])?;

@@ -44,7 +44,8 @@ pub fn less(some: Sums, held: Sums) -> Option<Sums>
     })
 }
 
-/// What a package holds after a command that moved so much. There is no answer where a sum would have more than 64 bits, or where what goes out was not there.
+/// What a package holds after a command that moved so much. There is no answer where a sum would
+/// have more than 64 bits, or where what goes out was not there.
 pub fn sums_after(command: &Command, some: Sums, held: Sums) -> Option<Sums>
     ensures { SomeIff result (CanCount command.now some held) (sums_after command.now some held) }
 {

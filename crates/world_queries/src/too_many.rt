@@ -1,8 +1,10 @@
-//! Whether a request would leave too many: a package past its limits, too many packages or too many receipts. What each package holds is kept, so nothing is counted.
+//! Whether a request would leave too many: a package past its limits, too many packages or too many
+//! receipts. What each package holds is kept, so nothing is counted.
 ghost use Rattle.std.specs.Prelude.{◌≡◌, ◌<◌, length, slice_get, Some};
 ghost use Rattle.std.specs.List.{list_any};
 ghost use Rattle.world_members.specs.Steps.{is_past_limits};
-ghost use Rattle.world_queries.specs.TooMany.{sums_with, leaves_too_many, TooManyUncounted, MemberHolds, MembersHoldNext, MembersTellTooMany, MembersTellUncounted};
+ghost use Rattle.world_queries.specs.TooMany.{sums_with, leaves_too_many, TooManyUncounted, MemberHolds};
+ghost use Rattle.world_queries.specs.TooMany.{MembersHoldNext, MembersTellTooMany, MembersTellUncounted};
 
 use sheet_types::checks::{GREATEST_ITEMS, GREATEST_LINKS, GREATEST_PACKAGES, GREATEST_RECEIPTS};
 use sheet_types::receipt::Sums;
@@ -42,7 +44,8 @@ pub fn any_past_limits<S: Alter + Drop>(members: &[Member<S>], at: usize, sums: 
     false
 }
 
-/// Whether a request would leave too many, with the sums that it leaves of the member whose package it changes, and the number of receipts so far.
+/// Whether a request would leave too many, with the sums that it leaves of the member whose package
+/// it changes, and the number of receipts so far.
 pub fn is_too_many<S: Alter + Drop>(
     members: &[Member<S>],
     at: usize,
@@ -70,7 +73,8 @@ pub fn member_holds<S: Alter + Drop>()
     ensures { MemberHolds S.Store }
 {}
 
-/// With the sums after a command in the place of its package, the members tell what each package holds after the request.
+/// With the sums after a command in the place of its package, the members tell what each package
+/// holds after the request.
 pub fn members_hold_next<S: Alter + Drop>()
     ensures { MembersHoldNext S.Store }
 {}

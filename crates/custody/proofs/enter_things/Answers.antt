@@ -15,10 +15,17 @@ loop-position-preserved g c =
     let less : c.loop-position.position < length c.args.things.now = omega arith in
     record {
       same = c.enter_moved.ensures.same_reference ∙ c.loop-position.invariant.same;
-      each = subst (λ done. EachStep Enters done (state g.S.Store c.args.tx.now.conn.now) (state g.S.Store c.enter_moved.new.tx.conn.now)) (sym (rows_more c.args.seq c.loop-position.position c.args.things.now c.index-things-position.result c.index-things-position.is less)) (each_goes_on Enters _ _ c.loop-position.invariant.each c.in_ok-enter_moved.ensures.steps);
+      each = subst (λ done. EachStep Enters done (state g.S.Store c.args.tx.now.conn.now)
+          (state g.S.Store c.enter_moved.new.tx.conn.now)) (sym
+          (rows_more c.args.seq c.loop-position.position c.args.things.now c.index-things-position.result
+          c.index-things-position.is less)) (each_goes_on Enters _ _ c.loop-position.invariant.each
+          c.in_ok-enter_moved.ensures.steps);
     }
 
 pub returns-clause-steps : goal.returns-clause-steps
 returns-clause-steps g c =
     let all : length c.args.things.now ≤ c.loop-position.position = omega arith in
-    steps_answer (λ _. EachChained Enters (rows_from c.args.seq 0 c.args.things.now)) tt (λ it. it) (subst (λ done. EachStep Enters done (state g.S.Store c.args.tx.now.conn.now) (state g.S.Store c.loop-position.tx.conn.now)) (rows_all c.args.seq c.loop-position.position c.args.things.now all) c.loop-position.invariant.each)
+    steps_answer (λ _. EachChained Enters (rows_from c.args.seq 0 c.args.things.now)) tt (λ it. it)
+    (subst (λ done. EachStep Enters done (state g.S.Store c.args.tx.now.conn.now)
+    (state g.S.Store c.loop-position.tx.conn.now)) (rows_all c.args.seq c.loop-position.position c.args.things.now
+    all) c.loop-position.invariant.each)

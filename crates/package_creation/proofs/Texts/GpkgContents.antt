@@ -17,7 +17,20 @@ text = codes "CREATE TABLE gpkg_contents (table_name TEXT PRIMARY KEY, data_type
 
 makes : MakesText text (gpkg_contents 0)
 unfolding everything
-makes = (_, _, record { parsed = refl; statement = refl; name = refl; free = refl; defined = refl; fits = refl; whole = refl })
+makes = (
+  _,
+  _,
+  record {
+    parsed = refl;
+    statement = refl;
+    name = refl;
+    free = refl;
+    defined = refl;
+    fits =
+        refl;
+    whole = refl;
+  },
+)
 
 free : IsFree (first_made 1 0) (codes "gpkg_contents")
 unfolding same_name
@@ -28,10 +41,23 @@ unfolding everything
 alone = record { statement = _; parsed = refl; names = refl; whole = refl }
 
 fits : FitsGrown (first_made 1 0) text (gpkg_contents 0)
-unfolding same_name is_utf8 chars lib.Utf8.encode digits fits_kind is_free_name begins same_word value_cmp lib.Ieee.is_nan lib.Ieee.lt
+unfolding same_name is_utf8 chars lib.Utf8.encode digits fits_kind is_free_name begins same_word value_cmp
+    lib.Ieee.is_nan lib.Ieee.lt
 fits = record {
   alone = alone;
-  table = record { free = refl; automatic = (refl, (refl, tt)); utf8 = refl; open_name = refl; low = refl; reals = refl; key_reals = (refl, (refl, tt)); formed = refl; fit = refl; short = refl };
+  table = record {
+    free = refl;
+    automatic = (refl, (refl, tt));
+    utf8 = refl;
+    open_name = refl;
+    low = refl;
+    reals =
+        refl;
+    key_reals = (refl, (refl, tt));
+    formed = refl;
+    fit = refl;
+    short = refl;
+  };
   sequence = tt;
 }
 

@@ -19,7 +19,22 @@ text = codes "CREATE INDEX by_rows_media ON rows_media (related_id)"
 
 makes : (tree : ℕ) → MakesIndexText text (rows_media tree) (by_rows_media tree 0)
 unfolding everything
-makes tree = (_, _, record { parsed = refl; statement = refl; formats = refl; table = refl; table_free = refl; name = refl; free = refl; defined = refl; whole = refl })
+makes tree = (
+  _,
+  _,
+  record {
+    parsed = refl;
+    statement = refl;
+    formats = refl;
+    table = refl;
+    table_free = refl;
+    name =
+        refl;
+    free = refl;
+    defined = refl;
+    whole = refl;
+  },
+)
 
 has : HasTable (first_made 16 3) 10 (rows_media 17)
 unfolding same_name
@@ -34,8 +49,20 @@ unfolding everything
 alone = record { statement = _; parsed = refl; names = refl; whole = refl }
 
 fits : FitsIndex (first_made 16 3) text (rows_media 17) (by_rows_media 17 0)
-unfolding same_name is_utf8 chars lib.Utf8.encode digits fits_kind is_free_name begins same_word value_cmp lib.Ieee.is_nan lib.Ieee.lt
-fits = record { alone = alone; free = refl; utf8 = refl; open_name = refl; low = refl; reals = refl; key_reals = refl; fit = refl; short = refl }
+unfolding same_name is_utf8 chars lib.Utf8.encode digits fits_kind is_free_name begins same_word value_cmp
+    lib.Ieee.is_nan lib.Ieee.lt
+fits = record {
+  alone = alone;
+  free = refl;
+  utf8 = refl;
+  open_name = refl;
+  low = refl;
+  reals = refl;
+  key_reals =
+      refl;
+  fit = refl;
+  short = refl;
+}
 
 pub step : Extends text (first_made 16 3) (first_made 16 4)
 step = inr (10, rows_media 17, by_rows_media 17 0, makes 17, has, free, fits, refl)

@@ -19,7 +19,22 @@ text = codes "CREATE INDEX by_xy ON sheet_rows (x, y)"
 
 makes : (tree : ℕ) → MakesIndexText text (sheet_rows tree) (by_xy tree 0)
 unfolding everything
-makes tree = (_, _, record { parsed = refl; statement = refl; formats = refl; table = refl; table_free = refl; name = refl; free = refl; defined = refl; whole = refl })
+makes tree = (
+  _,
+  _,
+  record {
+    parsed = refl;
+    statement = refl;
+    formats = refl;
+    table = refl;
+    table_free = refl;
+    name =
+        refl;
+    free = refl;
+    defined = refl;
+    whole = refl;
+  },
+)
 
 has : HasTable (first_made 16 5) 8 (sheet_rows 14)
 unfolding same_name
@@ -34,8 +49,20 @@ unfolding everything
 alone = record { statement = _; parsed = refl; names = refl; whole = refl }
 
 fits : FitsIndex (first_made 16 5) text (sheet_rows 14) (by_xy 14 0)
-unfolding same_name is_utf8 chars lib.Utf8.encode digits fits_kind is_free_name begins same_word value_cmp lib.Ieee.is_nan lib.Ieee.lt
-fits = record { alone = alone; free = refl; utf8 = refl; open_name = refl; low = refl; reals = refl; key_reals = refl; fit = refl; short = refl }
+unfolding same_name is_utf8 chars lib.Utf8.encode digits fits_kind is_free_name begins same_word value_cmp
+    lib.Ieee.is_nan lib.Ieee.lt
+fits = record {
+  alone = alone;
+  free = refl;
+  utf8 = refl;
+  open_name = refl;
+  low = refl;
+  reals = refl;
+  key_reals =
+      refl;
+  fit = refl;
+  short = refl;
+}
 
 pub step : Extends text (first_made 16 5) (first_made 16 6)
 step = inr (8, sheet_rows 14, by_xy 14 0, makes 14, has, free, fits, refl)

@@ -19,7 +19,22 @@ text = codes "CREATE INDEX items_by_base ON sheet_items (base)"
 
 makes : (tree : ℕ) → MakesIndexText text (sheet_items tree) (items_by_base tree 0)
 unfolding everything
-makes tree = (_, _, record { parsed = refl; statement = refl; formats = refl; table = refl; table_free = refl; name = refl; free = refl; defined = refl; whole = refl })
+makes tree = (
+  _,
+  _,
+  record {
+    parsed = refl;
+    statement = refl;
+    formats = refl;
+    table = refl;
+    table_free = refl;
+    name =
+        refl;
+    free = refl;
+    defined = refl;
+    whole = refl;
+  },
+)
 
 has : HasTable (first_made 16 0) 15 (sheet_items 27)
 unfolding same_name
@@ -34,8 +49,20 @@ unfolding everything
 alone = record { statement = _; parsed = refl; names = refl; whole = refl }
 
 fits : FitsIndex (first_made 16 0) text (sheet_items 27) (items_by_base 27 0)
-unfolding same_name is_utf8 chars lib.Utf8.encode digits fits_kind is_free_name begins same_word value_cmp lib.Ieee.is_nan lib.Ieee.lt
-fits = record { alone = alone; free = refl; utf8 = refl; open_name = refl; low = refl; reals = refl; key_reals = refl; fit = refl; short = refl }
+unfolding same_name is_utf8 chars lib.Utf8.encode digits fits_kind is_free_name begins same_word value_cmp
+    lib.Ieee.is_nan lib.Ieee.lt
+fits = record {
+  alone = alone;
+  free = refl;
+  utf8 = refl;
+  open_name = refl;
+  low = refl;
+  reals = refl;
+  key_reals =
+      refl;
+  fit = refl;
+  short = refl;
+}
 
 pub step : Extends text (first_made 16 0) (first_made 16 1)
 step = inr (15, sheet_items 27, items_by_base 27 0, makes 27, has, free, fits, refl)

@@ -17,7 +17,20 @@ text = codes "CREATE TABLE sheet_tiles (id INTEGER PRIMARY KEY AUTOINCREMENT, zo
 
 makes : MakesText text (sheet_tiles 0)
 unfolding everything
-makes = (_, _, record { parsed = refl; statement = refl; name = refl; free = refl; defined = refl; fits = refl; whole = refl })
+makes = (
+  _,
+  _,
+  record {
+    parsed = refl;
+    statement = refl;
+    name = refl;
+    free = refl;
+    defined = refl;
+    fits =
+        refl;
+    whole = refl;
+  },
+)
 
 free : IsFree (first_made 5 0) (codes "sheet_tiles")
 unfolding same_name
@@ -28,11 +41,36 @@ unfolding everything
 alone = record { statement = _; parsed = refl; names = refl; whole = refl }
 
 fits : FitsGrown (first_made 5 0) text (sheet_tiles 0)
-unfolding same_name is_utf8 chars lib.Utf8.encode digits fits_kind is_free_name begins same_word value_cmp lib.Ieee.is_nan lib.Ieee.lt
+unfolding same_name is_utf8 chars lib.Utf8.encode digits fits_kind is_free_name begins same_word value_cmp
+    lib.Ieee.is_nan lib.Ieee.lt
 fits = record {
   alone = alone;
-  table = record { free = refl; automatic = (refl, tt); utf8 = refl; open_name = refl; low = refl; reals = refl; key_reals = (refl, tt); formed = refl; fit = refl; short = refl };
-  sequence = record { free = refl; automatic = tt; utf8 = refl; open_name = refl; low = refl; reals = refl; key_reals = tt; formed = refl; fit = refl; short = refl };
+  table = record {
+    free = refl;
+    automatic = (refl, tt);
+    utf8 = refl;
+    open_name = refl;
+    low = refl;
+    reals =
+        refl;
+    key_reals = (refl, tt);
+    formed = refl;
+    fit = refl;
+    short = refl;
+  };
+  sequence = record {
+    free = refl;
+    automatic = tt;
+    utf8 = refl;
+    open_name = refl;
+    low = refl;
+    reals =
+        refl;
+    key_reals = tt;
+    formed = refl;
+    fit = refl;
+    short = refl;
+  };
 }
 
 grows : first_made 7 0 ≡ grown (first_made 5 0) (sheet_tiles 0)

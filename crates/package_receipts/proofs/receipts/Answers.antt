@@ -14,13 +14,19 @@ pub returns : goal.returns
 returns g c =
     let rows = c.in_ok-rows.rows.items in
     let things = c.in_ok-moved.moved.items in
-    tells_of (λ t found. MatchOption found (AreReceiptsInRange t.receipts t.moved → ⊥) (λ entered. AreSaid t entered.items)) c.receipts_in.result
-    (looked_then (λ t found. AreAll (on (λ x. x.seq) int_cmp) t.moved found.items) (looked (λ t found. AreAll (on (λ x. x.seq) int_cmp) t.receipts found.items) c.in_ok-rows.was c.all_receipts.ensures) c.in_ok-moved.was c.all_moved.ensures)
-    (λ found e db h. answered db rows things (λ v. v.items) found h.0.0 h.1.0 (subst (λ r. IfOk r (λ f. IfSome f (λ v. AreReadAs rows things v.items))) e c.receipts_in.ensures.some) (subst (λ r. IfOk r (λ f. IfNone f (AreReceiptsInRange rows things → ⊥))) e c.receipts_in.ensures.none))
+    tells_of (λ t found. MatchOption found (AreReceiptsInRange t.receipts t.moved → ⊥)
+    (λ entered. AreSaid t entered.items)) c.receipts_in.result
+    (looked_then (λ t found. AreAll (on (λ x. x.seq) int_cmp) t.moved found.items)
+    (looked (λ t found. AreAll (on (λ x. x.seq) int_cmp) t.receipts found.items) c.in_ok-rows.was
+    c.all_receipts.ensures) c.in_ok-moved.was c.all_moved.ensures)
+    (λ found e db h. answered db rows things (λ v. v.items) found h.0.0 h.1.0
+    (subst (λ r. IfOk r (λ f. IfSome f (λ v. AreReadAs rows things v.items))) e c.receipts_in.ensures.some)
+    (subst (λ r. IfOk r (λ f. IfNone f (AreReceiptsInRange rows things → ⊥))) e c.receipts_in.ensures.none))
 
 -- a look that failed leaves the store as it was too
 pub returns-in_err-rows : goal.returns-in_err-rows
 returns-in_err-rows g c = fails c.from_residual.result c.from_residual.ensures.0 (looks_stays c.all_receipts.ensures)
 
 pub returns-in_err-moved : goal.returns-in_err-moved
-returns-in_err-moved g c = fails c.from_residual-in_err-moved.result c.from_residual-in_err-moved.ensures.0 (stays_then (looks_stays c.all_receipts.ensures) (looks_stays c.all_moved.ensures))
+returns-in_err-moved g c = fails c.from_residual-in_err-moved.result c.from_residual-in_err-moved.ensures.0
+    (stays_then (looks_stays c.all_receipts.ensures) (looks_stays c.all_moved.ensures))

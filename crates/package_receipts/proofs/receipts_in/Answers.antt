@@ -9,5 +9,8 @@ pub returns-clause-none : goal.returns-clause-none
 returns-clause-none c =
     let rows = c.args.rows.items in
     let sorted = c.in_turn-moved.result.items in
-    none_in (AreReceiptsInRange (into_iter_items c.into_iter.result) c.deref-2.result.now) (AreReceiptsInRange rows c.args.moved.items) c.receipts_of.result c.receipts_of.ensures.none
-    (λ h. subst (AreReceiptsInRange (into_iter_items c.into_iter.result)) (sym c.deref-2.ensures.value) (subst (λ l. AreReceiptsInRange l sorted) (sym c.into_iter.ensures.rest) (range_moved rows rows c.args.moved.items sorted (IsPermutation-refl rows) c.in_turn-moved.ensures.same h)))
+    none_in (AreReceiptsInRange (into_iter_items c.into_iter.result) c.deref-2.result.now)
+    (AreReceiptsInRange rows c.args.moved.items) c.receipts_of.result c.receipts_of.ensures.none
+    (λ h. subst (AreReceiptsInRange (into_iter_items c.into_iter.result)) (sym c.deref-2.ensures.value)
+    (subst (λ l. AreReceiptsInRange l sorted) (sym c.into_iter.ensures.rest)
+    (range_moved rows rows c.args.moved.items sorted (IsPermutation-refl rows) c.in_turn-moved.ensures.same h)))

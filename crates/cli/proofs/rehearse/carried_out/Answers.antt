@@ -8,9 +8,14 @@ use Rattle.cli.proofs.rehearse.carried_out.Goals as goal
 
 pub returns-in-Ok : goal.returns-in-Ok
 returns-in-Ok g c =
-    c.over_either.ensures (g.R.Read.remaining c.args.reader) (subst (λ qs. IfSome (g.R.Read.remaining c.args.reader) (λ t. IsList t qs)) (sym c.as_slice.ensures.value) c.in-Ok.ensures.list)
+    c.over_either.ensures (g.R.Read.remaining c.args.reader)
+    (subst (λ qs. IfSome (g.R.Read.remaining c.args.reader) (λ t. IsList t qs)) (sym c.as_slice.ensures.value)
+    c.in-Ok.ensures.list)
 
 pub returns-in-Err : goal.returns-in-Err
 returns-in-Err g c =
-    subst (Rehearses (new_world c.args.rehearsal.now.archive c.args.rehearsal.now.frame) (g.R.Read.remaining c.args.reader) c.args.writer.now c.args.writer.now (g.W.Write.contents c.args.writer.now) (g.W.Write.contents c.args.writer.now)) (sym c.end_of_import.ensures)
-    (unread (new_world c.args.rehearsal.now.archive c.args.rehearsal.now.frame) (g.R.Read.remaining c.args.reader) c.args.writer.now (g.W.Write.contents c.args.writer.now) c.in-Err.fault c.in-Err.ensures.fault)
+    subst (Rehearses (new_world c.args.rehearsal.now.archive c.args.rehearsal.now.frame)
+    (g.R.Read.remaining c.args.reader) c.args.writer.now c.args.writer.now (g.W.Write.contents c.args.writer.now)
+    (g.W.Write.contents c.args.writer.now)) (sym c.end_of_import.ensures)
+    (unread (new_world c.args.rehearsal.now.archive c.args.rehearsal.now.frame) (g.R.Read.remaining c.args.reader)
+    c.args.writer.now (g.W.Write.contents c.args.writer.now) c.in-Err.fault c.in-Err.ensures.fault)

@@ -8,9 +8,13 @@ use Rattle.cli.proofs.rehearse.over.Goals as goal
 pub returns : goal.returns
 returns g c = λ clean text list. elim c.match-handed_on.branch [
   | in-Ok w ↦
-      subst (Rehearses (new_world c.args.rehearsal.now.archive c.args.rehearsal.now.frame) text c.args.writer.now c.handed_on.new.writer (g.W.Write.contents c.args.writer.now) (g.W.Write.contents c.handed_on.new.writer)) (sym w.result-is)
+      subst (Rehearses (new_world c.args.rehearsal.now.archive c.args.rehearsal.now.frame) text c.args.writer.now
+      c.handed_on.new.writer (g.W.Write.contents c.args.writer.now) (g.W.Write.contents c.handed_on.new.writer))
+      (sym w.result-is)
       (w.in-Ok.ensures clean text list).0
   | in-Err w ↦
-      subst (Rehearses (new_world c.args.rehearsal.now.archive c.args.rehearsal.now.frame) text c.args.writer.now c.handed_on.new.writer (g.W.Write.contents c.args.writer.now) (g.W.Write.contents c.handed_on.new.writer)) (sym w.result-is)
+      subst (Rehearses (new_world c.args.rehearsal.now.archive c.args.rehearsal.now.frame) text c.args.writer.now
+      c.handed_on.new.writer (g.W.Write.contents c.args.writer.now) (g.W.Write.contents c.handed_on.new.writer))
+      (sym w.result-is)
       (w.in-Err.ensures clean text list).1
 ]

@@ -11,5 +11,7 @@ use Rattle.cli.proofs.rehearse.write_each.Given as goal
 abbrev pub invariant-loop-sight : goal.invariant-loop-sight
 invariant-loop-sight g l = record {
   stands : StandsOn g.S.Store l.fn.world l.world;
-  written : AllClean g.S.Store l.world.members → (w : World) → StandsFor g.S.Store l.fn.world w → Appends (g.W.Write.contents l.fn.writer) (g.W.Write.contents l.writer) (listed_text w (take l.sight-index l.sights));
+  written : AllClean g.S.Store l.world.members → (w : World) → StandsFor g.S.Store l.fn.world w
+      → Appends (g.W.Write.contents l.fn.writer) (g.W.Write.contents l.writer)
+      (listed_text w (take l.sight-index l.sights));
 }

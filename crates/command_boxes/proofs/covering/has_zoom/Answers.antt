@@ -7,4 +7,5 @@ use Rattle.command_boxes.proofs.covering.has_zoom.Goals as goal
 pub returns : goal.returns
 returns c =
     let zoom = c.ranges.zoom in
-    simp to_z-of_z at c.has_place.ensures ∙ zoom_is c.args.frame.now c.args.zoom (good_frame c.args.frame.now c.requires)
+    simp to_z-of_z at c.has_place.ensures ∙ zoom_is c.args.frame.now c.args.zoom
+    (good_frame c.args.frame.now c.requires)

@@ -39,7 +39,8 @@ tiles_over-column-requires-clause-stretch c =
     let box = box_of c.args.frame.now c.args.ground.now c.requires.ground in
     let fit = box_fits c.args.frame.now c.args.ground.now good box in
     let axes = simp to_z-of_z at c.axes_at.ensures.axes in
-    simp (to_z-of_z, fit.west, fit.east, fit.min_x, fit.from_west, fit.to_east) (rw axes (stretch_across c.args.frame.now c.args.zoom c.args.ground.now good c.requires.level box))
+    simp (to_z-of_z, fit.west, fit.east, fit.min_x, fit.from_west, fit.to_east)
+    (rw axes (stretch_across c.args.frame.now c.args.zoom c.args.ground.now good c.requires.level box))
 
 pub tiles_over-row-requires-clause-stretch : goal.tiles_over-row-requires-clause-stretch
 tiles_over-row-requires-clause-stretch c =
@@ -48,7 +49,8 @@ tiles_over-row-requires-clause-stretch c =
     let box = box_of c.args.frame.now c.args.ground.now c.requires.ground in
     let fit = box_fits c.args.frame.now c.args.ground.now good box in
     let axes = simp to_z-of_z at c.axes_at.ensures.axes in
-    simp (to_z-of_z, fit.max_y, fit.north, fit.south, fit.from_north, fit.to_south) (rw axes (stretch_down c.args.frame.now c.args.zoom c.args.ground.now good c.requires.level box))
+    simp (to_z-of_z, fit.max_y, fit.north, fit.south, fit.from_north, fit.to_south)
+    (rw axes (stretch_down c.args.frame.now c.args.zoom c.args.ground.now good c.requires.level box))
 
 pub returns : goal.returns
 returns c =
@@ -61,8 +63,17 @@ returns c =
     let last_column : FitsSigned w64 c.tiles_over-column.result.1 = search rules in
     let row : FitsSigned w64 c.tiles_over-row.result.0 = search rules in
     let last_row : FitsSigned w64 c.tiles_over-row.result.1 = search rules in
-    let across = rw axes at (simp (to_z-of_z, fit.west, fit.east, fit.min_x, fit.from_west, fit.to_east) at c.tiles_over-column.ensures) in
-    let down = rw axes at (simp (to_z-of_z, fit.max_y, fit.north, fit.south, fit.from_north, fit.to_south) at c.tiles_over-row.ensures) in
+    let across = rw axes at (simp (to_z-of_z, fit.west, fit.east, fit.min_x, fit.from_west, fit.to_east) at
+    c.tiles_over-column.ensures) in
+    let down = rw axes at (simp (to_z-of_z, fit.max_y, fit.north, fit.south, fit.from_north, fit.to_south) at
+    c.tiles_over-row.ensures) in
     simp to_z-of_z (least_of c.args.frame.now c.args.ground.now
-    (record { zoom = c.args.zoom; column = c.tiles_over-column.result.0; last_column = c.tiles_over-column.result.1; row = c.tiles_over-row.result.0; last_row = c.tiles_over-row.result.1 })
+    (record {
+      zoom = c.args.zoom;
+      column = c.tiles_over-column.result.0;
+      last_column =
+          c.tiles_over-column.result.1;
+      row = c.tiles_over-row.result.0;
+      last_row = c.tiles_over-row.result.1;
+    })
     good c.requires.level (record { across = across; down = down }))

@@ -8,9 +8,11 @@ use Rattle.command_drops.proofs.holding.links_in.Goals as goal
 
 pub returns-clause-told : goal.returns-clause-told
 returns-clause-told g c = λ clean.
-    links_told (StandsFor g.S.Store c.args.world.now) (λ found. option_map (λ v. v.items) found) c.args.holder c.args.id c.as_slice.result.now c.as_slice-2.result.now c.links_among.result
+    links_told (StandsFor g.S.Store c.args.world.now) (λ found. option_map (λ v. v.items) found) c.args.holder
+    c.args.id c.as_slice.result.now c.as_slice-2.result.now c.links_among.result
     (λ w stands.
     let told = c.in_ok-items.ensures.told clean w stands in
-    let found : Some (c.as_slice.result.now, c.as_slice-2.result.now) ≡ holdings_answer w c.args.holder = search rules in
+    let found : Some (c.as_slice.result.now, c.as_slice-2.result.now) ≡ holdings_answer w c.args.holder =
+    search rules in
     found)
     c.links_among.ensures

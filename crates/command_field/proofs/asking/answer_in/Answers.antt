@@ -11,11 +11,13 @@ pub returns-clause-told : goal.returns-clause-told
 returns-clause-told g c = λ clean.
     let before = clean_before g.S.Store c.holdings.new.self c.keep_free.new.world c.keep_free.ensures.read clean in
     told_given (StandsFor g.S.Store c.args.world.now) (StandsFor g.S.Store c.holdings.new.self)
-    c.args.ask.now c.args.number c.frame-frame.result c.as_slice.result.now c.as_slice-2.result.now c.args.held c.in_ok-first.first c.keep_free.result
+    c.args.ask.now c.args.number c.frame-frame.result c.as_slice.result.now c.as_slice-2.result.now c.args.held
+    c.in_ok-first.first c.keep_free.result
     (λ w stands. c.frame-frame.ensures ∙ stands.frame)
     (λ w stands.
     let told = c.in_ok-items.ensures.told before w stands in
-    let found : Some (c.as_slice.result.now, c.as_slice-2.result.now) ≡ holdings_answer w c.args.ask.now.«package» = search rules in
+    let found : Some (c.as_slice.result.now, c.as_slice-2.result.now) ≡ holdings_answer w c.args.ask.now.«package» =
+    search rules in
     found)
     (λ w stands. c.in_ok-items.ensures.read.stands w stands)
     c.in_ok-first.ensures (c.keep_free.ensures.told clean)

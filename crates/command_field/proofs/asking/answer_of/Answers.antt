@@ -20,5 +20,6 @@ pub returns-in-Some-2-clause-told : goal.returns-in-Some-2-clause-told
 returns-in-Some-2-clause-told g c = λ clean.
     let some = rw c.in-Some.is at c.in_ok-ticket.ensures.some in
     let listed = rw c.in-Some-2.is at c.in_ok-held.ensures in
-    told_text (StandsFor g.S.Store c.args.world.now) c.args.ask.now c.in-Some.ticket (g.R.Read.remaining c.args.reader) c.in-Some-2.held c.answer_in.result
+    told_text (StandsFor g.S.Store c.args.world.now) c.args.ask.now c.in-Some.ticket
+    (g.R.Read.remaining c.args.reader) c.in-Some-2.held c.answer_in.result
     some listed (c.answer_in.ensures.told clean)

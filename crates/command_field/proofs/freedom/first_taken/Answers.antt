@@ -7,11 +7,13 @@ use Rattle.command_field.proofs.freedom.first_taken.Goals as goal
 
 pub returns-in_err-taken-clause-read : goal.returns-in_err-taken-clause-read
 returns-in_err-taken-clause-read g c =
-    untouched_both g.S.Store c.args.world.now c.loop-request.world c.taken_by.new.world c.loop-request.invariant.read c.in_err-taken.ensures.read
+    untouched_both g.S.Store c.args.world.now c.loop-request.world c.taken_by.new.world c.loop-request.invariant.read
+    c.in_err-taken.ensures.read
 
 pub returns-in-Some-clause-read : goal.returns-in-Some-clause-read
 returns-in-Some-clause-read g c =
-    untouched_both g.S.Store c.args.world.now c.loop-request.world c.taken_by.new.world c.loop-request.invariant.read c.in_ok-taken.ensures.read
+    untouched_both g.S.Store c.args.world.now c.loop-request.world c.taken_by.new.world c.loop-request.invariant.read
+    c.in_ok-taken.ensures.read
 
 pub returns-in-Some-clause-told : goal.returns-in-Some-clause-told
 returns-in-Some-clause-told g c = λ clean w stands.
@@ -22,7 +24,8 @@ returns-in-Some-clause-told g c = λ clean w stands.
 
 pub loop-request-preserved : goal.loop-request-preserved
 loop-request-preserved g c = record {
-  read = untouched_both g.S.Store c.args.world.now c.loop-request.world c.taken_by.new.world c.loop-request.invariant.read c.in_ok-taken.ensures.read;
+  read = untouched_both g.S.Store c.args.world.now c.loop-request.world c.taken_by.new.world
+      c.loop-request.invariant.read c.in_ok-taken.ensures.read;
   told = λ clean w stands.
       let before = clean_before g.S.Store c.loop-request.world c.taken_by.new.world c.in_ok-taken.ensures.read clean in
       let now = stands_after g.S.Store c.args.world.now c.loop-request.world c.loop-request.invariant.read w stands in

@@ -8,4 +8,5 @@ use Rattle.command_field.proofs.limits.deleted_by.Given as goal
 
 -- those of the requests so far
 abbrev pub invariant-loop-request : goal.invariant-loop-request
-invariant-loop-request l = (id : List ℕ) → contains (slice_cmp nat_cmp) l.gone id ≡ is_among (ids_deleted (take l.request-index l.requests)) id
+invariant-loop-request l = (id : List ℕ) → contains (slice_cmp nat_cmp) l.gone id
+    ≡ is_among (ids_deleted (take l.request-index l.requests)) id

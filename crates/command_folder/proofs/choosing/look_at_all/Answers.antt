@@ -15,5 +15,6 @@ loop-package-preserved g c =
     let seen = rw c.in-Some.is at c.in_ok-sight.ensures in
     let shown : AllZip g.G.Glances.shown (take at all ++ item ∷ []) c.push.new.sights.items =
     subst (AllZip g.G.Glances.shown (take at all ++ item ∷ [])) (sym c.in_ok-push.ensures)
-    (zip_push g.G.Glances.shown (take at all) c.loop-package.sights.items item c.in-Some.sight c.loop-package.invariant.shown seen) in
+    (zip_push g.G.Glances.shown (take at all) c.loop-package.sights.items item c.in-Some.sight
+    c.loop-package.invariant.shown seen) in
     record { shown = subst (λ packages. AllZip g.G.Glances.shown packages c.push.new.sights.items) (sym more) shown }

@@ -6,4 +6,5 @@ use Rattle.command_names.proofs.searching.found_with.Goals as goal
 
 pub returns : goal.returns
 returns c = λ before it.
-    subst (IsFound c.args.word.now _) (sym c.found_next.ensures) (found_more c.args.word.now before c.args.found c.args.id it)
+    subst (IsFound c.args.word.now _) (sym c.found_next.ensures)
+    (found_more c.args.word.now before c.args.found c.args.id it)

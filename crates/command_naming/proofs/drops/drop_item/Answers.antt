@@ -10,11 +10,13 @@ returns-in-Ok g c = record {
   read = c.holding_of.new.world;
   untouched = c.in-Ok-Some.ensures.read;
   held = λ clean w stands.
-      let held : IsHeldIn w c.args.id (Some c.in-Ok-Some.holding) = rw c.in-Ok-Some.field-0-is at (c.in-Ok-Some.ensures.told clean w stands) in
+      let held : IsHeldIn w c.args.id (Some c.in-Ok-Some.holding) =
+      rw c.in-Ok-Some.field-0-is at (c.in-Ok-Some.ensures.told clean w stands) in
       held;
   made = c.in-Ok.ensures;
 }
 
 pub returns-in-Err-drop_so : goal.returns-in-Err-drop_so
 returns-in-Err-drop_so g c =
-    untouched_still g.S.Store c.args.world.now c.holding_of.new.world c.drop_so.new.world c.in-Ok-Some.ensures.read c.in-Err-drop_so.ensures
+    untouched_still g.S.Store c.args.world.now c.holding_of.new.world c.drop_so.new.world c.in-Ok-Some.ensures.read
+    c.in-Err-drop_so.ensures

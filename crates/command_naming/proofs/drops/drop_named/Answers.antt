@@ -10,10 +10,12 @@ returns-in-Ok-drop_item g c = record {
   read = c.found_item.new.world;
   untouched = c.in-Ok.ensures.read;
   told = λ clean w stands. c.in-Ok.ensures.told clean w stands;
-  made = dropped_so g.S.Store c.args.dropping.now c.in-Ok.found c.in-Ok-named.id c.found_item.new.world c.drop_item.new.world c.in-Ok-drop_item.outcome _ _
+  made = dropped_so g.S.Store c.args.dropping.now c.in-Ok.found c.in-Ok-named.id c.found_item.new.world
+      c.drop_item.new.world c.in-Ok-drop_item.outcome _ _
       (sym c.in-Ok-named.ensures) c.in-Ok-drop_item.ensures;
 }
 
 pub returns-in-Err-drop_item : goal.returns-in-Err-drop_item
 returns-in-Err-drop_item g c =
-    untouched_both g.S.Store c.args.world.now c.found_item.new.world c.drop_item.new.world c.in-Ok.ensures.read c.in-Err-drop_item.ensures
+    untouched_both g.S.Store c.args.world.now c.found_item.new.world c.drop_item.new.world c.in-Ok.ensures.read
+    c.in-Err-drop_item.ensures

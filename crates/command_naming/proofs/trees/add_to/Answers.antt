@@ -11,7 +11,8 @@ returns-in-Ok-Some g c = record {
   untouched = inr c.in-Ok-Some.ensures.read;
   held = λ clean w stands.
       let told = c.in-Ok-Some.ensures.told clean w stands in
-      let found : Some (c.as_slice-items.result.now, c.in-Ok-Some._links.items) ≡ holdings_answer w c.args.target.now.«package» = search rules in
+      let found : Some (c.as_slice-items.result.now, c.in-Ok-Some._links.items)
+      ≡ holdings_answer w c.args.target.now.«package» = search rules in
       held_items w c.args.target.now.«package» c.as_slice-items.result.now c.in-Ok-Some._links.items found;
   added = c.add_files-outcome.ensures;
 }

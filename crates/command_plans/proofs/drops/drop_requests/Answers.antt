@@ -8,4 +8,5 @@ pub returns : goal.returns
 returns g c =
     let good : is_ok c.push.result ≡ true = search rules in
     let items = rw good at c.push.ensures.items in
-    rw items (asked_one _ _ _ _ c.in_ok-request.request c.in_ok-requests.ensures c.in_ok-request.ensures.0 c.in_ok-request.ensures.1)
+    rw items (asked_one _ _ _ _ c.in_ok-request.request c.in_ok-requests.ensures c.in_ok-request.ensures.0
+    c.in_ok-request.ensures.1)

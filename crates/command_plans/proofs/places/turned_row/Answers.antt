@@ -20,7 +20,8 @@ turned-requires c =
     let has = simp to_z-of_z at c.has_place.ensures in
     let place = placed c.args.frame.now c.args.zoom c.args.row (sym has ∙ c.if-not-has_place.false) in
     let axes = simp to_z-of_z at c.axes_at.ensures.axes in
-    simp to_z-of_z (on_axis c.args.frame.now c.args.zoom c.args.row c.axes_at.result.down.tiles place (ap (λ (a : Axes). a.down.tiles) axes) c.axes_at.ensures.good.1.tiles)
+    simp to_z-of_z (on_axis c.args.frame.now c.args.zoom c.args.row c.axes_at.result.down.tiles place
+    (ap (λ (a : Axes). a.down.tiles) axes) c.axes_at.ensures.good.1.tiles)
 
 pub returns-clause-some : goal.returns-clause-some
 returns-clause-some c =

@@ -9,4 +9,5 @@ use Rattle.command_requests.proofs.contents.world_items.Goals as goal
 pub returns-clause-told : goal.returns-clause-told
 returns-clause-told g c = λ clean w stands.
     all_items w c.in_ok-packages.packages.items c.in_ok-items.items.items (c.in_ok-packages.ensures w stands)
-    (c.in_ok-items.ensures.told clean w stands ∙ ap (flat_map (λ (p : PackageEntry). items_under w p.uuid)) c.as_slice.ensures.value)
+    (c.in_ok-items.ensures.told clean w stands ∙ ap (flat_map (λ (p : PackageEntry). items_under w p.uuid))
+    c.as_slice.ensures.value)

@@ -8,6 +8,9 @@ use Rattle.command_tidying.proofs.tidying.take_leftovers.Goals as goal
 
 pub take_leftover_each-requires : goal.take_leftover_each-requires
 take_leftover_each-requires g c =
-    All-same (λ t. IsLeftoverFile g.Y.Yard.listed g.Y.Yard.shown g.Y.Yard.removes (string_bytes t)) c.deref-2.result.now c.in_ok-found.found.items c.deref-2.ensures.value
-    (All-weaker (λ t. IsLeftoverIn (names_in c.in_ok-bytes.bytes.items) (string_bytes t)) (λ t. IsLeftoverFile g.Y.Yard.listed g.Y.Yard.shown g.Y.Yard.removes (string_bytes t))
-    (λ t left. (c.in_ok-bytes.bytes.items, c.in_ok-bytes.ensures, left)) c.in_ok-found.found.items (rw c.deref.ensures.value at c.in_ok-found.ensures))
+    All-same (λ t. IsLeftoverFile g.Y.Yard.listed g.Y.Yard.shown g.Y.Yard.removes (string_bytes t))
+    c.deref-2.result.now c.in_ok-found.found.items c.deref-2.ensures.value
+    (All-weaker (λ t. IsLeftoverIn (names_in c.in_ok-bytes.bytes.items) (string_bytes t))
+    (λ t. IsLeftoverFile g.Y.Yard.listed g.Y.Yard.shown g.Y.Yard.removes (string_bytes t))
+    (λ t left. (c.in_ok-bytes.bytes.items, c.in_ok-bytes.ensures, left)) c.in_ok-found.found.items
+    (rw c.deref.ensures.value at c.in_ok-found.ensures))

@@ -12,7 +12,8 @@ loop-file-preserved g c =
     record {
       so_far = (
         so_far.0 ++ c.in-Ok.is_new ∷ [],
-        added_next g.S.Store c.args.target.now c.args.items.now c.args.files.now c.loop-file.file-index _ so_far.0 c.args.world.now c.loop-file.world c.add_file.new.world c.in-Ok.is_new
+        added_next g.S.Store c.args.target.now c.args.items.now c.args.files.now c.loop-file.file-index _ so_far.0
+            c.args.world.now c.loop-file.world c.add_file.new.world c.in-Ok.is_new
             c.loop-file-test.true so_far.1 c.in-Ok.ensures,
         c.counted-counts.ensures.each so_far.0 so_far.2,
       );
@@ -21,11 +22,16 @@ loop-file-preserved g c =
 
 pub returns : goal.returns
 returns g c =
-    let so_far = c.loop-file.invariant.so_far in
-    (so_far.0, added_all g.S.Store c.args.target.now c.args.items.now c.args.files.now c.loop-file.file-index so_far.0 c.args.world.now c.loop-file.world c.loop-file-test.false so_far.1, so_far.2)
+    let so_far = c.loop-file.invariant.so_far in (
+      so_far.0,
+      added_all g.S.Store c.args.target.now c.args.items.now c.args.files.now c.loop-file.file-index so_far.0
+          c.args.world.now c.loop-file.world c.loop-file-test.false so_far.1,
+      so_far.2,
+    )
 
 pub returns-in-Err : goal.returns-in-Err
 returns-in-Err g c =
     let so_far = c.loop-file.invariant.so_far in
-    stopped_at g.S.Store c.args.target.now c.args.items.now c.args.files.now c.loop-file.file-index _ so_far.0 c.loop-file.counts c.args.world.now c.loop-file.world c.add_file.new.world c.in-Err.fault
+    stopped_at g.S.Store c.args.target.now c.args.items.now c.args.files.now c.loop-file.file-index _ so_far.0
+    c.loop-file.counts c.args.world.now c.loop-file.world c.add_file.new.world c.in-Err.fault
     c.loop-file-test.true so_far.1 so_far.2 c.in-Err.ensures

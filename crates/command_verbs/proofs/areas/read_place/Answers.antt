@@ -3,7 +3,8 @@ use Rattle.command_verbs.proofs.Threes.{no_place, place_of, place_parts, unplace
 use Rattle.command_verbs.proofs.areas.read_place.Goals as goal
 
 pub returns-in_err-zoom-clause-none : goal.returns-in_err-zoom-clause-none
-returns-in_err-zoom-clause-none c = no_place c.from_residual.result c.args.text.now (unplaced c.args.text.now c.in_err-zoom.ensures.none)
+returns-in_err-zoom-clause-none c = no_place c.from_residual.result c.args.text.now
+    (unplaced c.args.text.now c.in_err-zoom.ensures.none)
 
 pub returns-in_err-zoom-2-clause-none : goal.returns-in_err-zoom-2-clause-none
 returns-in_err-zoom-2-clause-none c =
@@ -13,7 +14,8 @@ returns-in_err-zoom-2-clause-none c =
 pub returns-in_err-column-clause-none : goal.returns-in_err-column-clause-none
 returns-in_err-column-clause-none c =
     no_place c.from_residual-in_err-column.result c.args.text.now
-    (λ p fits it. c.in_err-column.ensures.none p.column fits.column (place_parts _ _ _ _ p c.in_ok-zoom.ensures.some it).1)
+    (λ p fits it. c.in_err-column.ensures.none p.column fits.column
+    (place_parts _ _ _ _ p c.in_ok-zoom.ensures.some it).1)
 
 pub returns-in_err-row-clause-none : goal.returns-in_err-row-clause-none
 returns-in_err-row-clause-none c =

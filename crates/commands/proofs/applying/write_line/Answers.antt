@@ -8,5 +8,8 @@ use Rattle.commands.proofs.applying.write_line.Goals as goal
 pub returns-in_err-send-2-clause-err : goal.returns-in_err-send-2-clause-err
 returns-in_err-send-2-clause-err g c =
     let first : Appends (g.W.Write.contents c.args.writer.now) (g.W.Write.contents c.send.new.writer) c.args.text.now =
-    subst (Appends (g.W.Write.contents c.args.writer.now) (g.W.Write.contents c.send.new.writer)) c.as_bytes.ensures.value c.in_ok-send.ensures.ok in
-    on_err c.from_residual-in_err-send-2.result _ (went_out_after (g.W.Write.contents c.args.writer.now) (g.W.Write.contents c.send.new.writer) (g.W.Write.contents c.send-2.new.writer) c.args.text.now (10 ∷ []) first c.in_err-send-2.ensures.err)
+    subst (Appends (g.W.Write.contents c.args.writer.now) (g.W.Write.contents c.send.new.writer))
+    c.as_bytes.ensures.value c.in_ok-send.ensures.ok in
+    on_err c.from_residual-in_err-send-2.result _ (went_out_after (g.W.Write.contents c.args.writer.now)
+    (g.W.Write.contents c.send.new.writer) (g.W.Write.contents c.send-2.new.writer) c.args.text.now (10 ∷ [])
+    first c.in_err-send-2.ensures.err)

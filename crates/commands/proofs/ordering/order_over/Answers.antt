@@ -14,4 +14,9 @@ returns-in-Ok g c =
 
 pub returns-in-Err : goal.returns-in-Err
 returns-in-Err g c =
-    inl (c.in-Err.why, c.in-Err.ensures.read, (λ clean w stands. c.in-Err.ensures.told clean w stands), c.tell_unasked.ensures)
+    inl (
+      c.in-Err.why,
+      c.in-Err.ensures.read,
+      (λ clean w stands. c.in-Err.ensures.told clean w stands),
+      c.tell_unasked.ensures,
+    )

@@ -10,12 +10,18 @@ use Rattle.commands.proofs.registers.register_of.Goals as goal
 
 pub returns : goal.returns
 returns g c =
-    joined g.S.Store (λ w l. l.items ≡ map (λ p. p.uuid) w.packages) (λ w r. r.items ≡ receipts_of w) IsRegisterOf (λ m. m.live) (λ m. m.receipts)
-    c.args.world c.receipts_of-receipts.new.stores.items c.live_of-live.result c.receipts_of-receipts.result c.joined.result
+    joined g.S.Store (λ w l. l.items ≡ map (λ p. p.uuid) w.packages) (λ w r. r.items ≡ receipts_of w) IsRegisterOf
+    (λ m. m.live) (λ m. m.receipts)
+    c.args.world c.receipts_of-receipts.new.stores.items c.live_of-live.result c.receipts_of-receipts.result
+    c.joined.result
     (λ w m live receipts. record { receipts = receipts; live = live }) c.live_of-live.ensures
     (looks_into g.S.Store _ c.args.world c.receipts_of-receipts.new.stores.items c.receipts_of-receipts.result
-    (kept_counted (λ n. (w : World) → StandsFor g.S.Store c.args.world w → n ≡ length w.packages) (λ k. length k.items) c.receipts_of-receipts.result c.live_of-live.result (length (held g.S.Store c.args.world))
-    (rw c.into_stores-stores.ensures at c.receipts_of-receipts.ensures.counted) (if_ok_so _ _ c.live_of-live.result (λ k so w stands. long_live w k.items (so w stands)) c.live_of-live.ensures))
+    (kept_counted (λ n. (w : World) → StandsFor g.S.Store c.args.world w → n ≡ length w.packages)
+    (λ k. length k.items) c.receipts_of-receipts.result c.live_of-live.result
+    (length (held g.S.Store c.args.world))
+    (rw c.into_stores-stores.ensures at c.receipts_of-receipts.ensures.counted)
+    (if_ok_so _ _ c.live_of-live.result (λ k so w stands. long_live w k.items (so w stands))
+    c.live_of-live.ensures))
     (λ w found stands given. given)
     (rw c.into_stores-stores.ensures at c.receipts_of-receipts.ensures.asked))
     c.joined.ensures

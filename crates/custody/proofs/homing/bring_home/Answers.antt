@@ -15,33 +15,55 @@ loop-init g c =
     let s = state g.S.Store c.args.source.now in
     record {
       same = refl;
-      source = record { rests = c.requires; was_open = λ h. h; holds = at_rest g.S.Store g.met.S.Store.shut_if_dirty g.met.S.Store.settled c.args.source.now c.requires; survives = same_survives s };
-      each = steps_none {X = Unit {0}} {E = Fault} (λ _. FromClean s (ReceiptsSoFar (negsuc 0) s.now)) (state g.S.Store c.args.tx.now.conn.now) tt (λ clean. none_home s.now (state g.S.Store c.args.tx.now.conn.now).now);
+      source = record {
+        rests = c.requires;
+        was_open = λ h. h;
+        holds =
+            at_rest g.S.Store g.met.S.Store.shut_if_dirty g.met.S.Store.settled c.args.source.now c.requires;
+        survives =
+            same_survives s;
+      };
+      each = steps_none {X = Unit {0}} {E = Fault} (λ _. FromClean s (ReceiptsSoFar (negsuc 0) s.now))
+          (state g.S.Store c.args.tx.now.conn.now) tt (λ clean. none_home s.now
+          (state g.S.Store c.args.tx.now.conn.now).now);
     }
 
 pub returns-in-None-clause-source : goal.returns-in-None-clause-source
 returns-in-None-clause-source g c = stays_then c.loop.invariant.source (looks_stays c.receipt_after.ensures)
 
 pub returns-in-None-clause-opens : goal.returns-in-None-clause-opens
-returns-in-None-clause-opens g c clean = ((looked (λ t x. IsLeast (λ y. y.seq) (filter (is_after (to_z w64 c.loop.last-bits)) t.receipts) x) (c.in_ok-receipt_after.was ∙ ap Ok c.in-None.is) c.receipt_after.ensures).told clean).0
+returns-in-None-clause-opens g c clean = ((looked (λ t x. IsLeast (λ y. y.seq)
+    (filter (is_after (to_z w64 c.loop.last-bits)) t.receipts) x) (c.in_ok-receipt_after.was ∙ ap Ok c.in-None.is)
+    c.receipt_after.ensures).told clean).0
 
 pub returns-in-None-clause-steps : goal.returns-in-None-clause-steps
 returns-in-None-clause-steps g c =
-    all_home (to_z w64 c.loop.last-bits) (state g.S.Store c.args.source.now) (state g.S.Store c.loop.source) (state g.S.Store c.receipt_after.new.conn) c.loop.invariant.source
-    (looked (λ t x. IsLeast (λ y. y.seq) (filter (is_after (to_z w64 c.loop.last-bits)) t.receipts) x) (c.in_ok-receipt_after.was ∙ ap Ok c.in-None.is) c.receipt_after.ensures) c.loop.invariant.each
+    all_home (to_z w64 c.loop.last-bits) (state g.S.Store c.args.source.now) (state g.S.Store c.loop.source)
+    (state g.S.Store c.receipt_after.new.conn) c.loop.invariant.source
+    (looked (λ t x. IsLeast (λ y. y.seq) (filter (is_after (to_z w64 c.loop.last-bits)) t.receipts) x)
+    (c.in_ok-receipt_after.was ∙ ap Ok c.in-None.is) c.receipt_after.ensures) c.loop.invariant.each
 
 pub returns-in_err-bring_receipt-in-Some-clause-source : goal.returns-in_err-bring_receipt-in-Some-clause-source
-returns-in_err-bring_receipt-in-Some-clause-source g c = stays_then (stays_then c.loop.invariant.source (looks_stays c.receipt_after.ensures)) c.bring_receipt.ensures.source
+returns-in_err-bring_receipt-in-Some-clause-source g c = stays_then
+    (stays_then c.loop.invariant.source (looks_stays c.receipt_after.ensures)) c.bring_receipt.ensures.source
 
 pub returns-in_err-bring_receipt-in-Some-clause-steps : goal.returns-in_err-bring_receipt-in-Some-clause-steps
-returns-in_err-bring_receipt-in-Some-clause-steps g c = steps_failed _ c.from_residual-in_err-bring_receipt-in-Some.ensures.0 (steps_then {Y = Unit {0}} {F = Fault} c.loop.invariant.each c.bring_receipt.ensures.steps)
+returns-in_err-bring_receipt-in-Some-clause-steps g c = steps_failed _
+    c.from_residual-in_err-bring_receipt-in-Some.ensures.0 (steps_then {Y = Unit {0}} {F = Fault}
+    c.loop.invariant.each c.bring_receipt.ensures.steps)
 
 pub loop-preserved : goal.loop-preserved
 loop-preserved g c =
     let seq : FitsSigned w64 c.in-Some.row.seq = search rules in
     record {
       same = c.bring_receipt.ensures.same_reference ∙ c.loop.invariant.same;
-      source = stays_then (stays_then c.loop.invariant.source (looks_stays c.receipt_after.ensures)) c.bring_receipt.ensures.source;
-      each = simp (to_z-of_z, seq) (receipt_more (to_z w64 c.loop.last-bits) c.in-Some.row (state g.S.Store c.args.source.now) (state g.S.Store c.loop.source) (state g.S.Store c.receipt_after.new.conn) (state g.S.Store c.bring_receipt.new.source) c.loop.invariant.source
-          (looked (λ t x. IsLeast (λ y. y.seq) (filter (is_after (to_z w64 c.loop.last-bits)) t.receipts) x) (c.in_ok-receipt_after.was ∙ ap Ok c.in-Some.is) c.receipt_after.ensures) c.bring_receipt.ensures.source c.loop.invariant.each c.in_ok-bring_receipt-in-Some.ensures.steps);
+      source = stays_then (stays_then c.loop.invariant.source (looks_stays c.receipt_after.ensures))
+          c.bring_receipt.ensures.source;
+      each = simp (to_z-of_z, seq) (receipt_more (to_z w64 c.loop.last-bits) c.in-Some.row
+          (state g.S.Store c.args.source.now) (state g.S.Store c.loop.source)
+          (state g.S.Store c.receipt_after.new.conn) (state g.S.Store c.bring_receipt.new.source)
+          c.loop.invariant.source
+          (looked (λ t x. IsLeast (λ y. y.seq) (filter (is_after (to_z w64 c.loop.last-bits)) t.receipts) x)
+          (c.in_ok-receipt_after.was ∙ ap Ok c.in-Some.is) c.receipt_after.ensures) c.bring_receipt.ensures.source
+          c.loop.invariant.each c.in_ok-bring_receipt-in-Some.ensures.steps);
     }

@@ -7,8 +7,16 @@ use Rattle.custody.proofs.homing.bring_receipt.Goals as goal
 pub returns-clause-steps : goal.returns-clause-steps
 returns-clause-steps g c =
     let seq : FitsSigned w64 c.args.row.seq = search rules in
-    receipt_brought c.args.row (state g.S.Store c.args.source.now) (state g.S.Store c.bring_things.new.source) c.in_ok-put_row.ensures.steps (simp (to_z-of_z, seq) at c.bring_things.ensures.steps)
+    receipt_brought c.args.row (state g.S.Store c.args.source.now) (state g.S.Store c.bring_things.new.source)
+    c.in_ok-put_row.ensures.steps (simp (to_z-of_z, seq) at c.bring_things.ensures.steps)
 
 pub returns-in_err-put_row-clause-source : goal.returns-in_err-put_row-clause-source
 returns-in_err-put_row-clause-source g c =
-    record { rests = c.requires; was_open = λ h. h; holds = at_rest g.S.Store g.met.S.Store.shut_if_dirty g.met.S.Store.settled c.args.source.now c.requires; survives = same_survives (state g.S.Store c.args.source.now) }
+    record {
+      rests = c.requires;
+      was_open = λ h. h;
+      holds = at_rest g.S.Store g.met.S.Store.shut_if_dirty
+          g.met.S.Store.settled c.args.source.now c.requires;
+      survives =
+          same_survives (state g.S.Store c.args.source.now);
+    }

@@ -12,5 +12,7 @@ abbrev pub invariant-loop-position : goal.invariant-loop-position
 invariant-loop-position g l = record {
   same : l.tx.conn.ghost_name ≡ l.fn.tx.conn.ghost_name;
   source : Stays (state g.S.Store l.fn.source) (state g.S.Store l.source);
-  each : Steps {X = Unit {0}} {E = Fault} (λ _. FromClean (state g.S.Store l.source) (ThingsSoFar l.fn.seq l.position (state g.S.Store l.fn.source).now)) (state g.S.Store l.fn.tx.conn.now) (state g.S.Store l.tx.conn.now) (Ok tt);
+  each : Steps {X = Unit {0}} {E = Fault} (λ _. FromClean (state g.S.Store l.source)
+      (ThingsSoFar l.fn.seq l.position (state g.S.Store l.fn.source).now)) (state g.S.Store l.fn.tx.conn.now)
+      (state g.S.Store l.tx.conn.now) (Ok tt);
 }

@@ -14,4 +14,6 @@ returns-clause-steps g c =
     let links : FitsSigned w64 c.args.row.n_links = search (rules, numbers.1.1.1.0.1) in
     let bytes : FitsSigned w64 c.args.row.n_bytes = search (rules, numbers.1.1.1.1.0.1) in
     makes_steps (Adds receipts c.args.row)
-    (simp (to_z-of_z, seq, tiles, media, rows, links, bytes) at (rw (c.as_str.ensures, c.as_str-2.ensures, c.as_str-3.ensures, c.as_str-4.ensures, c.as_str-5.ensures) at c.insert_receipt.ensures.wrote)) c.insert_receipt.ensures.survives
+    (simp (to_z-of_z, seq, tiles, media, rows, links, bytes) at
+    (rw (c.as_str.ensures, c.as_str-2.ensures, c.as_str-3.ensures, c.as_str-4.ensures, c.as_str-5.ensures) at
+    c.insert_receipt.ensures.wrote)) c.insert_receipt.ensures.survives

@@ -10,4 +10,6 @@ returns-clause-steps g c =
     let position : FitsSigned w64 c.args.row.position = search rules in
     let kind : FitsSigned w64 c.args.row.kind = search rules in
     let size : FitsSigned w64 c.args.row.size = search rules in
-    makes_steps (Adds moved c.args.row) (simp (to_z-of_z, seq, position, kind, size) at (rw (c.as_str.ensures, c.as_str-2.ensures, c.as_str-3.ensures) at c.insert_moved.ensures.wrote)) c.insert_moved.ensures.survives
+    makes_steps (Adds moved c.args.row) (simp (to_z-of_z, seq, position, kind, size) at
+    (rw (c.as_str.ensures, c.as_str-2.ensures, c.as_str-3.ensures) at c.insert_moved.ensures.wrote))
+    c.insert_moved.ensures.survives

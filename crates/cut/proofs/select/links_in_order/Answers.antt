@@ -15,10 +15,14 @@ same_link x y e = search rules
 
 pub returns-then-is_sorted_by-clause-order : goal.returns-then-is_sorted_by-clause-order
 returns-then-is_sorted_by-clause-order c =
-    let answer = c.if-is_sorted_by.ensures.cases (λ x y. is_before (link_key x) (link_key y)) (answers_always _ _ _ (λ f a r g h. search rules)) in
-    subst (IsArranged link_key) c.deref.ensures.value (rising link_key c.deref.result.now (λ k d less. sym (answer k d less)))
+    let answer = c.if-is_sorted_by.ensures.cases (λ x y. is_before (link_key x) (link_key y))
+    (answers_always _ _ _ (λ f a r g h. search rules)) in
+    subst (IsArranged link_key) c.deref.ensures.value (rising link_key c.deref.result.now
+    (λ k d less. sym (answer k d less)))
 
 pub returns-then-is_sorted_by-clause-same : goal.returns-then-is_sorted_by-clause-same
 returns-then-is_sorted_by-clause-same c t =
     let made = dedup_is _ c.sort_unstable_by_key.new.self.items c.dedup.new.self.items c.dedup.ensures.filtered in
-    ap (list_any t) made ∙ any-dedup _ (λ x y e. same_link x y e) t c.sort_unstable_by_key.new.self.items ∙ sym (list_any-IsPermutation t c.args.links.items c.sort_unstable_by_key.new.self.items c.sort_unstable_by_key.ensures.permutation)
+    ap (list_any t) made ∙ any-dedup _ (λ x y e. same_link x y e) t c.sort_unstable_by_key.new.self.items
+    ∙ sym (list_any-IsPermutation t c.args.links.items c.sort_unstable_by_key.new.self.items
+    c.sort_unstable_by_key.ensures.permutation)

@@ -16,14 +16,17 @@ returns-then-is_empty g c =
     let ids = c.in_ok-start.start.items in
     let empty = eqb-true _ _ (sym c.is_empty.ensures ∙ c.if-is_empty.true) in
     let none : ids ≡ [] = nil_from_length ids (omega (arith, empty)) in
-    answers (asked (λ p found. IsInOrder f p → AreSame found.items (identities (start f r p))) c.in_ok-start.was c.start.ensures)
+    answers (asked (λ p found. IsInOrder f p → AreSame found.items (identities (start f r p))) c.in_ok-start.was
+    c.start.ensures)
     (λ p told order. nothing_to_lend f p c.args.mode r ids (told order) none)
 
 pub returns-in_err-gathered : goal.returns-in_err-gathered
-returns-in_err-gathered g c = fails c.from_residual-in_err-gathered.result c.from_residual-in_err-gathered.ensures.0 (asked_then (stayed c.start.ensures) (stayed c.gathered.ensures.asks))
+returns-in_err-gathered g c = fails c.from_residual-in_err-gathered.result c.from_residual-in_err-gathered.ensures.0
+    (asked_then (stayed c.start.ensures) (stayed c.gathered.ensures.asks))
 
 pub returns-in_err-selection : goal.returns-in_err-selection
-returns-in_err-selection g c = fails c.from_residual-in_err-selection.result c.from_residual-in_err-selection.ensures.0 (asked_then (stayed c.start.ensures) (stayed c.gathered.ensures.asks))
+returns-in_err-selection g c = fails c.from_residual-in_err-selection.result
+    c.from_residual-in_err-selection.ensures.0 (asked_then (stayed c.start.ensures) (stayed c.gathered.ensures.asks))
 
 pub returns-in-Some : goal.returns-in-Some
 returns-in-Some g c =
@@ -32,13 +35,19 @@ returns-in-Some g c =
     let mode = c.args.mode in
     let ids = c.in_ok-start.start.items in
     let found = c.in_ok-gathered.gathered in
-    let some : ids ≡ [] → ⊥ = λ none. absurd (true≢false (sym (eq-eqb _ 0 (omega (arith, ap length none))) ∙ sym c.is_empty.ensures ∙ c.if-is_empty.false)) in
-    answers (asked_then (asked (λ p found. IsInOrder f p → AreSame found.items (identities (start f r p))) c.in_ok-start.was c.start.ensures)
-    (asked (λ p g'. HasStart p c.deref.result.now → Gathers p (brought_along p mode c.deref.result.now) g') c.in_ok-gathered.was c.gathered.ensures.asks))
+    let some : ids ≡ [] → ⊥ = λ none. absurd (true≢false (sym (eq-eqb _ 0 (omega (arith, ap length none)))
+    ∙ sym c.is_empty.ensures ∙ c.if-is_empty.false)) in
+    answers (asked_then (asked (λ p found. IsInOrder f p → AreSame found.items (identities (start f r p)))
+    c.in_ok-start.was c.start.ensures)
+    (asked (λ p g'. HasStart p c.deref.result.now → Gathers p (brought_along p mode c.deref.result.now) g')
+    c.in_ok-gathered.was c.gathered.ensures.asks))
     (λ p both order.
     let same : AreSame ids (identities (start f r p)) = both.0 order in
-    let gathers : Gathers p (brought_along p mode ids) found = subst (λ l. HasStart p l → Gathers p (brought_along p mode l) found) c.deref.ensures.value both.1 (start_items f r p ids same order) in
-    link_cut f p mode r ids c.in-Some.id same some (torn_found f p mode r ids found (Some c.in-Some.id) order same gathers c.in-Some.ensures))
+    let gathers : Gathers p (brought_along p mode ids) found =
+    subst (λ l. HasStart p l → Gathers p (brought_along p mode l) found) c.deref.ensures.value both.1
+    (start_items f r p ids same order) in
+    link_cut f p mode r ids c.in-Some.id same some (torn_found f p mode r ids found (Some c.in-Some.id) order same
+    gathers c.in-Some.ensures))
 
 pub returns : goal.returns
 returns g c =
@@ -47,10 +56,19 @@ returns g c =
     let mode = c.args.mode in
     let ids = c.in_ok-start.start.items in
     let found = c.in_ok-gathered.gathered in
-    let some : ids ≡ [] → ⊥ = λ none. absurd (true≢false (sym (eq-eqb _ 0 (omega (arith, ap length none))) ∙ sym c.is_empty.ensures ∙ c.if-is_empty.false)) in
-    answers (asked_then (asked (λ p found. IsInOrder f p → AreSame found.items (identities (start f r p))) c.in_ok-start.was c.start.ensures)
-    (asked (λ p g'. HasStart p c.deref.result.now → Gathers p (brought_along p mode c.deref.result.now) g') c.in_ok-gathered.was c.gathered.ensures.asks))
+    let some : ids ≡ [] → ⊥ = λ none. absurd (true≢false (sym (eq-eqb _ 0 (omega (arith, ap length none)))
+    ∙ sym c.is_empty.ensures ∙ c.if-is_empty.false)) in
+    answers (asked_then (asked (λ p found. IsInOrder f p → AreSame found.items (identities (start f r p)))
+    c.in_ok-start.was c.start.ensures)
+    (asked (λ p g'. HasStart p c.deref.result.now → Gathers p (brought_along p mode c.deref.result.now) g')
+    c.in_ok-gathered.was c.gathered.ensures.asks))
     (λ p both order.
     let same : AreSame ids (identities (start f r p)) = both.0 order in
-    let gathers : Gathers p (brought_along p mode ids) found = subst (λ l. HasStart p l → Gathers p (brought_along p mode l) found) c.deref.ensures.value both.1 (start_items f r p ids same order) in
-    (nothing_refused f p mode r ids same some (torn_found f p mode r ids found None order same gathers c.in_default.ensures), selects f p mode r ids found c.in_ok-selection.selection order same gathers c.in_ok-selection.ensures))
+    let gathers : Gathers p (brought_along p mode ids) found =
+    subst (λ l. HasStart p l → Gathers p (brought_along p mode l) found) c.deref.ensures.value both.1
+    (start_items f r p ids same order) in (
+      nothing_refused f p mode r ids same some (torn_found f p mode r ids found None order same gathers
+          c.in_default.ensures),
+      selects f p mode r ids found c.in_ok-selection.selection order same gathers
+          c.in_ok-selection.ensures,
+    ))

@@ -12,10 +12,13 @@ returns-in-Some g c =
     let zoom = c.ranges.zoom in
     let places = simp (to_z-of_z, zoom) at c.in-Some.ensures.places in
     let same = tiles_by_span c.args.frame.now c.args.rect.now c.args.zoom c.in-Some.span places in
-    answers_last (λ p found. found.items ≡ tiles_in p c.args.zoom c.in-Some.span) c.tiles_in.result (at_first (λ p. ⊤) c.args.reach.now c.requires.ready (λ p. tt)) (simp (to_z-of_z, zoom) at c.tiles_in.ensures) (λ p found _ is. is ∙ same p)
+    answers_last (λ p found. found.items ≡ tiles_in p c.args.zoom c.in-Some.span) c.tiles_in.result
+    (at_first (λ p. ⊤) c.args.reach.now c.requires.ready (λ p. tt)) (simp (to_z-of_z, zoom) at c.tiles_in.ensures)
+    (λ p found _ is. is ∙ same p)
 
 pub returns-in-None : goal.returns-in-None
 returns-in-None g c =
     let zoom = c.ranges.zoom in
     let none = simp (to_z-of_z, zoom) at c.in-None.ensures.none in
-    answers (at_first (λ p. ⊤) c.args.reach.now c.requires.ready (λ p. tt)) (λ p _. c.new.ensures.items ∙ tiles_none c.args.frame.now c.args.rect.now c.args.zoom none p)
+    answers (at_first (λ p. ⊤) c.args.reach.now c.requires.ready (λ p. tt))
+    (λ p _. c.new.ensures.items ∙ tiles_none c.args.frame.now c.args.rect.now c.args.zoom none p)

@@ -2,7 +2,8 @@
 use Rattle.std.proofs.Common.{[], arith, rules, inr, sym, ◌∙◌}
 use Rattle.std.proofs.lemmas.Bool.{false≢true}
 use Rattle.std.proofs.KnownBytes.{Consumes-kept}
-use Rattle.desk_calls.proofs.HeadFacts.{whole_gathers, never_gathers, full_gathers, ended_gathers, grown, grown_some, long_some, none_of, not_empty, nothing_read, one_more, room_within}
+use Rattle.desk_calls.proofs.HeadFacts.{whole_gathers, never_gathers, full_gathers, ended_gathers, grown, grown_some}
+use Rattle.desk_calls.proofs.HeadFacts.{long_some, none_of, not_empty, nothing_read, one_more, room_within}
 use Rattle.desk_calls.proofs.heads.gather_head.Goals as goal
 use Rattle.desk_calls.proofs.heads.gather_head.Goals.{in-None, in-Some+in-Part}
 
@@ -10,7 +11,8 @@ pub returns-then-len-ge-MOST_HEAD-clause-head : goal.returns-then-len-ge-MOST_HE
 returns-then-len-ge-MOST_HEAD-clause-head g c =
     let inv = c.gathering.invariant in
     let some = long_some c.gathering.input.items (omega arith) in
-    full_gathers _ _ c.gathering.input.items [] inv.taken (omega arith) some (none_of c.gathering.input.items inv.none some)
+    full_gathers _ _ c.gathering.input.items [] inv.taken (omega arith) some
+    (none_of c.gathering.input.items inv.none some)
 
 pub returns-else-is_empty-clause-head : goal.returns-else-is_empty-clause-head
 returns-else-is_empty-clause-head g c =
@@ -30,7 +32,10 @@ returns-in-Whole-clause-taken g c =
 pub returns-in-Whole-clause-head : goal.returns-in-Whole-clause-head
 returns-in-Whole-clause-head g c =
     let w = rw c.in-Some.is at c.in_ok-take_more.ensures.took in
-    whole_gathers _ _ c.take_more.new.input.items _ c.in-Whole.head (grown _ _ _ _ _ w.0 c.gathering.invariant.taken w.1 w.2) (room_within _ _ _ w.4 (c.len-in-gathering.ensures ∙ c.gathering.input.ok.0) c.gathering.invariant.within) (search rules) (rw c.as_slice.ensures.value at c.in-Whole.ensures.0)
+    whole_gathers _ _ c.take_more.new.input.items _ c.in-Whole.head
+    (grown _ _ _ _ _ w.0 c.gathering.invariant.taken w.1 w.2)
+    (room_within _ _ _ w.4 (c.len-in-gathering.ensures ∙ c.gathering.input.ok.0) c.gathering.invariant.within)
+    (search rules) (rw c.as_slice.ensures.value at c.in-Whole.ensures.0)
 
 pub returns-in-Never-clause-head : goal.returns-in-Never-clause-head
 returns-in-Never-clause-head g c =

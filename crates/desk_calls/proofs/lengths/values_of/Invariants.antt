@@ -5,4 +5,7 @@ use Rattle.desk_calls.specs.Calls.{AreValues, values_of}
 use Rattle.desk_calls.proofs.lengths.values_of.Given as goal
 
 abbrev pub invariant-fields : goal.invariant-fields
-invariant-fields l = record { found : AreValues (values_of l.name (map (header_bytes l.input) (take l.header-index l.headers))) l.found }
+invariant-fields l = record {
+  found : AreValues (values_of l.name
+      (map (header_bytes l.input) (take l.header-index l.headers))) l.found;
+}

@@ -11,4 +11,5 @@ call_of_head-requires-clause-short g c =
 
 pub returns-clause-asks : goal.returns-clause-asks
 returns-clause-asks g c =
-    whole_call _ _ _ _ _ c.in-Head.head _ c.in_ok-gather_head.ensures.taken (rw c.in-Head.is at c.in_ok-gather_head.ensures.head) c.in_ok-call-in-Head.ensures.asks
+    whole_call _ _ _ _ _ c.in-Head.head _ c.in_ok-gather_head.ensures.taken
+    (rw c.in-Head.is at c.in_ok-gather_head.ensures.head) c.in_ok-call-in-Head.ensures.asks

@@ -13,5 +13,8 @@ loop-item-preserved c =
     let f = request_of p c.args.asker.now.ticket c.args.asker.now.at.now in
     let good : is_ok c.push.result ≡ true = search rules in
     let items = rw good at c.push.ensures.items in
-    let next : into_iter_items c.loop-item.item-iterator ≡ c.in-Some.item ∷ into_iter_items c.next.new.self = search rules in
-    asked_next f (adding p) _ (into_iter_items c.loop-item.item-iterator) (into_iter_items c.next.new.self) c.in-Some.item c.loop-item.requests.items c.push.new.self.items c.in_ok-request.request next items c.in_ok-request.ensures c.loop-item.invariant
+    let next : into_iter_items c.loop-item.item-iterator ≡ c.in-Some.item ∷ into_iter_items c.next.new.self =
+    search rules in
+    asked_next f (adding p) _ (into_iter_items c.loop-item.item-iterator) (into_iter_items c.next.new.self)
+    c.in-Some.item c.loop-item.requests.items c.push.new.self.items c.in_ok-request.request next items
+    c.in_ok-request.ensures c.loop-item.invariant

@@ -5,4 +5,6 @@ use Rattle.field_changes.proofs.asking.ask_deletes.Given as goal
 
 -- those so far
 abbrev pub invariant-loop-identity : goal.invariant-loop-identity
-invariant-loop-identity l = l.requests.items ≡ l.initial.requests.items ++ map (request_of l.asker.«package» l.asker.ticket l.asker.at.now) (map (deleting l.asker.«package») (take l.identity-index l.ids))
+invariant-loop-identity l = l.requests.items ≡ l.initial.requests.items
+    ++ map (request_of l.asker.«package» l.asker.ticket l.asker.at.now)
+    (map (deleting l.asker.«package») (take l.identity-index l.ids))

@@ -12,10 +12,14 @@ loop-link-preserved c =
     let p = c.args.asker.now.«package» in
     let n = c.args.asker.now.ticket in
     let m = c.args.asker.now.at.now in
-    asked_more (request_of p n m) (unlinking p) c.args.links.now c.loop-link.link-index c.link-item.result c.args.requests.now.items c.loop-link.requests.items c.push.new.self.items c.in_ok-request.request c.loop-link-test.true c.link-item.is c.loop-link.invariant
+    asked_more (request_of p n m) (unlinking p) c.args.links.now c.loop-link.link-index c.link-item.result
+    c.args.requests.now.items c.loop-link.requests.items c.push.new.self.items c.in_ok-request.request
+    c.loop-link-test.true c.link-item.is c.loop-link.invariant
     (chosen _ _ _ _ c.push.ensures.items (ap is_ok c.in_ok-push.was)) (c.in_ok-request.ensures)
 
 pub returns : goal.returns
 returns c =
     let p = c.args.asker.now.«package» in
-    c.loop-link.invariant ∙ ap (λ l. c.args.requests.now.items ++ map (request_of p c.args.asker.now.ticket c.args.asker.now.at.now) (map (unlinking p) l)) (take_all c.loop-link.link-index c.args.links.now (omega (arith, c.loop-link-test.false)))
+    c.loop-link.invariant ∙ ap (λ l. c.args.requests.now.items
+    ++ map (request_of p c.args.asker.now.ticket c.args.asker.now.at.now) (map (unlinking p) l))
+    (take_all c.loop-link.link-index c.args.links.now (omega (arith, c.loop-link-test.false)))

@@ -15,14 +15,20 @@ returns c =
     let linked = c.args.holdings.now.links.now in
     let file = c.args.file.items in
     let links = c.in-Some.file_links.items in
-    let names : c.in_ok-names.names.items ≡ names_of p n items file = c.in_ok-names.ensures ∙ ap (names_of p n items) c.as_slice.ensures.value in
+    let names : c.in_ok-names.names.items ≡ names_of p n items file =
+    c.in_ok-names.ensures ∙ ap (names_of p n items) c.as_slice.ensures.value in
     record {
       file_links = links;
-      named = subst (λ l. AllZip (IsLinkOf l) c.args.held.now links) (c.as_slice-2.ensures.value ∙ names) (rw c.in-Some.is at c.in_ok-found.ensures.some);
+      named = subst (λ l. AllZip (IsLinkOf l) c.args.held.now links) (c.as_slice-2.ensures.value ∙ names)
+          (rw c.in-Some.is at c.in_ok-found.ensures.some);
       unlinks = c.in_ok-unlinks.ensures ∙ ap (λ l. cond c.args.more [] (beyond l linked)) c.as_slice-3.ensures.value;
-      deletes = c.in_ok-deletes.ensures ∙ ap (λ l. cond c.args.more [] (identities (gone l items))) (c.as_slice-4.ensures.value ∙ names);
-      adds = subst (λ l. IsPermutation l c.in-Ok.adds.items) (c.in_ok-unsorted.ensures ∙ ap (λ l. new_items l file) (c.as_slice-5.ensures.value ∙ names)) c.in-Ok.ensures.same;
+      deletes = c.in_ok-deletes.ensures ∙ ap (λ l. cond c.args.more [] (identities (gone l items)))
+          (c.as_slice-4.ensures.value ∙ names);
+      adds = subst (λ l. IsPermutation l c.in-Ok.adds.items)
+          (c.in_ok-unsorted.ensures ∙ ap (λ l. new_items l file) (c.as_slice-5.ensures.value ∙ names))
+          c.in-Ok.ensures.same;
       adds_order = c.in-Ok.ensures.order;
-      links = subst (λ l. IsPermutation l c.in-Ok-links_in_order.links.items) (c.in_ok-left.ensures ∙ ap (beyond linked) c.as_slice-6.ensures.value) c.in-Ok-links_in_order.ensures.same;
+      links = subst (λ l. IsPermutation l c.in-Ok-links_in_order.links.items)
+          (c.in_ok-left.ensures ∙ ap (beyond linked) c.as_slice-6.ensures.value) c.in-Ok-links_in_order.ensures.same;
       links_order = c.in-Ok-links_in_order.ensures.order;
     }

@@ -22,9 +22,12 @@ loop-name-preserved c = λ q.
     ∙ ap (λ k. cond (bytes_eq k q) (Some n.identity) (get (slice_cmp nat_cmp) c.loop-name.ends q)) key
     ∙ ap (λ o. cond (bytes_eq (number_key n.kind n.number) q) (Some n.identity) o) (c.loop-name.invariant q)
     ∙ sym (last_snoc (λ m. m.identity) (λ m. bytes_eq (number_key m.kind m.number) q) (take i c.args.names.now) n)
-    ∙ ap (λ l. option_map (λ m. m.identity) (last_where (λ m. bytes_eq (number_key m.kind m.number) q) l)) (sym (one_more c.args.names.now i n c.loop-name-test.true c.name-item.is))
+    ∙ ap (λ l. option_map (λ m. m.identity) (last_where (λ m. bytes_eq (number_key m.kind m.number) q) l))
+    (sym (one_more c.args.names.now i n c.loop-name-test.true c.name-item.is))
 
 pub returns : goal.returns
 returns c = λ kind number.
     c.loop-name.invariant (number_key kind number)
-    ∙ ap (λ l. option_map (λ m. m.identity) (last_where (λ m. bytes_eq (number_key m.kind m.number) (number_key kind number)) l)) (take_all c.loop-name.name-index c.args.names.now (omega (arith, c.loop-name-test.false)))
+    ∙ ap (λ l. option_map (λ m. m.identity) (last_where (λ m. bytes_eq (number_key m.kind m.number)
+    (number_key kind number)) l)) (take_all c.loop-name.name-index c.args.names.now
+    (omega (arith, c.loop-name-test.false)))

@@ -9,4 +9,6 @@ use Rattle.field_changes.proofs.ends.ends_of.Given as goal
 
 -- those so far
 abbrev pub invariant-loop-name : goal.invariant-loop-name
-invariant-loop-name l = (q : List ℕ) → get (slice_cmp nat_cmp) l.ends q ≡ option_map (λ n. n.identity) (last_where (λ n. bytes_eq (number_key n.kind n.number) q) (take l.name-index l.names))
+invariant-loop-name l = (q : List ℕ) → get (slice_cmp nat_cmp) l.ends q
+    ≡ option_map (λ n. n.identity) (last_where (λ n. bytes_eq (number_key n.kind n.number) q)
+    (take l.name-index l.names))

@@ -9,9 +9,13 @@ use Rattle.field_changes.proofs.ends.links_of.Goals as goal
 
 pub returns-in_default-clause-none : goal.returns-in_default-clause-none
 returns-in_default-clause-none c = λ relations all.
-    None≢Some (c.in_default.ensures c.args.names.now c.in_ok-ends.ensures ∙ all_at (IsLinkOf c.args.names.now) c.args.links.now relations c.loop-link.link-index _ (record { mapping = TilesMedia; base = []; other = [] }) all c.loop-link-test.true)
+    None≢Some (c.in_default.ensures c.args.names.now c.in_ok-ends.ensures
+    ∙ all_at (IsLinkOf c.args.names.now) c.args.links.now relations c.loop-link.link-index _
+    (record { mapping = TilesMedia; base = []; other = [] }) all c.loop-link-test.true)
 
 pub loop-link-preserved : goal.loop-link-preserved
 loop-link-preserved c =
-    zip_more (IsLinkOf c.args.names.now) c.args.links.now c.loop-link.link-index _ _ c.loop-link.relations.items c.push.new.self.items c.in-Some.relation c.loop-link-test.true refl
-    (chosen _ _ _ _ c.push.ensures.items (ap is_ok c.in_ok-push.was)) c.loop-link.invariant (sym (c.in-Some.ensures c.args.names.now c.in_ok-ends.ensures))
+    zip_more (IsLinkOf c.args.names.now) c.args.links.now c.loop-link.link-index _ _ c.loop-link.relations.items
+    c.push.new.self.items c.in-Some.relation c.loop-link-test.true refl
+    (chosen _ _ _ _ c.push.ensures.items (ap is_ok c.in_ok-push.was)) c.loop-link.invariant
+    (sym (c.in-Some.ensures c.args.names.now c.in_ok-ends.ensures))

@@ -8,4 +8,5 @@ use Rattle.field_changes.proofs.naming.marks_in.Given as goal
 
 -- those so far
 abbrev pub invariant-loop-item : goal.invariant-loop-item
-invariant-loop-item l = (q : List ℕ) → contains (slice_cmp nat_cmp) l.marks q ≡ list_any (is_marked q) (take l.item-index l.file)
+invariant-loop-item l = (q : List ℕ) → contains (slice_cmp nat_cmp) l.marks q
+    ≡ list_any (is_marked q) (take l.item-index l.file)

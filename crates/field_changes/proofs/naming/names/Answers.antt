@@ -11,8 +11,15 @@ use Rattle.field_changes.proofs.naming.names.Goals as goal
 
 pub next-requires : goal.next-requires
 next-requires c =
-    let few : length (take c.loop-item.item-index c.args.file.now) ≤ c.loop-item.item-index = taken_few c.args.file.now c.loop-item.item-index in
-    (c.args.items.now, c.args.file.now, take c.loop-item.item-index c.args.file.now, c.loop-item.invariant.walk, omega (arith, few))
+    let few : length (take c.loop-item.item-index c.args.file.now) ≤ c.loop-item.item-index =
+    taken_few c.args.file.now c.loop-item.item-index in (
+      c.args.items.now,
+      c.args.file.now,
+      take c.loop-item.item-index c.args.file.now,
+      c.loop-item.invariant.walk,
+      omega
+          (arith, few),
+    )
 
 pub loop-item-preserved : goal.loop-item-preserved
 loop-item-preserved c =
@@ -26,13 +33,16 @@ loop-item-preserved c =
     record {
       names = chosen _ _ _ _ c.push.ensures.items (ap is_ok c.in_ok-push.was)
           ∙ ap (λ l. l ++ c.in_ok-known.known ∷ []) c.loop-item.invariant.names
-          ∙ ap (λ k. names_behind p n items file [] (take i file) ++ k ∷ []) (c.in_ok-known.ensures ∙ ap (known_as p n c.item-item.result) name)
+          ∙ ap (λ k. names_behind p n items file [] (take i file) ++ k ∷ [])
+          (c.in_ok-known.ensures ∙ ap (known_as p n c.item-item.result) name)
           ∙ sym (names_snoc p n items file [] (take i file) c.item-item.result)
           ∙ ap (names_behind p n items file []) (sym more);
-      walk = subst (λ l. IsWalk items file l c.next.new.self) (sym more) (c.in_ok-name.ensures.walk items file (take i file) c.loop-item.invariant.walk);
+      walk = subst (λ l. IsWalk items file l c.next.new.self) (sym more)
+          (c.in_ok-name.ensures.walk items file (take i file) c.loop-item.invariant.walk);
     }
 
 pub returns : goal.returns
 returns c =
     c.loop-item.invariant.names
-    ∙ ap (names_behind c.args.«package» c.args.ticket c.args.items.now c.args.file.now []) (take_all c.loop-item.item-index c.args.file.now (omega (arith, c.loop-item-test.false)))
+    ∙ ap (names_behind c.args.«package» c.args.ticket c.args.items.now c.args.file.now [])
+    (take_all c.loop-item.item-index c.args.file.now (omega (arith, c.loop-item-test.false)))

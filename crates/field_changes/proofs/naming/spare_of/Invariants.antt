@@ -9,4 +9,5 @@ use Rattle.field_changes.proofs.naming.spare_of.Given as goal
 
 -- those so far
 abbrev pub invariant-loop-item : goal.invariant-loop-item
-invariant-loop-item l = HoldsSpare (filter (λ i. not (contains (slice_cmp nat_cmp) l.marked (item_mark i))) (take l.item-index l.items)) l.spare
+invariant-loop-item l = HoldsSpare (filter (λ i. not (contains (slice_cmp nat_cmp) l.marked (item_mark i)))
+    (take l.item-index l.items)) l.spare

@@ -15,6 +15,9 @@ pub returns : goal.returns
 returns c = record {
   marks = c.in_ok-marks.ensures;
   seen = λ q. search rules;
-  spare = subst (λ l. HoldsSpare l c.in_ok-spare.spare) (filter_agree (λ i. not (contains (slice_cmp nat_cmp) c.in_ok-marked.marked (item_mark i))) (λ i. not (list_any (is_marked (item_mark i)) c.args.file.now)) (λ i. ap not (c.in_ok-marked.ensures (item_mark i))) c.args.items.now) c.in_ok-spare.ensures;
+  spare = subst (λ l. HoldsSpare l c.in_ok-spare.spare) (filter_agree
+      (λ i. not (contains (slice_cmp nat_cmp) c.in_ok-marked.marked (item_mark i)))
+      (λ i. not (list_any (is_marked (item_mark i)) c.args.file.now))
+      (λ i. ap not (c.in_ok-marked.ensures (item_mark i))) c.args.items.now) c.in_ok-spare.ensures;
   counts = λ k. search rules;
 }

@@ -11,4 +11,7 @@ use Rattle.field_changes.proofs.parts.beyond.Goals as goal
 
 pub returns : goal.returns
 returns c =
-    subst (λ l. IfOk c.without_keys.result (λ left. left.items ≡ l)) (filter_agree (λ k. not (contains (slice_cmp nat_cmp) c.in_ok-keys.keys (link_key k))) (λ k. not (has link_key (link_key k) c.args.others.now)) (λ k. ap not (c.in_ok-keys.ensures (link_key k))) c.args.links.now) c.without_keys.ensures
+    subst (λ l. IfOk c.without_keys.result (λ left. left.items ≡ l))
+    (filter_agree (λ k. not (contains (slice_cmp nat_cmp) c.in_ok-keys.keys (link_key k)))
+    (λ k. not (has link_key (link_key k) c.args.others.now)) (λ k. ap not (c.in_ok-keys.ensures (link_key k)))
+    c.args.links.now) c.without_keys.ensures

@@ -10,4 +10,7 @@ use Rattle.field_changes.proofs.parts.gone.Goals as goal
 
 pub returns : goal.returns
 returns c =
-    subst (λ l. IfOk c.unknown.result (λ ids. ids.items ≡ identities l)) (filter_agree (λ i. not (contains (slice_cmp nat_cmp) c.in_ok-known.known i.identity)) (λ i. not (has (λ n. n.identity) i.identity c.args.names.now)) (λ i. ap not (c.in_ok-known.ensures i.identity)) c.args.items.now) c.unknown.ensures
+    subst (λ l. IfOk c.unknown.result (λ ids. ids.items ≡ identities l))
+    (filter_agree (λ i. not (contains (slice_cmp nat_cmp) c.in_ok-known.known i.identity))
+    (λ i. not (has (λ n. n.identity) i.identity c.args.names.now))
+    (λ i. ap not (c.in_ok-known.ensures i.identity)) c.args.items.now) c.unknown.ensures

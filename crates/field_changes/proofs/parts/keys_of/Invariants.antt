@@ -8,4 +8,5 @@ use Rattle.field_changes.proofs.parts.keys_of.Given as goal
 
 -- those so far
 abbrev pub invariant-loop-link : goal.invariant-loop-link
-invariant-loop-link l = (q : List ℕ) → contains (slice_cmp nat_cmp) l.keys q ≡ has link_key q (take l.link-index l.links)
+invariant-loop-link l = (q : List ℕ) → contains (slice_cmp nat_cmp) l.keys q
+    ≡ has link_key q (take l.link-index l.links)

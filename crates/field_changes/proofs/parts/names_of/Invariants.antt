@@ -7,4 +7,5 @@ use Rattle.field_changes.proofs.parts.names_of.Given as goal
 
 -- those so far
 abbrev pub invariant-loop-name : goal.invariant-loop-name
-invariant-loop-name l = (q : List ℕ) → contains (slice_cmp nat_cmp) l.known q ≡ has (λ n. n.identity) q (take l.name-index l.names)
+invariant-loop-name l = (q : List ℕ) → contains (slice_cmp nat_cmp) l.known q
+    ≡ has (λ n. n.identity) q (take l.name-index l.names)

@@ -10,10 +10,14 @@ use Rattle.field_changes.proofs.parts.push_beyond.Goals as goal
 
 pub returns-then-contains : goal.returns-then-contains
 returns-then-contains c =
-    let there = sym c.if-contains.true ∙ c.contains.ensures ∙ ap (contains (slice_cmp nat_cmp) c.args.keys.now) c.of.ensures in
-    sym (append-nil c.args.links.now.items) ∙ ap (λ b. c.args.links.now.items ++ cond (not b) (c.args.link.now ∷ []) []) there
+    let there = sym c.if-contains.true ∙ c.contains.ensures ∙ ap (contains (slice_cmp nat_cmp) c.args.keys.now)
+    c.of.ensures in
+    sym (append-nil c.args.links.now.items) ∙ ap (λ b. c.args.links.now.items
+    ++ cond (not b) (c.args.link.now ∷ []) []) there
 
 pub returns : goal.returns
 returns c =
-    let none = sym c.if-contains.false ∙ c.contains.ensures ∙ ap (contains (slice_cmp nat_cmp) c.args.keys.now) c.of.ensures in
-    chosen _ _ _ _ c.push.ensures.items (ap is_ok c.in_ok-push.was) ∙ ap (λ b. c.args.links.now.items ++ cond (not b) (c.args.link.now ∷ []) []) none
+    let none = sym c.if-contains.false ∙ c.contains.ensures ∙ ap (contains (slice_cmp nat_cmp) c.args.keys.now)
+    c.of.ensures in
+    chosen _ _ _ _ c.push.ensures.items (ap is_ok c.in_ok-push.was)
+    ∙ ap (λ b. c.args.links.now.items ++ cond (not b) (c.args.link.now ∷ []) []) none

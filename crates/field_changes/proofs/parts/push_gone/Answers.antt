@@ -11,9 +11,11 @@ use Rattle.field_changes.proofs.parts.push_gone.Goals as goal
 pub returns-then-contains : goal.returns-then-contains
 returns-then-contains c =
     let there = sym c.if-contains.true ∙ c.contains.ensures in
-    sym (append-nil c.args.ids.now.items) ∙ ap (λ b. c.args.ids.now.items ++ identities (cond (not b) (c.args.item.now ∷ []) [])) there
+    sym (append-nil c.args.ids.now.items) ∙ ap (λ b. c.args.ids.now.items
+    ++ identities (cond (not b) (c.args.item.now ∷ []) [])) there
 
 pub returns : goal.returns
 returns c =
     let none = sym c.if-contains.false ∙ c.contains.ensures in
-    chosen _ _ _ _ c.push.ensures.items (ap is_ok c.in_ok-push.was) ∙ ap (λ b. c.args.ids.now.items ++ identities (cond (not b) (c.args.item.now ∷ []) [])) none
+    chosen _ _ _ _ c.push.ensures.items (ap is_ok c.in_ok-push.was)
+    ∙ ap (λ b. c.args.ids.now.items ++ identities (cond (not b) (c.args.item.now ∷ []) [])) none

@@ -12,8 +12,12 @@ use Rattle.field_changes.proofs.parts.unknown.Goals as goal
 
 pub loop-item-preserved : goal.loop-item-preserved
 loop-item-preserved c =
-    mapped_more (λ i. i.identity) (λ i. not (contains (slice_cmp nat_cmp) c.args.known.now i.identity)) c.args.items.now c.loop-item.item-index c.item-item.result c.loop-item.ids.items c.push_gone.new.ids.items c.loop-item-test.true c.item-item.is c.loop-item.invariant c.in_ok-push_gone.ensures
+    mapped_more (λ i. i.identity) (λ i. not (contains (slice_cmp nat_cmp) c.args.known.now i.identity))
+    c.args.items.now c.loop-item.item-index c.item-item.result c.loop-item.ids.items c.push_gone.new.ids.items
+    c.loop-item-test.true c.item-item.is c.loop-item.invariant c.in_ok-push_gone.ensures
 
 pub returns : goal.returns
 returns c =
-    c.loop-item.invariant ∙ ap (λ l. identities (filter (λ (i : Item). not (contains (slice_cmp nat_cmp) c.args.known.now i.identity)) l)) (take_all c.loop-item.item-index c.args.items.now (omega (arith, c.loop-item-test.false)))
+    c.loop-item.invariant ∙ ap (λ l. identities (filter (λ (i : Item). not
+    (contains (slice_cmp nat_cmp) c.args.known.now i.identity)) l))
+    (take_all c.loop-item.item-index c.args.items.now (omega (arith, c.loop-item-test.false)))

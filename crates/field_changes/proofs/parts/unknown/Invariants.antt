@@ -8,4 +8,5 @@ use Rattle.field_changes.proofs.parts.unknown.Given as goal
 
 -- those so far
 abbrev pub invariant-loop-item : goal.invariant-loop-item
-invariant-loop-item l = l.ids.items ≡ identities (filter (λ i. not (contains (slice_cmp nat_cmp) l.known i.identity)) (take l.item-index l.items))
+invariant-loop-item l = l.ids.items ≡ identities (filter (λ i. not (contains (slice_cmp nat_cmp) l.known i.identity))
+    (take l.item-index l.items))

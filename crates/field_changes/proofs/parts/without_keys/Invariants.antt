@@ -8,4 +8,5 @@ use Rattle.field_changes.proofs.parts.without_keys.Given as goal
 
 -- those so far
 abbrev pub invariant-loop-link : goal.invariant-loop-link
-invariant-loop-link l = l.left.items ≡ filter (λ k. not (contains (slice_cmp nat_cmp) l.keys (link_key k))) (take l.link-index l.links)
+invariant-loop-link l = l.left.items ≡ filter (λ k. not (contains (slice_cmp nat_cmp) l.keys (link_key k)))
+    (take l.link-index l.links)

@@ -8,7 +8,10 @@ use Rattle.field_faults.proofs.files.bad_of.Goals as goal
 
 pub loop-entry-preserved : goal.loop-entry-preserved
 loop-entry-preserved c =
-    found_more bad_in c.args.entries.now c.loop-entry.entry-index c.entry-item.result c.loop-entry.found.items c.push_bad.new.found.items c.loop-entry-test.true c.entry-item.is c.loop-entry.invariant c.in_ok-push_bad.ensures
+    found_more bad_in c.args.entries.now c.loop-entry.entry-index c.entry-item.result c.loop-entry.found.items
+    c.push_bad.new.found.items c.loop-entry-test.true c.entry-item.is c.loop-entry.invariant
+    c.in_ok-push_bad.ensures
 
 pub returns : goal.returns
-returns c = c.loop-entry.invariant ∙ ap (filter_map bad_in) (take_all c.loop-entry.entry-index c.args.entries.now (omega (arith, c.loop-entry-test.false)))
+returns c = c.loop-entry.invariant ∙ ap (filter_map bad_in) (take_all c.loop-entry.entry-index c.args.entries.now
+    (omega (arith, c.loop-entry-test.false)))

@@ -8,7 +8,8 @@ use Rattle.field_faults.proofs.files.held_of.Goals as goal
 
 pub returns-then-not-branch-clause-none : goal.returns-then-not-branch-clause-none
 returns-then-not-branch-clause-none c = λ h.
-    none_lead c.args.entries.items h c.as_slice-7.result.now c.as_slice-8.result.now c.as_slice-9.result.now c.in_ok-lead_unless_bad.field-0
+    none_lead c.args.entries.items h c.as_slice-7.result.now c.as_slice-8.result.now c.as_slice-9.result.now
+    c.in_ok-lead_unless_bad.field-0
     (c.as_slice-7.ensures.value ∙ c.in_ok-bad.ensures ∙ ap (filter_map bad_in) c.as_slice-6.ensures.value)
     (c.as_slice-8.ensures.value ∙ c.in_ok-items.ensures)
     (c.as_slice-9.ensures.value ∙ c.in_ok-links.ensures ∙ ap (filter_map link_in) c.as_slice-5.ensures.value)

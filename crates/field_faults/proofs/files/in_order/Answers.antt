@@ -14,7 +14,8 @@ use Rattle.field_faults.proofs.files.in_order.Goals as goal
 
 pub returns-then-is_sorted_by-clause-order : goal.returns-then-is_sorted_by-clause-order
 returns-then-is_sorted_by-clause-order c =
-    let answer = c.if-is_sorted_by.ensures.cases (λ x y. is_before (held_key x) (held_key y)) (answers_always _ _ _ (λ f a r g h. search rules)) in
+    let answer = c.if-is_sorted_by.ensures.cases (λ x y. is_before (held_key x) (held_key y))
+    (answers_always _ _ _ (λ f a r g h. search rules)) in
     subst (IsArranged held_key) c.deref.ensures.value (arranged_answer held_key c.deref.result.now true answer)
 
 pub returns-else-is_sorted_by-clause-twice : goal.returns-else-is_sorted_by-clause-twice
@@ -23,6 +24,13 @@ returns-else-is_sorted_by-clause-twice c = λ apart.
     let key : HeldItem → ℕ × ℕ × ℕ = λ i. (kind_number (kind_of i.content), sign i.number, unsigned_abs i.number) in
     let sorted = c.sort_unstable_by_key.ensures.sorted key (answers_always _ _ _ (λ f a r g h. search rules)) in
     let now = c.sort_unstable_by_key.new.self.items in
-    let set : IsArranged held_key now = sorted_set held_key now (λ k d less. three_ordered (kind (get_or now (k + 1) d)) (kind (get_or now k d)) (sign (get_or now (k + 1) d).number) (sign (get_or now k d).number) (unsigned_abs (get_or now (k + 1) d).number) (unsigned_abs (get_or now k d).number) ∙ sorted k d (search rules) less) (moved_apart held_key c.args.items.items now c.sort_unstable_by_key.ensures.permutation apart) in
-    let answer = c.if-is_sorted_by.ensures.cases (λ x y. is_before (held_key x) (held_key y)) (answers_always _ _ _ (λ f a r g h. search rules)) in
-    arranged_answer held_key c.deref.result.now false answer (subst (IsArranged held_key) (sym c.deref.ensures.value) set)
+    let set : IsArranged held_key now = sorted_set held_key now
+    (λ k d less. three_ordered (kind (get_or now (k + 1) d)) (kind (get_or now k d))
+    (sign (get_or now (k + 1) d).number) (sign (get_or now k d).number)
+    (unsigned_abs (get_or now (k + 1) d).number) (unsigned_abs (get_or now k d).number)
+    ∙ sorted k d (search rules) less) (moved_apart held_key c.args.items.items now
+    c.sort_unstable_by_key.ensures.permutation apart) in
+    let answer = c.if-is_sorted_by.ensures.cases (λ x y. is_before (held_key x) (held_key y))
+    (answers_always _ _ _ (λ f a r g h. search rules)) in
+    arranged_answer held_key c.deref.result.now false answer
+    (subst (IsArranged held_key) (sym c.deref.ensures.value) set)

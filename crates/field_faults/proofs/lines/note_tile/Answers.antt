@@ -30,4 +30,5 @@ returns-in_ok-insert-in-Tile c =
     let with = rw (known, c.as_slice.ensures) at c.lying_with-lying.ensures in
     tile_noted c.in-Tile.zoom c.in-Tile.column c.in-Tile.row c.in-Tile.bytes c.args.item.now c.in-Tile.is
     c.args.tiles.now c.insert.new.self c.place_key-key.result c.lying_with-lying.result key with
-    (λ q. at_key c.args.tiles.now c.insert.new.self c.place_key-key.result (Some c.lying_with-lying.result) c.in_ok-insert-in-Tile.ensures.updates q)
+    (λ q. at_key c.args.tiles.now c.insert.new.self c.place_key-key.result (Some c.lying_with-lying.result)
+    c.in_ok-insert-in-Tile.ensures.updates q)

@@ -18,7 +18,8 @@ returns-in-Tile c = λ before has.
     let row : SFits w64 c.in-Tile.row = search rules in
     let key = simp (to_z-of_z, zoom, column, row) at c.place_key.ensures in
     let judge = c.args.judge.now in
-    let with = simp (to_z-of_z, zoom, column, row) at (rw c.as_slice.ensures at (c.is_taken_with-taken.ensures judge.items.now c.requires.tiles)) in
+    let with = simp (to_z-of_z, zoom, column, row) at (rw c.as_slice.ensures at
+    (c.is_taken_with-taken.ensures judge.items.now c.requires.tiles)) in
     c.tile_reason.ensures
     ∙ of_tile judge.frame.now judge.items.now judge.more c.args.exported before c.args.item.now c.in-Tile.zoom
     c.in-Tile.column c.in-Tile.row c.in-Tile.bytes c.in-Tile.is c.contains-twice.result

@@ -2,7 +2,8 @@
 use Rattle.std.proofs.Common.{inl, inr, arith}
 use Rattle.field_lists.proofs.DigitFacts.{byte_unread}
 use Rattle.field_lists.proofs.digits.byte_of.Goals as goal
-use Rattle.field_lists.proofs.digits.byte_of.Goals.{else-first-lt16-via-then-first-lt16+else-second-lt16, else-first-lt16-via-else-first-lt16}
+use Rattle.field_lists.proofs.digits.byte_of.Goals.{else-first-lt16-via-then-first-lt16+else-second-lt16}
+use Rattle.field_lists.proofs.digits.byte_of.Goals.{else-first-lt16-via-else-first-lt16}
 
 pub returns-else-first-lt16-clause-none : goal.returns-else-first-lt16-clause-none
 returns-else-first-lt16-clause-none c =

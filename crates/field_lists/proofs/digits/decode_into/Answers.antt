@@ -9,11 +9,13 @@ loop-i-init c = decode_start c.args.text.now c.args.bytes.now
 
 pub loop-i-preserved : goal.loop-i-preserved
 loop-i-preserved c =
-    decode_step _ _ c.loop-i.i _ (omega arith) (omega arith) (c.in-Some.ensures.some (2 * c.loop-i.i)) c.loop-i.invariant
+    decode_step _ _ c.loop-i.i _ (omega arith) (omega arith) (c.in-Some.ensures.some (2 * c.loop-i.i))
+    c.loop-i.invariant
 
 pub returns-in_default-clause-others : goal.returns-in_default-clause-others
 returns-in_default-clause-others c =
-    λ _. no_bytes _ c.loop-i.bytes c.loop-i.i (omega arith) (c.in_default.ensures.none (2 * c.loop-i.i)) c.loop-i.invariant
+    λ _. no_bytes _ c.loop-i.bytes c.loop-i.i (omega arith) (c.in_default.ensures.none (2 * c.loop-i.i))
+    c.loop-i.invariant
 
 pub returns-clause-digits : goal.returns-clause-digits
 returns-clause-digits c =

@@ -8,7 +8,8 @@ use Rattle.field_lists.proofs.lists.add_entry.Goals as goal
 
 pub returns-in_err-entry-clause-fault : goal.returns-in_err-entry-clause-fault
 returns-in_err-entry-clause-fault c =
-    let fault = entry_fault c.args.entries.now.items _ (fields_of c.args.row) c.in_err-entry.field-0.0 (search rules) c.in_err-entry.ensures.fault in
+    let fault = entry_fault c.args.entries.now.items _ (fields_of c.args.row) c.in_err-entry.field-0.0 (search rules)
+    c.in_err-entry.ensures.fault in
     let exit = err_from_is_err_and c.from_residual.result c.from_residual.ensures.1 in
     rw (exit.1, exit.2) fault
 
@@ -16,4 +17,5 @@ pub returns-clause-more : goal.returns-clause-more
 returns-clause-more c = λ rows asked.
     let good : is_ok c.push.result ≡ true = search rules in
     let items = rw good at c.push.ensures.items in
-    rw items (entry_more rows c.args.entries.now.items (fields_of c.args.row) c.in_ok-entry.entry asked c.in_ok-entry.ensures.asks)
+    rw items (entry_more rows c.args.entries.now.items (fields_of c.args.row) c.in_ok-entry.entry asked
+    c.in_ok-entry.ensures.asks)

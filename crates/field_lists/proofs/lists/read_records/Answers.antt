@@ -16,7 +16,8 @@ loop-row-init g c =
       ready = inr (inr (rw (f, e) at fr.has_headers, fr.headers));
       left = c.into_byte_records-row-items.ensures.left;
       config = rw (f, e) at fr.config ∙ c.new.ensures.config;
-      read = read_none g.R.Read.remaining (g.R.Read.remaining c.args.reader) c.from_reader-source.result fr.source fr.state;
+      read = read_none g.R.Read.remaining (g.R.Read.remaining c.args.reader) c.from_reader-source.result fr.source
+          fr.state;
     })
 
 pub loop-row-preserved : goal.loop-row-preserved
@@ -28,14 +29,18 @@ loop-row-preserved g c =
       ready = inl s.1;
       left = s.2;
       config = s.0.2 ∙ inv.config;
-      read = read_more g.R.Read.remaining (g.R.Read.remaining c.args.reader) c.loop-row.row-iterator.rdr c.next.new.self.rdr (fields_of c.in-Ok.row) _ _ _ inv.config inv.read s.0 c.in_ok-add_record-in-Ok.ensures.more;
+      read = read_more g.R.Read.remaining (g.R.Read.remaining c.args.reader) c.loop-row.row-iterator.rdr
+          c.next.new.self.rdr (fields_of c.in-Ok.row) _ _ _ inv.config inv.read s.0
+          c.in_ok-add_record-in-Ok.ensures.more;
     }
 
 pub returns-in_err-add_record-in-Ok-clause-fault : goal.returns-in_err-add_record-in-Ok-clause-fault
 returns-in_err-add_record-in-Ok-clause-fault g c =
     let inv = c.loop-row.invariant in
     let s = rw (c.in-Some.is, c.in-Ok.is) at ((c.next.ensures.steps inv.left inv.plain).0 inv.ready) in
-    let fault = record_fault g.R.Read.remaining (g.R.Read.remaining c.args.reader) c.loop-row.row-iterator.rdr c.next.new.self.rdr (fields_of c.in-Ok.row) _ _ _ c.in_err-add_record-in-Ok.field-0.0 inv.config inv.read s.0 c.in_err-add_record-in-Ok.ensures.fault in
+    let fault = record_fault g.R.Read.remaining (g.R.Read.remaining c.args.reader) c.loop-row.row-iterator.rdr
+    c.next.new.self.rdr (fields_of c.in-Ok.row) _ _ _ c.in_err-add_record-in-Ok.field-0.0 inv.config inv.read
+    s.0 c.in_err-add_record-in-Ok.ensures.fault in
     let exit = err_from_is_err_and c.from_residual.result c.from_residual.ensures.1 in
     rw (exit.1, exit.2) fault
 
@@ -43,4 +48,5 @@ pub returns-clause-list : goal.returns-clause-list
 returns-clause-list g c =
     let inv = c.loop-row.invariant in
     let s = rw c.in-None.is at ((c.next.ensures.steps inv.left inv.plain).0 inv.ready) in
-    read_all g.R.Read.remaining (g.R.Read.remaining c.args.reader) c.loop-row.row-iterator.rdr c.next.new.self.rdr [] _ _ inv.config inv.read s
+    read_all g.R.Read.remaining (g.R.Read.remaining c.args.reader) c.loop-row.row-iterator.rdr c.next.new.self.rdr []
+    _ _ inv.config inv.read s

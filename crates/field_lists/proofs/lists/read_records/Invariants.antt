@@ -11,5 +11,6 @@ invariant-loop-row g l = record {
   ready : Ready l.row-iterator.rdr;
   left : 0 < l.row-iterator.left;
   config : l.row-iterator.rdr.config ≡ default_config;
-  read : IfSome (g.R.Read.remaining l.fn.reader) (IsReadTo g.R.Read.remaining l.row-iterator.rdr l.has_header l.entries.items);
+  read : IfSome (g.R.Read.remaining l.fn.reader) (IsReadTo g.R.Read.remaining l.row-iterator.rdr l.has_header
+      l.entries.items);
 }

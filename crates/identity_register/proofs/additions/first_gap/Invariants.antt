@@ -10,5 +10,6 @@ abbrev pub invariant-loop-number : goal.invariant-loop-number
 invariant-loop-number g l = record {
   from : pos 1 ≤ℤ l.number;
   same : l.tx.conn.ghost_name ≡ l.fn.tx.conn.ghost_name;
-  so_far : Steps {X = Unit {0}} {E = Fault} (λ _. SoFar l.fn.kind l.number) (state g.S.Store l.fn.tx.conn.now) (state g.S.Store l.tx.conn.now) (Ok tt);
+  so_far : Steps {X = Unit {0}} {E = Fault} (λ _. SoFar l.fn.kind l.number) (state g.S.Store l.fn.tx.conn.now)
+      (state g.S.Store l.tx.conn.now) (Ok tt);
 }

@@ -9,5 +9,9 @@ use Rattle.identity_register.proofs.additions.is_taken.Goals as goal
 
 pub returns-clause-steps : goal.returns-clause-steps
 returns-clause-steps g c =
-    subst (λ b. Steps {E = Fault} (Answers (IsTaken c.args.kind c.args.number)) (state g.S.Store c.args.tx.now.conn.now) (state g.S.Store c.identity_by_key_inside.new.tx.conn.now) (Ok b)) (sym c.is_some.ensures)
-    (taken_steps c.args.kind c.args.number c.in_ok-found.found (simp (to_z-of_z, c.ranges.kind, c.ranges.number) at c.in_ok-found.ensures.told) c.in_ok-found.ensures.survives)
+    subst (λ b. Steps {E = Fault} (Answers (IsTaken c.args.kind c.args.number))
+    (state g.S.Store c.args.tx.now.conn.now) (state g.S.Store c.identity_by_key_inside.new.tx.conn.now) (Ok b))
+    (sym c.is_some.ensures)
+    (taken_steps c.args.kind c.args.number c.in_ok-found.found
+    (simp (to_z-of_z, c.ranges.kind, c.ranges.number) at c.in_ok-found.ensures.told)
+    c.in_ok-found.ensures.survives)

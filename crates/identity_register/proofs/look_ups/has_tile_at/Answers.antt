@@ -10,5 +10,6 @@ returns g c =
     let zoom = c.ranges.zoom in
     let column = c.ranges.column in
     let row = c.ranges.row in
-    sees (looked (HasTileAt c.args.zoom c.args.column c.args.row) c.in_ok-found.was (simp to_z-of_z at c.has_tile_at.ensures))
+    sees (looked (HasTileAt c.args.zoom c.args.column c.args.row) c.in_ok-found.was
+    (simp to_z-of_z at c.has_tile_at.ensures))
     (λ f p t says found. found ∙ tiles_at f p t says c.args.zoom c.args.column c.args.row)

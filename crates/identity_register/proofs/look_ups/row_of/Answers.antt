@@ -9,9 +9,12 @@ use Rattle.identity_register.proofs.look_ups.row_of.Goals as goal
 
 pub returns-clause-looked : goal.returns-clause-looked
 returns-clause-looked g c =
-    let same : c.encode_lower-text.result.now ≡ uuid_text c.args.identity = c.encode_lower-text.ensures.text ∙ ap uuid_text c.hyphenated.ensures in
+    let same : c.encode_lower-text.result.now ≡ uuid_text c.args.identity =
+    c.encode_lower-text.ensures.text ∙ ap uuid_text c.hyphenated.ensures in
     asked (λ text t. IsOneOf (λ x. bytes_eq x.uuid text) t.identities) same c.identity_by_uuid.ensures
 
 pub returns-clause-fit : goal.returns-clause-fit
 returns-clause-fit g c =
-    fits_by_text c.args.identity c.encode_lower-text.result.now (c.encode_lower-text.ensures.text ∙ ap uuid_text c.hyphenated.ensures) (rw c.hyphenated.ensures at c.encode_lower-text.ensures.parsed)
+    fits_by_text c.args.identity c.encode_lower-text.result.now
+    (c.encode_lower-text.ensures.text ∙ ap uuid_text c.hyphenated.ensures)
+    (rw c.hyphenated.ensures at c.encode_lower-text.ensures.parsed)

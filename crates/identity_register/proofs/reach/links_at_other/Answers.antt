@@ -18,10 +18,12 @@ use Rattle.identity_register.proofs.Reaching.{looked_on, made_to}
 use Rattle.identity_register.proofs.reach.links_at_other.Goals as goal
 
 pub returns-in_err-numbers : goal.returns-in_err-numbers
-returns-in_err-numbers g c = fails c.from_residual-in_err-numbers.result c.from_residual-in_err-numbers.ensures.0 (looks_stays c.pairs_of_related.ensures)
+returns-in_err-numbers g c = fails c.from_residual-in_err-numbers.result c.from_residual-in_err-numbers.ensures.0
+    (looks_stays c.pairs_of_related.ensures)
 
 pub returns-in_err-bases : goal.returns-in_err-bases
-returns-in_err-bases g c = fails c.from_residual-in_err-bases.result c.from_residual-in_err-bases.ensures.0 (stays_then (looks_stays c.pairs_of_related.ensures) c.names_of.ensures.stays)
+returns-in_err-bases g c = fails c.from_residual-in_err-bases.result c.from_residual-in_err-bases.ensures.0
+    (stays_then (looks_stays c.pairs_of_related.ensures) c.names_of.ensures.stays)
 
 pub returns : goal.returns
 returns g c =
@@ -30,13 +32,24 @@ returns g c =
     let id = c.args.identity in
     let pairs = c.in_ok-pairs.pairs.items in
     let names = c.in_ok-bases.bases.items in
-    let kind : c.number_of_kind-kind.result ≡ pos (kind_number (base_kind m)) = c.number_of_kind-kind.ensures ∙ ap (λ k. pos (kind_number k)) c.base_kind.ensures in
+    let kind : c.number_of_kind-kind.result ≡ pos (kind_number (base_kind m)) =
+    c.number_of_kind-kind.ensures ∙ ap (λ k. pos (kind_number k)) c.base_kind.ensures in
     let fits : SFits w64 c.number_of_kind-kind.result = search rules in
-    let numbers : c.deref-2.result.now ≡ map (λ r. r.base_id) pairs = c.deref-2.ensures.value ∙ c.in_ok-numbers.ensures ∙ ap (map (λ r. r.base_id)) c.deref.ensures.value in
-    tells_if (λ t links. AreLinksAt m (pos (kind_number (other_kind m))) c.args.number id t links.items) c.links_to.result
-    (looked_on (λ t found. AllZip (IsNamed t.identities c.number_of_kind-kind.result) c.deref-2.result.now found.items) (looked (λ t found. AreThose (λ r. int_eq r.related_id c.args.number) (mapping_rows m t) found.items) c.in_ok-pairs.was (simp to_z-of_z at c.pairs_of_related.ensures)) c.in_ok-bases.was c.names_of.ensures.stays (simp to_z-of_z at c.names_of.ensures.told))
+    let numbers : c.deref-2.result.now ≡ map (λ r. r.base_id) pairs =
+    c.deref-2.ensures.value ∙ c.in_ok-numbers.ensures ∙ ap (map (λ r. r.base_id)) c.deref.ensures.value in
+    tells_if (λ t links. AreLinksAt m (pos (kind_number (other_kind m))) c.args.number id t links.items)
+    c.links_to.result
+    (looked_on (λ t found. AllZip (IsNamed t.identities c.number_of_kind-kind.result) c.deref-2.result.now
+    found.items) (looked (λ t found. AreThose (λ r. int_eq r.related_id c.args.number) (mapping_rows m t)
+    found.items) c.in_ok-pairs.was (simp to_z-of_z at c.pairs_of_related.ensures)) c.in_ok-bases.was
+    c.names_of.ensures.stays (simp to_z-of_z at c.names_of.ensures.told))
     (λ links e t h.
-    let all : AllZip (IsNamed t.identities (pos (kind_number (base_kind m)))) (map (λ r. r.base_id) pairs) names = subst (λ k. AllZip (IsNamed t.identities k) (map (λ r. r.base_id) pairs) names) kind (subst (λ l. AllZip (IsNamed t.identities c.number_of_kind-kind.result) l names) numbers h.1) in
+    let all : AllZip (IsNamed t.identities (pos (kind_number (base_kind m)))) (map (λ r. r.base_id) pairs) names =
+    subst (λ k. AllZip (IsNamed t.identities k) (map (λ r. r.base_id) pairs) names) kind
+    (subst (λ l. AllZip (IsNamed t.identities c.number_of_kind-kind.result) l names) numbers h.1) in
     let each : List ℕ → Relation = λ x. record { mapping = m; base = x; other = id } in
-    let are : links.items ≡ map each names = subst (λ r. IfOk r (λ links. links.items ≡ map each c.deref-3.result.now)) e c.links_to.ensures ∙ ap (map each) c.deref-3.ensures.value in
-    subst (AreLinksAt m (pos (kind_number (other_kind m))) c.args.number id t) (sym are) (made_to m c.args.number id t pairs names h.0 all))
+    let are : links.items ≡ map each names = subst (λ r. IfOk r
+    (λ links. links.items ≡ map each c.deref-3.result.now)) e c.links_to.ensures
+    ∙ ap (map each) c.deref-3.ensures.value in
+    subst (AreLinksAt m (pos (kind_number (other_kind m))) c.args.number id t) (sym are)
+    (made_to m c.args.number id t pairs names h.0 all))

@@ -7,5 +7,6 @@ use Rattle.identity_register.proofs.reach.names_in_order.Goals as goal
 
 pub returns-then-is_sorted_by-clause-order : goal.returns-then-is_sorted_by-clause-order
 returns-then-is_sorted_by-clause-order c =
-    let answer = c.if-is_sorted_by.ensures.cases (λ x y. is_before x y) (answers_always _ _ _ (λ f a r g h. search rules)) in
+    let answer = c.if-is_sorted_by.ensures.cases (λ x y. is_before x y)
+    (answers_always _ _ _ (λ f a r g h. search rules)) in
     subst (IsArranged (λ id. id)) c.deref.ensures.value (arranged_answer (λ id. id) c.deref.result.now true answer)

@@ -7,4 +7,5 @@ use Rattle.identity_register.proofs.reach.names_of.Given as goal
 
 -- The store is as it was, and the names so far are those of its rows.
 abbrev pub invariant-loop-number : goal.invariant-loop-number
-invariant-loop-number g l = GoesOn (λ t. AllZip (IsNamed t.identities l.fn.kind) (take l.number-index l.numbers) l.names.items) (state g.S.Store l.fn.conn) (state g.S.Store l.conn)
+invariant-loop-number g l = GoesOn (λ t. AllZip (IsNamed t.identities l.fn.kind) (take l.number-index l.numbers)
+    l.names.items) (state g.S.Store l.fn.conn) (state g.S.Store l.conn)

@@ -15,11 +15,13 @@ returns g c =
     let row = c.args.row.now in
     let kind : SFits w64 row.kind = search rules in
     let number : SFits w64 row.local_id = search rules in
-    tells (IsToldOf row) (looked (IsContentOf row.kind row.local_id) c.in_ok-content.was (simp to_z-of_z at c.content_of.ensures))
+    tells (IsToldOf row) (looked (IsContentOf row.kind row.local_id) c.in_ok-content.was
+    (simp to_z-of_z at c.content_of.ensures))
     (λ t h. record {
       identity = c.in_ok-identity.identity;
       content = c.in_ok-content.content;
-      text = sym c.as_str.ensures ∙ subst (λ r. IfOk r (λ id. c.as_str.result.now ≡ uuid_text id)) c.in_ok-identity.was c.stored_uuid.ensures.text;
+      text = sym c.as_str.ensures ∙ subst (λ r. IfOk r (λ id. c.as_str.result.now ≡ uuid_text id))
+          c.in_ok-identity.was c.stored_uuid.ensures.text;
       fit = subst (λ r. IfOk r IsUuid) c.in_ok-identity.was c.stored_uuid.ensures.fit;
       there = h;
       told = c.of_content.ensures;

@@ -8,5 +8,6 @@ use Rattle.identity_register.proofs.told.told_in_order.Goals as goal
 
 pub returns-then-is_sorted_by-clause-order : goal.returns-then-is_sorted_by-clause-order
 returns-then-is_sorted_by-clause-order c =
-    let answer = c.if-is_sorted_by.ensures.cases (λ x y. is_before (moved_key x) (moved_key y)) (answers_always _ _ _ (λ f a r g h. search rules)) in
+    let answer = c.if-is_sorted_by.ensures.cases (λ x y. is_before (moved_key x) (moved_key y))
+    (answers_always _ _ _ (λ f a r g h. search rules)) in
     subst (IsArranged moved_key) c.deref.ensures.value (arranged_answer moved_key c.deref.result.now true answer)

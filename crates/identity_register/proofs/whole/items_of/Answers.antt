@@ -14,9 +14,19 @@ loop-row-preserved c =
     let placed = c.args.placed.items in
     let next = c.in-Some.next in
     let item = c.in_ok-item_at.field-0 in
-    let here : Contains placed next = c.loop-row.invariant.left next (Contains-In next (into_iter_items c.loop-row.left) (subst (In next) (sym c.in-Some.ensures.items) (inl refl))) in
-    let one : IsItemOf placed c.row-item.result item = record { identity = c.in_ok-item_at.ensures.identity; fit = c.in_ok-item_at.ensures.fit; content = subst (Contains placed) c.in_ok-item_at.ensures.content here } in
+    let here : Contains placed next = c.loop-row.invariant.left next
+    (Contains-In next (into_iter_items c.loop-row.left)
+    (subst (In next) (sym c.in-Some.ensures.items) (inl refl))) in
+    let one : IsItemOf placed c.row-item.result item = record {
+      identity = c.in_ok-item_at.ensures.identity;
+      fit = c.in_ok-item_at.ensures.fit;
+      content =
+          subst (Contains placed) c.in_ok-item_at.ensures.content here;
+    } in
     record {
-      left = λ x h. c.loop-row.invariant.left x (Contains-In x (into_iter_items c.loop-row.left) (subst (In x) (sym c.in-Some.ensures.items) (inr (contained (into_iter_items c.next.new.self) x h))));
-      zipped = zip_more (IsItemOf placed) c.args.rows.now c.loop-row.row-index c.row-item.result c.row-item.result c.loop-row.items.items c.push.new.self.items item c.loop-row-test.true c.row-item.is (chosen _ _ _ _ c.push.ensures.items (ap is_ok c.in_ok-push.was)) c.loop-row.invariant.zipped one;
+      left = λ x h. c.loop-row.invariant.left x (Contains-In x (into_iter_items c.loop-row.left)
+          (subst (In x) (sym c.in-Some.ensures.items) (inr (contained (into_iter_items c.next.new.self) x h))));
+      zipped = zip_more (IsItemOf placed) c.args.rows.now c.loop-row.row-index c.row-item.result c.row-item.result
+          c.loop-row.items.items c.push.new.self.items item c.loop-row-test.true c.row-item.is
+          (chosen _ _ _ _ c.push.ensures.items (ap is_ok c.in_ok-push.was)) c.loop-row.invariant.zipped one;
     }

@@ -14,5 +14,11 @@ returns g c =
     let m = c.args.mapping in
     let rows = c.args.rows.now in
     tells_if (λ t links. AreLinksIn m rows t links.items) c.links_of.result
-    (looked (λ t found. AreAll (then_cmp (on (λ x. x.base_id) int_cmp) (on (λ x. x.related_id) int_cmp)) (mapping_rows m t) found.items) c.in_ok-pairs.was c.all_pairs.ensures)
-    (λ x e t h. (c.in_ok-pairs.pairs.items, h.0, subst (λ l. AllZip (IsLinkOf m rows) l x.items) c.deref.ensures.value (rw e at c.links_of.ensures)))
+    (looked (λ t found. AreAll (then_cmp (on (λ x. x.base_id) int_cmp) (on (λ x. x.related_id) int_cmp))
+    (mapping_rows m t) found.items) c.in_ok-pairs.was c.all_pairs.ensures)
+    (λ x e t h. (
+      c.in_ok-pairs.pairs.items,
+      h.0,
+      subst (λ l. AllZip (IsLinkOf m rows) l x.items) c.deref.ensures.value
+          (rw e at c.links_of.ensures),
+    ))

@@ -12,8 +12,10 @@ loop-moved-init c = subst (AllZip IsLinkTold []) (sym c.new-links.ensures.items)
 
 pub loop-moved-preserved : goal.loop-moved-preserved
 loop-moved-preserved c =
-    zip_more IsLinkTold c.args.told.now c.loop-moved.moved-index c.moved-item.result c.loop-moved.links.items c.push.new.self.items _ c.loop-moved-test.true c.moved-item.is
+    zip_more IsLinkTold c.args.told.now c.loop-moved.moved-index c.moved-item.result c.loop-moved.links.items
+    c.push.new.self.items _ c.loop-moved-test.true c.moved-item.is
     (chosen _ _ _ _ c.push.ensures.items (ap is_ok c.in_ok-push.was)) c.loop-moved.invariant c.in_ok-link_of.ensures
 
 pub returns : goal.returns
-returns c = subst (λ l. AllZip IsLinkTold l c.loop-moved.links.items) (take_all c.loop-moved.moved-index c.args.told.now c.loop-moved-test.false) c.loop-moved.invariant
+returns c = subst (λ l. AllZip IsLinkTold l c.loop-moved.links.items)
+    (take_all c.loop-moved.moved-index c.args.told.now c.loop-moved-test.false) c.loop-moved.invariant

@@ -12,6 +12,8 @@ use Rattle.manifest_csv.proofs.by_items.write_items.Given as goal
 abbrev pub invariant-loop-moved : goal.invariant-loop-moved
 invariant-loop-moved g l = record {
   between : IsBetween l.writer;
-  read : GoesOn (λ t. OfPackage {X = Unit {0}} (λ p _. l.told ≡ map item_moved p.items → Appends (text_written (λ v. Some v.items) l.initial.writer) (text_written (λ v. Some v.items) l.writer) (records_text item_fields (take l.moved-index p.items))) t tt)
+  read : GoesOn (λ t. OfPackage {X = Unit {0}} (λ p _. l.told ≡ map item_moved p.items
+      → Appends (text_written (λ v. Some v.items) l.initial.writer) (text_written (λ v. Some v.items) l.writer)
+      (records_text item_fields (take l.moved-index p.items))) t tt)
       (state g.S.Store l.fn.conn) (state g.S.Store l.conn);
 }

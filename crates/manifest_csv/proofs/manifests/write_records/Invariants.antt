@@ -8,5 +8,6 @@ use Rattle.manifest_csv.proofs.manifests.write_records.Given as goal
 abbrev pub invariant-loop-record : goal.invariant-loop-record
 invariant-loop-record g l = record {
   between : IsBetween l.writer;
-  written : Appends (text_written (λ v. Some v.items) l.initial.writer) (text_written (λ v. Some v.items) l.writer) (records_text g.R.Record.fields (take l.record-index l.records));
+  written : Appends (text_written (λ v. Some v.items) l.initial.writer) (text_written (λ v. Some v.items) l.writer)
+      (records_text g.R.Record.fields (take l.record-index l.records));
 }

@@ -7,8 +7,10 @@ use Rattle.manifest_csv.proofs.sending.send.Goals.{in-Ok, in-Err+else-ne}
 pub sending-preserved : goal.sending-preserved
 sending-preserved g c = elim c.match-write.branch [
   | in-Ok w ↦ record {
-    within = rw w.at-is (more_within c.args.text.now c.sending.at w.in-Ok.taken c.sending.invariant.within w.in-Ok.ensures.bound);
-    out = rw w.at-is (sent_more _ _ _ c.args.text.now c.sending.at w.in-Ok.taken c.sending.invariant.out w.in-Ok.ensures.bytes);
+    within = rw w.at-is (more_within c.args.text.now c.sending.at w.in-Ok.taken c.sending.invariant.within
+        w.in-Ok.ensures.bound);
+    out = rw w.at-is (sent_more _ _ _ c.args.text.now c.sending.at w.in-Ok.taken c.sending.invariant.out
+        w.in-Ok.ensures.bytes);
   }
   | in-Err+else-ne w ↦ record {
     within = rw w.at-is c.sending.invariant.within;

@@ -4,4 +4,10 @@ use Rattle.opening_stores.proofs.Strangers.{all_same}
 use Rattle.opening.proofs.recovering.recover.Goals as goal
 
 pub returns-clause-fault : goal.returns-clause-fault
-returns-clause-fault g c = record { brought = inl refl; only_read = inl (inr refl); others_read = λ clean. all_same g.S.Store c.args.stores.items; fault = λ clean. inl (inr refl) }
+returns-clause-fault g c = record {
+  brought = inl refl;
+  only_read = inl (inr refl);
+  others_read =
+      λ clean. all_same g.S.Store c.args.stores.items;
+  fault = λ clean. inl (inr refl);
+}

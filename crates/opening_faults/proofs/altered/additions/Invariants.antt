@@ -8,4 +8,5 @@ use Rattle.opening_faults.proofs.altered.additions.Given as goal
 
 -- those so far
 abbrev pub invariant-loop-receipt : goal.invariant-loop-receipt
-invariant-loop-receipt l = (key : List ℕ) → contains (slice_cmp nat_cmp) l.added key ≡ list_any (adds_item key) (take l.receipt-index l.ledger)
+invariant-loop-receipt l = (key : List ℕ) → contains (slice_cmp nat_cmp) l.added key
+    ≡ list_any (adds_item key) (take l.receipt-index l.ledger)

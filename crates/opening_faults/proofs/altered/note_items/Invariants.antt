@@ -8,4 +8,5 @@ use Rattle.opening_faults.proofs.altered.note_items.Given as goal
 
 -- those so far
 abbrev pub invariant-loop-moved : goal.invariant-loop-moved
-invariant-loop-moved l = (key : List ℕ) → contains (slice_cmp nat_cmp) l.added key ≡ (contains (slice_cmp nat_cmp) l.initial.added key || has item_said key (take l.moved-index l.items))
+invariant-loop-moved l = (key : List ℕ) → contains (slice_cmp nat_cmp) l.added key
+    ≡ (contains (slice_cmp nat_cmp) l.initial.added key || has item_said key (take l.moved-index l.items))

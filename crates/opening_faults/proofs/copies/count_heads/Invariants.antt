@@ -9,4 +9,5 @@ use Rattle.opening_faults.proofs.copies.count_heads.Given as goal
 
 -- those so far are counted
 abbrev pub invariant-loop-sight : goal.invariant-loop-sight
-invariant-loop-sight l = (key : List ℕ) → get (slice_cmp nat_cmp) l.counts key ≡ told (count_by (has_key key) (take l.sight-index l.sights))
+invariant-loop-sight l = (key : List ℕ) → get (slice_cmp nat_cmp) l.counts key
+    ≡ told (count_by (has_key key) (take l.sight-index l.sights))

@@ -8,10 +8,14 @@ use Rattle.opening_faults.proofs.foreign.least_foreign.Goals as goal
 
 pub returns-in_ok-least-in-Some-clause-some : goal.returns-in_ok-least-in-Some-clause-some
 returns-in_ok-least-in-Some-clause-some c =
-    some_weaker (IsLeast (IsForeign c.in-Some.root.now c.args.sights.now c.args.splits.now)) (IsLeast (ForeignFrame c.args.sights.now)) c.in_ok-least-in-Some.least
-    (least_foreign_is c.args.sights.now c.args.splits.now c.requires c.in-Some.root.now (sym c.in-Some.ensures)) c.in_ok-least-in-Some.ensures.some
+    some_weaker (IsLeast (IsForeign c.in-Some.root.now c.args.sights.now c.args.splits.now))
+    (IsLeast (ForeignFrame c.args.sights.now)) c.in_ok-least-in-Some.least
+    (least_foreign_is c.args.sights.now c.args.splits.now c.requires c.in-Some.root.now (sym c.in-Some.ensures))
+    c.in_ok-least-in-Some.ensures.some
 
 pub returns-in_ok-least-in-Some-clause-none : goal.returns-in_ok-least-in-Some-clause-none
 returns-in_ok-least-in-Some-clause-none c =
-    none_weaker (IsNever (IsForeign c.in-Some.root.now c.args.sights.now c.args.splits.now)) (IsNever (ForeignFrame c.args.sights.now)) c.in_ok-least-in-Some.least
-    (never_foreign_is c.args.sights.now c.args.splits.now c.requires c.in-Some.root.now (sym c.in-Some.ensures)) c.in_ok-least-in-Some.ensures.none
+    none_weaker (IsNever (IsForeign c.in-Some.root.now c.args.sights.now c.args.splits.now))
+    (IsNever (ForeignFrame c.args.sights.now)) c.in_ok-least-in-Some.least
+    (never_foreign_is c.args.sights.now c.args.splits.now c.requires c.in-Some.root.now (sym c.in-Some.ensures))
+    c.in_ok-least-in-Some.ensures.none

@@ -6,4 +6,6 @@ use Rattle.opening_faults.proofs.merging.note_merge.Goals as goal
 pub returns : goal.returns
 returns c =
     let fits : FitsSigned w64 c.greatest.result = search rules in
-    noted_text c.args.merges.now c.insert.new.self _ c.args.source.now c.copied-last.result c.args.seq c.greatest.result (search rules) (search rules) (simp (to_z-of_z, c.ranges.seq) at c.greatest.ensures) (simp (to_z-of_z, fits) at c.in_ok-insert.ensures.updates)
+    noted_text c.args.merges.now c.insert.new.self _ c.args.source.now c.copied-last.result c.args.seq
+    c.greatest.result (search rules) (search rules) (simp (to_z-of_z, c.ranges.seq) at c.greatest.ensures)
+    (simp (to_z-of_z, fits) at c.in_ok-insert.ensures.updates)

@@ -6,4 +6,6 @@ use Rattle.opening_faults.proofs.merging.note_merges.Given as goal
 
 -- those so far are noted
 abbrev pub invariant-loop-claim : goal.invariant-loop-claim
-invariant-loop-claim l = (source : List ℕ) (n : ℤ) → is_above l.merges source n ≡ (is_above l.initial.merges source n || list_any (merges_after source n) (map claim_said (take l.claim-index l.claims)))
+invariant-loop-claim l = (source : List ℕ) (n : ℤ) → is_above l.merges source n
+    ≡ (is_above l.initial.merges source n || list_any (merges_after source n)
+    (map claim_said (take l.claim-index l.claims)))

@@ -8,4 +8,5 @@ use Rattle.opening_faults.proofs.reaching.keys_of.Given as goal
 
 -- those of the splits so far
 abbrev pub invariant-loop-split : goal.invariant-loop-split
-invariant-loop-split l = (key : List ℕ) → contains (slice_cmp nat_cmp) l.loans key ≡ list_any (makes_key key) (take l.split-index l.splits)
+invariant-loop-split l = (key : List ℕ) → contains (slice_cmp nat_cmp) l.loans key
+    ≡ list_any (makes_key key) (take l.split-index l.splits)

@@ -7,4 +7,5 @@ use Rattle.opening_faults.proofs.reaching.later_standings.Given as goal
 
 -- those so far
 abbrev pub invariant-loop-place : goal.invariant-loop-place
-invariant-loop-place l = (t : Sight → Standing) → l.standings ≡ map t l.sights → l.later.items ≡ map (λ s. one_later (t s) (is_lent_in l.loans s)) (take l.place l.sights)
+invariant-loop-place l = (t : Sight → Standing) → l.standings ≡ map t l.sights
+    → l.later.items ≡ map (λ s. one_later (t s) (is_lent_in l.loans s)) (take l.place l.sights)

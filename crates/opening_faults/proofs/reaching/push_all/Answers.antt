@@ -5,4 +5,6 @@ use Rattle.opening_faults.proofs.Listing.{map_itself}
 use Rattle.opening_faults.proofs.reaching.push_all.Goals as goal
 
 pub returns : goal.returns
-returns c = fact_from_extend (λ x. x) c.extend.result c.extend.ensures.ran (λ it b. YieldsList-from_vec {s = it} _ b.0 (b.1 ∙ c.args.more.ok.0)) (λ xs e h. h.0 ∙ ap (λ ys. c.args.splits.now.items ++ ys) (sym (map_itself xs) ∙ e))
+returns c = fact_from_extend (λ x. x) c.extend.result c.extend.ensures.ran
+    (λ it b. YieldsList-from_vec {s = it} _ b.0 (b.1 ∙ c.args.more.ok.0))
+    (λ xs e h. h.0 ∙ ap (λ ys. c.args.splits.now.items ++ ys) (sym (map_itself xs) ∙ e))

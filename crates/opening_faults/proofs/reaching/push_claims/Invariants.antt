@@ -6,4 +6,5 @@ use Rattle.opening_faults.proofs.reaching.push_claims.Given as goal
 
 -- those so far
 abbrev pub invariant-loop-claim : goal.invariant-loop-claim
-invariant-loop-claim l = l.opened.items ≡ l.initial.opened.items ++ map (split_made l.head) (filter (is_open_by l.merges) (map claim_said (take l.claim-index l.claims)))
+invariant-loop-claim l = l.opened.items ≡ l.initial.opened.items
+    ++ map (split_made l.head) (filter (is_open_by l.merges) (map claim_said (take l.claim-index l.claims)))

@@ -13,5 +13,12 @@ use Rattle.opening_glances.proofs.glance.glance.Goals as goal
 pub returns : goal.returns
 returns g c =
     sees (λ db s. AreKeyed db → IsGlanceOf db s)
-    (seen_then (λ db found. AreKeyed db → ReadsClaims db (map claim_said found.items)) (seen (λ db found. AreKeyed db → ReadsEitherHead db (option_map head_said found)) c.in_ok-found.was c.either_head.ensures) c.in_ok-read.was c.claims.ensures)
-    (λ db told keyed. record { head = subst (ReadsEitherHead db) (sym c.head_told.ensures) (told.0 keyed); claims = subst (ReadsClaims db) (sym (ap (map opening.claim_said) c.in_ok-told.ensures ∙ map-map opening.claim_said claim_told c.in_ok-read.read.items)) (told.1 keyed) })
+    (seen_then (λ db found. AreKeyed db → ReadsClaims db (map claim_said found.items))
+    (seen (λ db found. AreKeyed db → ReadsEitherHead db (option_map head_said found)) c.in_ok-found.was
+    c.either_head.ensures) c.in_ok-read.was c.claims.ensures)
+    (λ db told keyed. record {
+      head = subst (ReadsEitherHead db) (sym c.head_told.ensures) (told.0 keyed);
+      claims =
+          subst (ReadsClaims db) (sym (ap (map opening.claim_said) c.in_ok-told.ensures
+          ∙ map-map opening.claim_said claim_told c.in_ok-read.read.items)) (told.1 keyed);
+    })

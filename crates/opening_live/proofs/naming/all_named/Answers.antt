@@ -10,5 +10,7 @@ pub loop-sight-preserved : goal.loop-sight-preserved
 loop-sight-preserved c =
     let i = c.loop-sight.sight-index in
     let s = c.sight-item.result in
-    made_more (λ x. is_root x || is_lent_in c.args.loans.now x) c.loop-sight.flags.items c.push.new.self.items (take i c.args.sights.now) (take (i + 1) c.args.sights.now) s c.in_ok-named.named
-    (one_more c.args.sights.now i s c.loop-sight-test.true c.sight-item.is) c.loop-sight.invariant c.in_ok-named.ensures c.in_ok-push.ensures.items
+    made_more (λ x. is_root x || is_lent_in c.args.loans.now x) c.loop-sight.flags.items c.push.new.self.items
+    (take i c.args.sights.now) (take (i + 1) c.args.sights.now) s c.in_ok-named.named
+    (one_more c.args.sights.now i s c.loop-sight-test.true c.sight-item.is) c.loop-sight.invariant
+    c.in_ok-named.ensures c.in_ok-push.ensures.items

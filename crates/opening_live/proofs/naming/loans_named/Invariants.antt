@@ -8,4 +8,5 @@ use Rattle.opening_live.proofs.naming.loans_named.Given as goal
 
 -- those that the stores so far name
 abbrev pub invariant-loop-sight : goal.invariant-loop-sight
-invariant-loop-sight l = (key : List ℕ) → contains (slice_cmp nat_cmp) l.loans key ≡ list_any (λ s. names_by s key) (take l.sight-index l.sights)
+invariant-loop-sight l = (key : List ℕ) → contains (slice_cmp nat_cmp) l.loans key
+    ≡ list_any (λ s. names_by s key) (take l.sight-index l.sights)

@@ -11,4 +11,5 @@ use Rattle.opening_live.proofs.naming.note_claims.Given as goal
 -- those of the claims so far
 abbrev pub invariant-loop-claim : goal.invariant-loop-claim
 invariant-loop-claim l = (key : List ℕ) → contains (slice_cmp nat_cmp) l.loans key
-    ≡ (contains (slice_cmp nat_cmp) l.initial.loans key || list_any (λ x. names (is_open_by l.merges) l.head (claim_said x) key) (take l.claim-index l.claims))
+    ≡ (contains (slice_cmp nat_cmp) l.initial.loans key || list_any
+    (λ x. names (is_open_by l.merges) l.head (claim_said x) key) (take l.claim-index l.claims))

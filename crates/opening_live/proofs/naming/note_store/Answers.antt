@@ -23,10 +23,13 @@ returns-in_ok-merges-in-Some c =
     let head = c.in-Some.head in
     let merges = c.in_ok-merges-in-Some.merges in
     let said : s.head ≡ Some head = c.in-Some.is in
-    let noted : HasMerges merges (claims_seen s) = subst (λ xs. HasMerges merges (map claim_said xs)) c.as_slice.ensures.value c.in_ok-merges-in-Some.ensures in
+    let noted : HasMerges merges (claims_seen s) = subst (λ xs. HasMerges merges (map claim_said xs))
+    c.as_slice.ensures.value c.in_ok-merges-in-Some.ensures in
     ok_so _ _ c.note_claims.result (λ x h key.
     h key ∙ ap (λ b. contains (slice_cmp nat_cmp) c.args.loans.now key || b) (
     ap (list_any (λ y. names (is_open_by merges) head (claim_said y) key)) c.as_slice-in-Some.ensures.value
-    ∙ ap (λ p. list_any (λ y. names p head (claim_said y) key) s.claims.items) (λ i. λ y. open_by_them merges (claims_seen s) noted y i)
-    ∙ sym (ap (λ o. option_map_or (λ e. list_any (λ y. names (is_open_claim (claims_seen s)) e (claim_said y) key) s.claims.items) o false) said)
+    ∙ ap (λ p. list_any (λ y. names p head (claim_said y) key) s.claims.items)
+    (λ i. λ y. open_by_them merges (claims_seen s) noted y i)
+    ∙ sym (ap (λ o. option_map_or (λ e. list_any (λ y. names (is_open_claim (claims_seen s)) e (claim_said y) key)
+    s.claims.items) o false) said)
     )) c.note_claims.ensures

@@ -15,11 +15,16 @@ loop-sight-preserved c =
     let t = λ (s : Sight). is_root s || is_lent_in c.args.loans.now s in
     let so_far = c.loop-sight.yielded in
     let s = c.in-Some.sight in
-    c.loop-sight.invariant ∙ sym (append-nil (filter t so_far)) ∙ ap (λ b. filter t so_far ++ cond b (s ∷ []) []) (sym c.if-branch.false ∙ c.in_ok-is_named.ensures) ∙ sym (filter-append t so_far (s ∷ []))
+    c.loop-sight.invariant ∙ sym (append-nil (filter t so_far))
+    ∙ ap (λ b. filter t so_far ++ cond b (s ∷ []) []) (sym c.if-branch.false ∙ c.in_ok-is_named.ensures)
+    ∙ sym (filter-append t so_far (s ∷ []))
 
 pub returns : goal.returns
 returns c =
     let gives = c.into_iter-sight-iterator.ensures.into_iter_gives in
     let long : length c.args.sights.items ≡ vec_len c.args.sights = omega (arith, c.args.sights.ok.0) in
-    let t = YieldsList-end (YieldsList-from_vec {s = c.into_iter-sight-iterator.result} c.args.sights.items gives.0 (gives.1 ∙ sym long)) c.loop-sight.yielded c.loop-sight.sight-iterator c.loop-sight.yielded_by _ c.next.new.self c.in-None.is c.next.ensures.steps in
-    c.loop-sight.invariant ∙ ap (filter (λ s. is_root s || is_lent_in c.args.loans.now s)) (sym (map-id c.loop-sight.yielded) ∙ t.0)
+    let t = YieldsList-end (YieldsList-from_vec {s = c.into_iter-sight-iterator.result} c.args.sights.items gives.0
+    (gives.1 ∙ sym long)) c.loop-sight.yielded c.loop-sight.sight-iterator c.loop-sight.yielded_by _
+    c.next.new.self c.in-None.is c.next.ensures.steps in
+    c.loop-sight.invariant ∙ ap (filter (λ s. is_root s || is_lent_in c.args.loans.now s))
+    (sym (map-id c.loop-sight.yielded) ∙ t.0)

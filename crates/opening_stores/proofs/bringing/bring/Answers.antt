@@ -23,5 +23,6 @@ returns g c =
     record {
       rests = c.requires;
       clean = λ clean. clean;
-      turns = λ is_open. turn_stays g.S.Store g.met.S.Store.shut_if_dirty g.met.S.Store.settled c.args.conn.now c.requires is_open (λ free. both_ways _ c.if-are_free.false (told.1 free));
+      turns = λ is_open. turn_stays g.S.Store g.met.S.Store.shut_if_dirty g.met.S.Store.settled c.args.conn.now
+          c.requires is_open (λ free. both_ways _ c.if-are_free.false (told.1 free));
     }

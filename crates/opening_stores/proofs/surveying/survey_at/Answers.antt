@@ -5,5 +5,15 @@ use Rattle.opening_stores.proofs.surveying.survey_at.Goals as goal
 
 pub returns : goal.returns
 returns g c =
-    let place : slice_get c.args.stores.now.items c.args.at ≡ Some c.index_mut-conn.result.now = slice_get_read _ _ _ _ refl c.requires.within c.index_mut-conn.ensures.value in
-    record { looked = record { was = c.index_mut-conn.result.now; place = place; last = c.survey_either.new.conn; others = refl; looked = c.survey_either.ensures } }
+    let place : slice_get c.args.stores.now.items c.args.at ≡ Some c.index_mut-conn.result.now =
+    slice_get_read _ _ _ _ refl c.requires.within c.index_mut-conn.ensures.value in
+    record {
+      looked = record {
+        was = c.index_mut-conn.result.now;
+        place = place;
+        last =
+            c.survey_either.new.conn;
+        others = refl;
+        looked = c.survey_either.ensures;
+      };
+    }

@@ -12,5 +12,12 @@ use Rattle.opening_survey.proofs.said.read_said.Goals as goal
 pub returns : goal.returns
 returns g c =
     sees (λ db s. AreKeyed db → IsSaid db s)
-    (seen_then (λ db found. AreKeyed db → ReadsClaims db (map claim_said found.items)) (seen (λ db found. AreKeyed db → ReadsHead db (option_map head_said found)) c.in_ok-found.was c.head.ensures) c.in_ok-read.was c.claims.ensures)
-    (λ db told keyed. record { head = subst (ReadsHead db) (sym c.head_told.ensures) (told.0 keyed); claims = subst (ReadsClaims db) (sym (ap (map opening.claim_said) c.in_ok-told.ensures ∙ map-map opening.claim_said claim_told c.in_ok-read.read.items)) (told.1 keyed) })
+    (seen_then (λ db found. AreKeyed db → ReadsClaims db (map claim_said found.items))
+    (seen (λ db found. AreKeyed db → ReadsHead db (option_map head_said found)) c.in_ok-found.was c.head.ensures)
+    c.in_ok-read.was c.claims.ensures)
+    (λ db told keyed. record {
+      head = subst (ReadsHead db) (sym c.head_told.ensures) (told.0 keyed);
+      claims =
+          subst (ReadsClaims db) (sym (ap (map opening.claim_said) c.in_ok-told.ensures
+          ∙ map-map opening.claim_said claim_told c.in_ok-read.read.items)) (told.1 keyed);
+    })

@@ -7,5 +7,6 @@ use Rattle.opening_survey.proofs.ties.tied.Goals as goal
 pub returns : goal.returns
 returns g c =
     tells TellsTied
-    (looked_then (λ t. Decides (AreTied t)) (looked (λ t _. AreUnique t) c.in_ok-check_unique.was c.check_unique.ensures) c.in_ok-answer.was c.are_tied.ensures)
+    (looked_then (λ t. Decides (AreTied t)) (looked (λ t _. AreUnique t) c.in_ok-check_unique.was
+    c.check_unique.ensures) c.in_ok-answer.was c.are_tied.ensures)
     (λ t h. record { unique = h.0; tied = h.1 })

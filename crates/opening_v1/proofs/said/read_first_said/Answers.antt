@@ -13,5 +13,11 @@ use Rattle.opening_v1.proofs.said.read_first_said.Goals as goal
 pub returns : goal.returns
 returns g c =
     sees (λ db s. AreKeyed db → IsFirstSaid db s)
-    (seen_then (λ db found. AreKeyed db → ReadsClaims db (map claim_said found.items)) (seen (λ db found. AreKeyed db → ReadsHeadAt (pos 1) db (option_map head_said found)) c.in_ok-found.was c.head_at.ensures) c.in_ok-read.was c.claims.ensures)
-    (λ db told keyed. record { head = subst (ReadsHeadAt (pos 1) db) (sym c.head_told.ensures) (told.0 keyed); claims = subst (ReadsClaims db) (sym (ap (map opening.claim_said) c.in_ok-told.ensures ∙ map-map opening.claim_said claim_told c.in_ok-read.read.items)) (told.1 keyed) })
+    (seen_then (λ db found. AreKeyed db → ReadsClaims db (map claim_said found.items))
+    (seen (λ db found. AreKeyed db → ReadsHeadAt (pos 1) db (option_map head_said found)) c.in_ok-found.was
+    c.head_at.ensures) c.in_ok-read.was c.claims.ensures)
+    (λ db told keyed. record {
+      head = subst (ReadsHeadAt (pos 1) db) (sym c.head_told.ensures) (told.0 keyed);
+      claims = subst (ReadsClaims db) (sym (ap (map opening.claim_said) c.in_ok-told.ensures
+          ∙ map-map opening.claim_said claim_told c.in_ok-read.read.items)) (told.1 keyed);
+    })

@@ -6,4 +6,5 @@ use Rattle.opening_verdict.proofs.accounting.check_apart.Goals as goal
 
 pub returns-then-not-do_rise-clause-fault : goal.returns-then-not-do_rise-clause-fault
 returns-then-not-do_rise-clause-fault c = λ w is.
-    inl (λ apart. false≢true (sym c.if-not-do_rise.true ∙ c.do_rise.ensures.1 ((arranged_same c.args.sights.now w.packages is.packages).1 apart)))
+    inl (λ apart. false≢true (sym c.if-not-do_rise.true ∙ c.do_rise.ensures.1
+    ((arranged_same c.args.sights.now w.packages is.packages).1 apart)))

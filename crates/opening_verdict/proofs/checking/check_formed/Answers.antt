@@ -5,4 +5,5 @@ use Rattle.opening_faults.specs.Unfit.{IsUnfit}
 use Rattle.opening_verdict.proofs.checking.check_formed.Goals as goal
 
 pub returns-in-None-clause-formed : goal.returns-in-None-clause-formed
-returns-in-None-clause-formed c = subst (λ live. IsNever (IsUnfit live c.args.formed.now c.args.sights.now)) c.requires.live (rw c.in-None.is at c.in_ok-id.ensures.none)
+returns-in-None-clause-formed c = subst (λ live. IsNever (IsUnfit live c.args.formed.now c.args.sights.now))
+    c.requires.live (rw c.in-None.is at c.in_ok-id.ensures.none)

@@ -8,4 +8,5 @@ pub returns : goal.returns
 returns c =
     let was : c.unwrap_or-before.result ≡ last_in c.args.last.now c.args.package = cc in
     let top : c.max.result ≡ max c.unwrap_or-before.result c.args.seq = search rules in
-    last_noted c.args.last.now c.insert.new.self c.args.package c.unwrap_or-before.result c.args.seq c.max.result was top c.in_ok-insert.ensures.updates
+    last_noted c.args.last.now c.insert.new.self c.args.package c.unwrap_or-before.result c.args.seq c.max.result was
+    top c.in_ok-insert.ensures.updates

@@ -4,10 +4,13 @@ use Rattle.package_copy.proofs.Reopening.{clean, rests_again, keyed_again, shows
 use Rattle.package_copy.proofs.copies.reopened.Goals as goal
 
 pub returns-clause-rests : goal.returns-clause-rests
-returns-clause-rests c = rests_again (state over_memory c.args.conn) (state over_memory c.in_ok-readopt.field-0) clean c.in_ok-readopt.ensures.adopted
+returns-clause-rests c = rests_again (state over_memory c.args.conn) (state over_memory c.in_ok-readopt.field-0) clean
+    c.in_ok-readopt.ensures.adopted
 
 pub returns-clause-same : goal.returns-clause-same
-returns-clause-same c = shows_again (state over_memory c.args.conn) (state over_memory c.in_ok-readopt.field-0) clean c.in_ok-readopt.ensures.adopted c.schema.ensures.live c.requires
+returns-clause-same c = shows_again (state over_memory c.args.conn) (state over_memory c.in_ok-readopt.field-0) clean
+    c.in_ok-readopt.ensures.adopted c.schema.ensures.live c.requires
 
 pub returns-clause-keyed : goal.returns-clause-keyed
-returns-clause-keyed c = keyed_again (state over_memory c.args.conn) (state over_memory c.in_ok-readopt.field-0) clean c.in_ok-readopt.ensures.adopted
+returns-clause-keyed c = keyed_again (state over_memory c.args.conn) (state over_memory c.in_ok-readopt.field-0) clean
+    c.in_ok-readopt.ensures.adopted

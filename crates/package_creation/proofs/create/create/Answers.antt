@@ -6,7 +6,8 @@ pub returns-in-Ok-clause-clean : goal.returns-in-Ok-clause-clean
 returns-in-Ok-clause-clean g c clean = omega (arith, c.in-Ok.ensures.turns.survives.clean, clean)
 
 pub returns-in-Ok-clause-made : goal.returns-in-Ok-clause-made
-returns-in-Ok-clause-made g c blank clean = let done = c.in-Ok.ensures.turns.done clean in (done.0 (blank (returns-in-Ok-clause-clean g c clean)), done.1)
+returns-in-Ok-clause-made g c blank clean = let done = c.in-Ok.ensures.turns.done clean in
+    (done.0 (blank (returns-in-Ok-clause-clean g c clean)), done.1)
 
 pub returns-in-Ok-clause-rests : goal.returns-in-Ok-clause-rests
 returns-in-Ok-clause-rests g c = c.in-Ok.ensures.turns.rests

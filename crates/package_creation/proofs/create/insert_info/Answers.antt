@@ -13,4 +13,9 @@ returns-clause-steps g c =
     let depth : to_z w64 i.depth ≡ pos i.depth = to_z_pos w64 i.depth (omega (arith, c.requires.0)) in
     let loan : to_z w64 i.loan ≡ pos i.loan = to_z_pos w64 i.loan (omega (arith, c.requires.1)) in
     makes_steps (Adds heads (head_of i.package i.parent i.depth i.loan i.created.now))
-    (rw (c.encode_lower-package.ensures.text ∙ ap uuid_text c.hyphenated.ensures, c.encode_lower-parent.ensures, depth, loan) at c.insert_head.ensures.wrote) c.insert_head.ensures.survives
+    (rw (
+      c.encode_lower-package.ensures.text ∙ ap uuid_text c.hyphenated.ensures,
+      c.encode_lower-parent.ensures,
+      depth,
+      loan,
+    ) at c.insert_head.ensures.wrote) c.insert_head.ensures.survives

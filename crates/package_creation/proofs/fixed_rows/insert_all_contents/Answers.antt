@@ -21,9 +21,12 @@ returns-clause-steps g c =
     let f = c.args.frame.now in
     let at = c.args.at.now in
     made_then contents_listed [] (rows f at ∷ tiles f at ∷ []) (contents_of f at)
-    (made_then contents_listed [] (tiles f at ∷ []) (rows f at ∷ tiles f at ∷ []) (made_by contents_listed (tiles f at) [] (tiles f at ∷ []) refl refl c.in_ok-insert_content.ensures.steps)
-    (made_by contents_listed (rows f at) (tiles f at ∷ []) (rows f at ∷ tiles f at ∷ []) refl refl c.in_ok-insert_content-2.ensures.steps))
-    (made_by contents_listed (media f at) (rows f at ∷ tiles f at ∷ []) (contents_of f at) refl refl c.insert_content-3.ensures.steps)
+    (made_then contents_listed [] (tiles f at ∷ []) (rows f at ∷ tiles f at ∷ [])
+    (made_by contents_listed (tiles f at) [] (tiles f at ∷ []) refl refl c.in_ok-insert_content.ensures.steps)
+    (made_by contents_listed (rows f at) (tiles f at ∷ []) (rows f at ∷ tiles f at ∷ []) refl refl
+    c.in_ok-insert_content-2.ensures.steps))
+    (made_by contents_listed (media f at) (rows f at ∷ tiles f at ∷ []) (contents_of f at) refl refl
+    c.insert_content-3.ensures.steps)
 
 pub returns-in_err-insert_content-clause-steps : goal.returns-in_err-insert_content-clause-steps
 returns-in_err-insert_content-clause-steps g c = steps_failed _ c.from_residual.ensures.0 c.insert_content.ensures.steps
@@ -33,5 +36,7 @@ returns-in_err-insert_content-2-clause-steps g c =
     let f = c.args.frame.now in
     let at = c.args.at.now in
     steps_failed _ c.from_residual-in_err-insert_content-2.ensures.0
-    (made_then contents_listed [] (tiles f at ∷ []) (rows f at ∷ tiles f at ∷ []) (made_by contents_listed (tiles f at) [] (tiles f at ∷ []) refl refl c.in_ok-insert_content.ensures.steps)
-    (made_by contents_listed (rows f at) (tiles f at ∷ []) (rows f at ∷ tiles f at ∷ []) refl refl c.insert_content-2.ensures.steps))
+    (made_then contents_listed [] (tiles f at ∷ []) (rows f at ∷ tiles f at ∷ [])
+    (made_by contents_listed (tiles f at) [] (tiles f at ∷ []) refl refl c.in_ok-insert_content.ensures.steps)
+    (made_by contents_listed (rows f at) (tiles f at ∷ []) (rows f at ∷ tiles f at ∷ []) refl refl
+    c.insert_content-2.ensures.steps))

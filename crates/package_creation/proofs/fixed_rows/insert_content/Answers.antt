@@ -14,4 +14,5 @@ returns-clause-steps g c =
     let max_x : FitsSigned w64 a.frame.now.max_x = search rules in
     let max_y : FitsSigned w64 a.frame.now.max_y = search rules in
     makes_steps (Adds contents (content a.table_name.now a.data_type.now a.frame.now a.at.now))
-    (simp (to_z-of_z, srs_id, min_x, min_y, max_x, max_y) at c.insert_contents.ensures.wrote) c.insert_contents.ensures.survives
+    (simp (to_z-of_z, srs_id, min_x, min_y, max_x, max_y) at c.insert_contents.ensures.wrote)
+    c.insert_contents.ensures.survives

@@ -8,4 +8,5 @@ use Rattle.package_creation.proofs.fixed_rows.insert_mapping.Goals as goal
 pub returns-clause-steps : goal.returns-clause-steps
 returns-clause-steps g c =
     let a = c.args in
-    makes_steps (Adds relations (relation a.id a.base.now a.related.now a.name.now a.mapping.now)) (simp (to_z-of_z, c.ranges.id) at c.insert_relation.ensures.wrote) c.insert_relation.ensures.survives
+    makes_steps (Adds relations (relation a.id a.base.now a.related.now a.name.now a.mapping.now))
+    (simp (to_z-of_z, c.ranges.id) at c.insert_relation.ensures.wrote) c.insert_relation.ensures.survives

@@ -12,4 +12,6 @@ returns-clause-steps g c =
     let min_y : FitsSigned w64 a.frame.now.min_y = search rules in
     let max_x : FitsSigned w64 a.frame.now.max_x = search rules in
     let max_y : FitsSigned w64 a.frame.now.max_y = search rules in
-    entered_by matrix_sets_listed (matrix_set a.frame.now) [] (matrix_set a.frame.now ∷ []) refl refl (simp (to_z-of_z, srs_id, min_x, min_y, max_x, max_y) at c.insert_tile_matrix_set.ensures.wrote) c.insert_tile_matrix_set.ensures.survives
+    entered_by matrix_sets_listed (matrix_set a.frame.now) [] (matrix_set a.frame.now ∷ []) refl refl
+    (simp (to_z-of_z, srs_id, min_x, min_y, max_x, max_y) at c.insert_tile_matrix_set.ensures.wrote)
+    c.insert_tile_matrix_set.ensures.survives

@@ -13,7 +13,33 @@ returns-clause-wrote g c clean begun =
     let a = c.args in
     let old = state g.S.Store a.tx.now.conn.now in
     let new = state g.S.Store c.execute.new.self.conn.now in
-    let row : ContentsRow = record { table_name = a.table_name.now; data_type = a.data_type.now; identifier = a.identifier.now; description = a.description.now; last_change = a.last_change.now; min_x = a.min_x; min_y = a.min_y; max_x = a.max_x; max_y = a.max_y; srs_id = a.srs_id } in
-    enters contents_listed row contents_insert_text (contents_insert_row row) (λ there. (Int (next_rowid there), refl, refl)) old new c.execute.result _ c.settled.ensures _
-    (rw (c.params-to_sql.ensures, c.params-to_sql-2.ensures, c.params-to_sql-3.ensures, c.params-to_sql-4.ensures, c.params-to_sql-5.ensures, c.params-to_sql-6.ensures, c.params-to_sql-7.ensures, c.params-to_sql-8.ensures, c.params-to_sql-9.ensures, c.params-to_sql-10.ensures) (simp (to_z-of_z, c.ranges.min_x, c.ranges.min_y, c.ranges.max_x, c.ranges.max_y, c.ranges.srs_id) refl))
+    let row : ContentsRow = record {
+      table_name = a.table_name.now;
+      data_type = a.data_type.now;
+      identifier =
+          a.identifier.now;
+      description = a.description.now;
+      last_change = a.last_change.now;
+      min_x =
+          a.min_x;
+      min_y = a.min_y;
+      max_x = a.max_x;
+      max_y = a.max_y;
+      srs_id = a.srs_id;
+    } in
+    enters contents_listed row contents_insert_text (contents_insert_row row)
+    (λ there. (Int (next_rowid there), refl, refl)) old new c.execute.result _ c.settled.ensures _
+    (rw (
+      c.params-to_sql.ensures,
+      c.params-to_sql-2.ensures,
+      c.params-to_sql-3.ensures,
+      c.params-to_sql-4.ensures,
+      c.params-to_sql-5.ensures,
+      c.params-to_sql-6.ensures,
+      c.params-to_sql-7.ensures,
+      c.params-to_sql-8.ensures,
+      c.params-to_sql-9.ensures,
+      c.params-to_sql-10.ensures,
+    )
+    (simp (to_z-of_z, c.ranges.min_x, c.ranges.min_y, c.ranges.max_x, c.ranges.max_y, c.ranges.srs_id) refl))
     (c.execute.ensures.runs clean begun)

@@ -12,7 +12,28 @@ returns-clause-wrote g c clean begun =
     let a = c.args in
     let old = state g.S.Store a.tx.now.conn.now in
     let new = state g.S.Store c.execute.new.self.conn.now in
-    let row : RelationRow = record { id = a.id; base_table_name = a.base_table_name.now; base_primary_column = a.base_primary_column.now; related_table_name = a.related_table_name.now; related_primary_column = a.related_primary_column.now; relation_name = a.relation_name.now; mapping_table_name = a.mapping_table_name.now } in
-    enters relations_listed row relation_insert_text (relation_insert_row row) (λ there. (Int (pos 0), refl, refl)) old new c.execute.result _ c.settled.ensures _
-    (rw (c.params-to_sql.ensures, c.params-to_sql-2.ensures, c.params-to_sql-3.ensures, c.params-to_sql-4.ensures, c.params-to_sql-5.ensures, c.params-to_sql-6.ensures, c.params-to_sql-7.ensures) (simp (to_z-of_z, c.ranges.id) refl))
+    let row : RelationRow = record {
+      id = a.id;
+      base_table_name = a.base_table_name.now;
+      base_primary_column =
+          a.base_primary_column.now;
+      related_table_name = a.related_table_name.now;
+      related_primary_column =
+          a.related_primary_column.now;
+      relation_name = a.relation_name.now;
+      mapping_table_name =
+          a.mapping_table_name.now;
+    } in
+    enters relations_listed row relation_insert_text (relation_insert_row row) (λ there. (Int (pos 0), refl, refl))
+    old new c.execute.result _ c.settled.ensures _
+    (rw (
+      c.params-to_sql.ensures,
+      c.params-to_sql-2.ensures,
+      c.params-to_sql-3.ensures,
+      c.params-to_sql-4.ensures,
+      c.params-to_sql-5.ensures,
+      c.params-to_sql-6.ensures,
+      c.params-to_sql-7.ensures,
+    )
+    (simp (to_z-of_z, c.ranges.id) refl))
     (c.execute.ensures.runs clean begun)

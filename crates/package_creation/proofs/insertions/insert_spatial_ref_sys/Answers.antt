@@ -12,7 +12,25 @@ returns-clause-wrote g c clean begun =
     let a = c.args in
     let old = state g.S.Store a.tx.now.conn.now in
     let new = state g.S.Store c.execute.new.self.conn.now in
-    let row : SpatialRefSysRow = record { srs_name = a.srs_name.now; srs_id = a.srs_id; organization = a.organization.now; organization_coordsys_id = a.organization_coordsys_id; definition = a.definition.now; description = a.description.now } in
-    enters systems_listed row spatial_ref_sys_insert_text (spatial_ref_sys_insert_row row) (λ there. (Int (pos 0), refl, refl)) old new c.execute.result _ c.settled.ensures _
-    (rw (c.params-to_sql.ensures, c.params-to_sql-2.ensures, c.params-to_sql-3.ensures, c.params-to_sql-4.ensures, c.params-to_sql-5.ensures, c.params-to_sql-6.ensures) (simp (to_z-of_z, c.ranges.srs_id, c.ranges.organization_coordsys_id) refl))
+    let row : SpatialRefSysRow = record {
+      srs_name = a.srs_name.now;
+      srs_id = a.srs_id;
+      organization =
+          a.organization.now;
+      organization_coordsys_id = a.organization_coordsys_id;
+      definition =
+          a.definition.now;
+      description = a.description.now;
+    } in
+    enters systems_listed row spatial_ref_sys_insert_text (spatial_ref_sys_insert_row row)
+    (λ there. (Int (pos 0), refl, refl)) old new c.execute.result _ c.settled.ensures _
+    (rw (
+      c.params-to_sql.ensures,
+      c.params-to_sql-2.ensures,
+      c.params-to_sql-3.ensures,
+      c.params-to_sql-4.ensures,
+      c.params-to_sql-5.ensures,
+      c.params-to_sql-6.ensures,
+    )
+    (simp (to_z-of_z, c.ranges.srs_id, c.ranges.organization_coordsys_id) refl))
     (c.execute.ensures.runs clean begun)

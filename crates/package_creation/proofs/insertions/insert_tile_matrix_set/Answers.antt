@@ -13,7 +13,24 @@ returns-clause-wrote g c clean begun =
     let a = c.args in
     let old = state g.S.Store a.tx.now.conn.now in
     let new = state g.S.Store c.execute.new.self.conn.now in
-    let row : TileMatrixSetRow = record { table_name = a.table_name.now; srs_id = a.srs_id; min_x = a.min_x; min_y = a.min_y; max_x = a.max_x; max_y = a.max_y } in
-    enters matrix_sets_listed row tile_matrix_set_insert_text (tile_matrix_set_insert_row row) (λ there. (Int (next_rowid there), refl, refl)) old new c.execute.result _ c.settled.ensures _
-    (rw (c.params-to_sql.ensures, c.params-to_sql-2.ensures, c.params-to_sql-3.ensures, c.params-to_sql-4.ensures, c.params-to_sql-5.ensures, c.params-to_sql-6.ensures) (simp (to_z-of_z, c.ranges.srs_id, c.ranges.min_x, c.ranges.min_y, c.ranges.max_x, c.ranges.max_y) refl))
+    let row : TileMatrixSetRow = record {
+      table_name = a.table_name.now;
+      srs_id = a.srs_id;
+      min_x = a.min_x;
+      min_y =
+          a.min_y;
+      max_x = a.max_x;
+      max_y = a.max_y;
+    } in
+    enters matrix_sets_listed row tile_matrix_set_insert_text (tile_matrix_set_insert_row row)
+    (λ there. (Int (next_rowid there), refl, refl)) old new c.execute.result _ c.settled.ensures _
+    (rw (
+      c.params-to_sql.ensures,
+      c.params-to_sql-2.ensures,
+      c.params-to_sql-3.ensures,
+      c.params-to_sql-4.ensures,
+      c.params-to_sql-5.ensures,
+      c.params-to_sql-6.ensures,
+    )
+    (simp (to_z-of_z, c.ranges.srs_id, c.ranges.min_x, c.ranges.min_y, c.ranges.max_x, c.ranges.max_y) refl))
     (c.execute.ensures.runs clean begun)

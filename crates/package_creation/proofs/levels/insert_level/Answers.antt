@@ -15,7 +15,8 @@ returns-clause-steps g c =
     let height : FitsSigned w64 c.axes_at-axes.result.down.tiles = search rules in
     let across : FitsSigned w64 c.axes_at-axes.result.across.pixel_size = search rules in
     let down : FitsSigned w64 c.axes_at-axes.result.down.pixel_size = search rules in
-    let made = simp (to_z-of_z, zoom, tile_width, tile_height, width, height, across, down) at c.insert_tile_matrix.ensures.wrote in
+    let made = simp (to_z-of_z, zoom, tile_width, tile_height, width, height, across, down) at
+    c.insert_tile_matrix.ensures.wrote in
     makes_steps (Adds matrices (level_row a.frame.now a.zoom))
     (rw (simp (to_z-of_z, zoom) at c.axes_at-axes.ensures.axes) at made)
     c.insert_tile_matrix.ensures.survives

@@ -1,4 +1,5 @@
-use Rattle.std.proofs.Common.{[], ◌∙◌, ◌≡◌, ◌+◌, ◌≤ℤ◌, ◌+ℤ◌, pos, refl, rules, arith, subst, to_z-of_z, unsigned_abs, FitsSigned, w64}
+use Rattle.std.proofs.Common.{[], ◌∙◌, ◌≡◌, ◌+◌, ◌≤ℤ◌, ◌+ℤ◌, pos, refl, rules, arith, subst, to_z-of_z, unsigned_abs}
+use Rattle.std.proofs.Common.{FitsSigned, w64}
 use Rattle.sqlite.specs.Held.{state}
 use Rattle.matrix_rules.proofs.Frames.{good_frame}
 use Rattle.store_sql.specs.Transactions.{Steps}
@@ -25,17 +26,24 @@ loop-level-preserved g c =
     let good = good_frame f c.requires in
     let low : pos 0 ≤ℤ f.first_zoom = good.first_zoom in
     let fits : FitsSigned w64 c.zoom_at.result = search rules in
-    let row = subst (λ z. Steps (λ _. OnTables (Adds matrices (level_row f z))) (state g.S.Store c.loop-level.tx.conn.now) (state g.S.Store c.insert_level.new.tx.conn.now) done) c.zoom_at.ensures.zoom (simp (to_z-of_z, fits) at c.in_ok-insert_level.ensures.steps) in
+    let row = subst (λ z. Steps (λ _. OnTables (Adds matrices (level_row f z)))
+    (state g.S.Store c.loop-level.tx.conn.now) (state g.S.Store c.insert_level.new.tx.conn.now) done)
+    c.zoom_at.ensures.zoom (simp (to_z-of_z, fits) at c.in_ok-insert_level.ensures.steps) in
     record {
       same = c.insert_level.ensures.same_reference ∙ c.loop-level.invariant.same;
-      each = made_then matrices_listed [] (first_levels f k) (first_levels f (k + 1)) c.loop-level.invariant.each (made_by matrices_listed (level_row f (f.first_zoom +ℤ pos k)) (first_levels f k) (first_levels f (k + 1)) (level_free f k low) (level_comes f k low) row);
+      each = made_then matrices_listed [] (first_levels f k) (first_levels f (k + 1)) c.loop-level.invariant.each
+          (made_by matrices_listed (level_row f (f.first_zoom +ℤ pos k)) (first_levels f k) (first_levels f (k + 1))
+          (level_free f k low) (level_comes f k low) row);
     }
 
 pub returns-clause-steps : goal.returns-clause-steps
 returns-clause-steps g c =
     let f = c.args.frame.now in
-    let all : c.loop-level.level ≡ unsigned_abs f.levels = omega (arith, c.level_count-levels.ensures, c.loop-level-test.false, c.loop-level.auto.level-end) in
-    subst (λ n. Steps (λ _. OnTables (ListBecomes matrices [] (first_levels f n))) (state g.S.Store c.args.tx.now.conn.now) (state g.S.Store c.loop-level.tx.conn.now) done) all c.loop-level.invariant.each
+    let all : c.loop-level.level ≡ unsigned_abs f.levels = omega
+    (arith, c.level_count-levels.ensures, c.loop-level-test.false, c.loop-level.auto.level-end) in
+    subst (λ n. Steps (λ _. OnTables (ListBecomes matrices [] (first_levels f n)))
+    (state g.S.Store c.args.tx.now.conn.now) (state g.S.Store c.loop-level.tx.conn.now) done) all
+    c.loop-level.invariant.each
 
 pub returns-in_err-insert_level-clause-steps : goal.returns-in_err-insert_level-clause-steps
 returns-in_err-insert_level-clause-steps g c =
@@ -44,5 +52,9 @@ returns-in_err-insert_level-clause-steps g c =
     let good = good_frame f c.requires in
     let low : pos 0 ≤ℤ f.first_zoom = good.first_zoom in
     let fits : FitsSigned w64 c.zoom_at.result = search rules in
-    let row = subst (λ z. Steps (λ _. OnTables (Adds matrices (level_row f z))) (state g.S.Store c.loop-level.tx.conn.now) (state g.S.Store c.insert_level.new.tx.conn.now) c.insert_level.result) c.zoom_at.ensures.zoom (simp (to_z-of_z, fits) at c.insert_level.ensures.steps) in
-    steps_failed _ c.from_residual.ensures.0 (made_then matrices_listed [] (first_levels f k) (first_levels f (k + 1)) c.loop-level.invariant.each (made_by matrices_listed (level_row f (f.first_zoom +ℤ pos k)) (first_levels f k) (first_levels f (k + 1)) (level_free f k low) (level_comes f k low) row))
+    let row = subst (λ z. Steps (λ _. OnTables (Adds matrices (level_row f z)))
+    (state g.S.Store c.loop-level.tx.conn.now) (state g.S.Store c.insert_level.new.tx.conn.now)
+    c.insert_level.result) c.zoom_at.ensures.zoom (simp (to_z-of_z, fits) at c.insert_level.ensures.steps) in
+    steps_failed _ c.from_residual.ensures.0 (made_then matrices_listed [] (first_levels f k) (first_levels f (k + 1))
+    c.loop-level.invariant.each (made_by matrices_listed (level_row f (f.first_zoom +ℤ pos k)) (first_levels f k)
+    (first_levels f (k + 1)) (level_free f k low) (level_comes f k low) row))

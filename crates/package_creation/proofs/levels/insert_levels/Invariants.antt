@@ -11,5 +11,6 @@ use Rattle.package_creation.proofs.levels.insert_levels.Given as goal
 abbrev pub invariant-loop-level : goal.invariant-loop-level
 invariant-loop-level g l = record {
   same : l.tx.conn.ghost_name ≡ l.fn.tx.conn.ghost_name;
-  each : Steps {X = Unit {0}} {E = Fault} (λ _. OnTables (ListBecomes matrices [] (first_levels l.fn.frame l.level))) (state g.S.Store l.fn.tx.conn.now) (state g.S.Store l.tx.conn.now) (Ok tt);
+  each : Steps {X = Unit {0}} {E = Fault} (λ _. OnTables (ListBecomes matrices [] (first_levels l.fn.frame l.level)))
+      (state g.S.Store l.fn.tx.conn.now) (state g.S.Store l.tx.conn.now) (Ok tt);
 }

@@ -13,11 +13,16 @@ pub returns-in-None : goal.returns-in-None
 returns-in-None g c =
     let e = c.query_all.ensures in
     asked (λ last t x. IsLeast (λ y. y.id) (filter (λ y. is_past last y.id) t.tiles) x) (sym c.in-None.is)
-    (looks_next known tile_first (λ rows. rows.items) _ refl g.S.Store g.met.S.Store.shut_if_dirty g.met.S.Store.settled c.args.conn.now c.query_all.new.self c.requires c.query_all.result e.ok e.err e.mode e.survives c.first_of.result c.first_of.ensures.first)
+    (looks_next known tile_first (λ rows. rows.items) _ refl g.S.Store g.met.S.Store.shut_if_dirty
+    g.met.S.Store.settled c.args.conn.now c.query_all.new.self c.requires c.query_all.result e.ok e.err e.mode
+    e.survives c.first_of.result c.first_of.ensures.first)
 
 pub returns-in-Some : goal.returns-in-Some
 returns-in-Some g c =
     let id : FitsSigned w64 c.in-Some.id = search rules in
     let e = c.query_all-in-Some.ensures in
     asked (λ last t x. IsLeast (λ y. y.id) (filter (λ y. is_past last y.id) t.tiles) x) (sym c.in-Some.is)
-    (looks_next known (tile_after c.in-Some.id) (λ rows. rows.items) _ (rw (c.params-to_sql.ensures) (simp (to_z-of_z, id) refl)) g.S.Store g.met.S.Store.shut_if_dirty g.met.S.Store.settled c.args.conn.now c.query_all-in-Some.new.self c.requires c.query_all-in-Some.result e.ok e.err e.mode e.survives c.first_of-in-Some.result c.first_of-in-Some.ensures.first)
+    (looks_next known (tile_after c.in-Some.id) (λ rows. rows.items) _
+    (rw (c.params-to_sql.ensures) (simp (to_z-of_z, id) refl)) g.S.Store g.met.S.Store.shut_if_dirty
+    g.met.S.Store.settled c.args.conn.now c.query_all-in-Some.new.self c.requires c.query_all-in-Some.result e.ok
+    e.err e.mode e.survives c.first_of-in-Some.result c.first_of-in-Some.ensures.first)

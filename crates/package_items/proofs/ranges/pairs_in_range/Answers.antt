@@ -15,8 +15,12 @@ use Rattle.package_items.proofs.ranges.pairs_in_range.Goals as goal
 pub returns : goal.returns
 returns g c =
     let found = c.deref.result.now in
-    tells (λ t. Decides (AllByRecursion (λ r. is_pair_in_range r ≡ true) (mapping_rows c.args.mapping t))) (looked (λ t x. AreAll (then_cmp (on (λ x. x.base_id) int_cmp) (on (λ x. x.related_id) int_cmp)) (mapping_rows c.args.mapping t) x.items) c.in_ok-pairs.was c.all_pairs.ensures)
-    (λ t h. decides_moved (λ r. is_pair_in_range r ≡ true) (mapping_rows c.args.mapping t) found c.are_pairs_in_range.result (subst (IsPermutation (mapping_rows c.args.mapping t)) (sym c.deref.ensures.value) h.0) c.are_pairs_in_range.ensures)
+    tells (λ t. Decides (AllByRecursion (λ r. is_pair_in_range r ≡ true) (mapping_rows c.args.mapping t)))
+    (looked (λ t x. AreAll (then_cmp (on (λ x. x.base_id) int_cmp) (on (λ x. x.related_id) int_cmp))
+    (mapping_rows c.args.mapping t) x.items) c.in_ok-pairs.was c.all_pairs.ensures)
+    (λ t h. decides_moved (λ r. is_pair_in_range r ≡ true) (mapping_rows c.args.mapping t) found
+    c.are_pairs_in_range.result (subst (IsPermutation (mapping_rows c.args.mapping t)) (sym c.deref.ensures.value)
+    h.0) c.are_pairs_in_range.ensures)
 
 -- a look that failed leaves the store as it was too
 pub returns-in_err-pairs : goal.returns-in_err-pairs

@@ -10,17 +10,32 @@ use Rattle.package_items.specs.declared.user_tables.UserTable.TheVariants.{TileT
 use Rattle.package_items.proofs.ranges.user_rows_in_range.Goals as goal
 
 pub returns-then-not-branch : goal.returns-then-not-branch
-returns-then-not-branch g c = says_no {P = λ (t : Tables). AreRowsInRange c.args.frame.now TileTable t} {Q = λ (t : Tables). AreUserRowsInRange c.args.frame.now t} (c.in_ok-rows_in_range.was ∙ ap Ok c.if-not-branch.true) c.rows_in_range.ensures (λ t q. q.tiles)
+returns-then-not-branch g c = says_no {P = λ (t : Tables). AreRowsInRange c.args.frame.now TileTable t}
+    {Q = λ (t : Tables). AreUserRowsInRange c.args.frame.now t}
+    (c.in_ok-rows_in_range.was ∙ ap Ok c.if-not-branch.true) c.rows_in_range.ensures (λ t q. q.tiles)
 
 pub returns-then-not-branch-2 : goal.returns-then-not-branch-2
-returns-then-not-branch-2 g c = says_no_then {P = λ (t : Tables). AreRowsInRange c.args.frame.now MediaTable t} {Q = λ (t : Tables). AreUserRowsInRange c.args.frame.now t} (looked (λ t. Decides (AreRowsInRange c.args.frame.now TileTable t)) (c.in_ok-rows_in_range.was ∙ ap Ok c.if-not-branch.false) c.rows_in_range.ensures) (c.in_ok-rows_in_range-2.was ∙ ap Ok c.if-not-branch-2.true) c.rows_in_range-2.ensures (λ t q. q.media)
+returns-then-not-branch-2 g c = says_no_then {P = λ (t : Tables). AreRowsInRange c.args.frame.now MediaTable t}
+    {Q = λ (t : Tables). AreUserRowsInRange c.args.frame.now t}
+    (looked (λ t. Decides (AreRowsInRange c.args.frame.now TileTable t))
+    (c.in_ok-rows_in_range.was ∙ ap Ok c.if-not-branch.false) c.rows_in_range.ensures)
+    (c.in_ok-rows_in_range-2.was ∙ ap Ok c.if-not-branch-2.true) c.rows_in_range-2.ensures (λ t q. q.media)
 
 pub returns : goal.returns
-returns g c = says_last {P = λ (t : Tables). AreRowsInRange c.args.frame.now RowTable t} {Q = λ (t : Tables). AreUserRowsInRange c.args.frame.now t} c.rows_in_range-3.result (looked_then (λ t. Decides (AreRowsInRange c.args.frame.now MediaTable t)) (looked (λ t. Decides (AreRowsInRange c.args.frame.now TileTable t)) (c.in_ok-rows_in_range.was ∙ ap Ok c.if-not-branch.false) c.rows_in_range.ensures) (c.in_ok-rows_in_range-2.was ∙ ap Ok c.if-not-branch-2.false) c.rows_in_range-2.ensures) c.rows_in_range-3.ensures (λ t h p. record { tiles = h.0; media = h.1; rows = p }) (λ t q. q.rows)
+returns g c = says_last {P = λ (t : Tables). AreRowsInRange c.args.frame.now RowTable t}
+    {Q = λ (t : Tables). AreUserRowsInRange c.args.frame.now t} c.rows_in_range-3.result
+    (looked_then (λ t. Decides (AreRowsInRange c.args.frame.now MediaTable t))
+    (looked (λ t. Decides (AreRowsInRange c.args.frame.now TileTable t))
+    (c.in_ok-rows_in_range.was ∙ ap Ok c.if-not-branch.false) c.rows_in_range.ensures)
+    (c.in_ok-rows_in_range-2.was ∙ ap Ok c.if-not-branch-2.false) c.rows_in_range-2.ensures) c.rows_in_range-3.ensures
+    (λ t h p. record { tiles = h.0; media = h.1; rows = p }) (λ t q. q.rows)
 
 -- a look that failed leaves the store as it was too
 pub returns-in_err-rows_in_range : goal.returns-in_err-rows_in_range
-returns-in_err-rows_in_range g c = fails c.from_residual.result c.from_residual.ensures.0 (looks_stays c.rows_in_range.ensures)
+returns-in_err-rows_in_range g c = fails c.from_residual.result c.from_residual.ensures.0
+    (looks_stays c.rows_in_range.ensures)
 
 pub returns-in_err-rows_in_range-2 : goal.returns-in_err-rows_in_range-2
-returns-in_err-rows_in_range-2 g c = fails c.from_residual-in_err-rows_in_range-2.result c.from_residual-in_err-rows_in_range-2.ensures.0 (stays_then (looks_stays c.rows_in_range.ensures) (looks_stays c.rows_in_range-2.ensures))
+returns-in_err-rows_in_range-2 g c = fails c.from_residual-in_err-rows_in_range-2.result
+    c.from_residual-in_err-rows_in_range-2.ensures.0 (stays_then (looks_stays c.rows_in_range.ensures)
+    (looks_stays c.rows_in_range-2.ensures))

@@ -7,7 +7,8 @@ use Rattle.package_items.specs.Ties.{AreKeysOf}
 use Rattle.package_items.proofs.tied.are_tied.Goals as goal
 
 pub returns : goal.returns
-returns g c = tells (λ t. Decides (AreTied t)) (looked AreKeysOf c.in_ok-keys.was c.read_keys.ensures) (λ t known. c.are_tied_by.ensures t known)
+returns g c = tells (λ t. Decides (AreTied t)) (looked AreKeysOf c.in_ok-keys.was c.read_keys.ensures)
+    (λ t known. c.are_tied_by.ensures t known)
 
 -- a look that failed leaves the store as it was too
 pub returns-in_err-keys : goal.returns-in_err-keys

@@ -15,6 +15,9 @@ returns c =
     let two : FitsSigned w64 c.number_of_kind-2.result = search rules in
     let first : FitsSigned w64 c.args.pair.base_id = search rules in
     let second : FitsSigned w64 c.args.pair.related_id = search rules in
-    let base : c.number_of_kind.result ≡ pos (kind_number (base_kind m)) = c.number_of_kind.ensures ∙ ap (λ k. pos (kind_number k)) c.base_kind.ensures in
-    let other : c.number_of_kind-2.result ≡ pos (kind_number (other_kind m)) = c.number_of_kind-2.ensures ∙ ap (λ k. pos (kind_number k)) c.other_kind.ensures in
-    λ n. (simp (to_z-of_z, one, first) at c.has-base.ensures ∙ ap (λ k. has_key names (k, pair.base_id)) base) n && (simp (to_z-of_z, two, second) at c.has-other.ensures ∙ ap (λ k. has_key names (k, pair.related_id)) other) n
+    let base : c.number_of_kind.result ≡ pos (kind_number (base_kind m)) =
+    c.number_of_kind.ensures ∙ ap (λ k. pos (kind_number k)) c.base_kind.ensures in
+    let other : c.number_of_kind-2.result ≡ pos (kind_number (other_kind m)) =
+    c.number_of_kind-2.ensures ∙ ap (λ k. pos (kind_number k)) c.other_kind.ensures in
+    λ n. (simp (to_z-of_z, one, first) at c.has-base.ensures ∙ ap (λ k. has_key names (k, pair.base_id)) base) n &&
+    (simp (to_z-of_z, two, second) at c.has-other.ensures ∙ ap (λ k. has_key names (k, pair.related_id)) other) n

@@ -15,35 +15,50 @@ use Rattle.package_items.proofs.tied.read_keys.Goals as goal
 
 -- all rows of a mapping table
 abbrev ArePairs : Mapping → Tables → List MappingRow → Type 0
-ArePairs m t found = AreAll (then_cmp (on (λ r. r.base_id) int_cmp) (on (λ r. r.related_id) int_cmp)) (mapping_rows m t) found
+ArePairs m t found = AreAll (then_cmp (on (λ r. r.base_id) int_cmp) (on (λ r. r.related_id) int_cmp))
+    (mapping_rows m t) found
 
 pub returns-in_err-tiles_media : goal.returns-in_err-tiles_media
 returns-in_err-tiles_media g c =
     fails c.from_residual-in_err-tiles_media.result c.from_residual-in_err-tiles_media.ensures.0
-    (stays_then (stays_then (looks_stays c.read_names.ensures) (looks_stays c.read_rows.ensures)) (looks_stays c.all_pairs.ensures))
+    (stays_then (stays_then (looks_stays c.read_names.ensures) (looks_stays c.read_rows.ensures))
+    (looks_stays c.all_pairs.ensures))
 
 pub returns-in_err-rows_media : goal.returns-in_err-rows_media
 returns-in_err-rows_media g c =
     fails c.from_residual-in_err-rows_media.result c.from_residual-in_err-rows_media.ensures.0
-    (stays_then (stays_then (stays_then (looks_stays c.read_names.ensures) (looks_stays c.read_rows.ensures)) (looks_stays c.all_pairs.ensures)) (looks_stays c.all_pairs-2.ensures))
+    (stays_then (stays_then (stays_then (looks_stays c.read_names.ensures) (looks_stays c.read_rows.ensures))
+    (looks_stays c.all_pairs.ensures)) (looks_stays c.all_pairs-2.ensures))
 
 pub returns-in_err-rows_tiles : goal.returns-in_err-rows_tiles
 returns-in_err-rows_tiles g c =
     fails c.from_residual-in_err-rows_tiles.result c.from_residual-in_err-rows_tiles.ensures.0
-    (stays_then (stays_then (stays_then (stays_then (looks_stays c.read_names.ensures) (looks_stays c.read_rows.ensures)) (looks_stays c.all_pairs.ensures)) (looks_stays c.all_pairs-2.ensures)) (looks_stays c.all_pairs-3.ensures))
+    (stays_then (stays_then (stays_then (stays_then (looks_stays c.read_names.ensures)
+    (looks_stays c.read_rows.ensures)) (looks_stays c.all_pairs.ensures)) (looks_stays c.all_pairs-2.ensures))
+    (looks_stays c.all_pairs-3.ensures))
 
 pub returns : goal.returns
 returns g c =
-    let names = looked (λ t x. IsPermutation (map name_key t.identities) x.items) c.in_ok-names.was c.read_names.ensures in
+    let names = looked (λ t x. IsPermutation (map name_key t.identities) x.items) c.in_ok-names.was
+    c.read_names.ensures in
     let rows = looked_then (λ t x. IsPermutation (row_keys t) x.items) names c.in_ok-rows.was c.read_rows.ensures in
     let first = looked_then (λ t x. ArePairs TilesMedia t x.items) rows c.in_ok-tiles_media.was c.all_pairs.ensures in
     let second = looked_then (λ t x. ArePairs RowsMedia t x.items) first c.in_ok-rows_media.was c.all_pairs-2.ensures in
-    tells AreKeysOf (looked_then (λ t x. ArePairs RowsTiles t x.items) second c.in_ok-rows_tiles.was c.all_pairs-3.ensures)
-    (λ t h. record { names = h.0.0.0.0; rows = h.0.0.0.1; tiles_media = h.0.0.1.0; rows_media = h.0.1.0; rows_tiles = h.1.0 })
+    tells AreKeysOf (looked_then (λ t x. ArePairs RowsTiles t x.items) second c.in_ok-rows_tiles.was
+    c.all_pairs-3.ensures)
+    (λ t h. record {
+      names = h.0.0.0.0;
+      rows = h.0.0.0.1;
+      tiles_media = h.0.0.1.0;
+      rows_media = h.0.1.0;
+      rows_tiles =
+          h.1.0;
+    })
 
 -- a look that failed leaves the store as it was too
 pub returns-in_err-names : goal.returns-in_err-names
 returns-in_err-names g c = fails c.from_residual.result c.from_residual.ensures.0 (looks_stays c.read_names.ensures)
 
 pub returns-in_err-rows : goal.returns-in_err-rows
-returns-in_err-rows g c = fails c.from_residual-in_err-rows.result c.from_residual-in_err-rows.ensures.0 (stays_then (looks_stays c.read_names.ensures) (looks_stays c.read_rows.ensures))
+returns-in_err-rows g c = fails c.from_residual-in_err-rows.result c.from_residual-in_err-rows.ensures.0
+    (stays_then (looks_stays c.read_names.ensures) (looks_stays c.read_rows.ensures))

@@ -12,5 +12,7 @@ returns g c = λ same.
     let order = g.met.K.Ord.total in
     let keys = c.args.keys.items in
     let long : c.len-count.result ≡ length keys = search rules in
-    let count : distinct_count (eq_by_cmp g.K.Ord.cmp) keys ≡ length keys = sym (btree_set_len-from_list order keys c.in_ok-set.set c.in_ok-set.ensures) ∙ sym c.len.ensures.len ∙ exact_unsigned_eq c.len.result c.len-count.result same ∙ long in
+    let count : distinct_count (eq_by_cmp g.K.Ord.cmp) keys ≡ length keys =
+    sym (btree_set_len-from_list order keys c.in_ok-set.set c.in_ok-set.ensures) ∙ sym c.len.ensures.len
+    ∙ exact_unsigned_eq c.len.result c.len-count.result same ∙ long in
     IsDistinct-from_count (eq_by_cmp_equiv order) keys count

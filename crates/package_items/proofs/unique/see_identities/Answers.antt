@@ -12,9 +12,14 @@ use Rattle.package_items.proofs.unique.see_identities.Goals as goal
 pub returns : goal.returns
 returns g c =
     let found = c.deref.result.now in
-    seen_last (λ t x. AreAll (then_cmp (on (λ x. x.kind) int_cmp) (on (λ x. x.local_id) int_cmp)) t.identities x.items) AreIdentitiesUnique c.in_ok-rows.was c.all_identities.ensures
+    seen_last (λ t x. AreAll (then_cmp (on (λ x. x.kind) int_cmp) (on (λ x. x.local_id) int_cmp)) t.identities
+    x.items) AreIdentitiesUnique c.in_ok-rows.was c.all_identities.ensures
     c.see_rows.result (both_so _ _ c.see_rows.result c.see_rows.ensures.numbers c.see_rows.ensures.uuids)
-    (λ t all apart. let moves = subst (IsPermutation t.identities) (sym c.deref.ensures.value) all.0 in record { numbers = rows_moved t.identities found moves apart.0; uuids = uuids_moved t.identities found moves apart.1 })
+    (λ t all apart. let moves = subst (IsPermutation t.identities) (sym c.deref.ensures.value) all.0 in record {
+      numbers = rows_moved t.identities found moves apart.0;
+      uuids =
+          uuids_moved t.identities found moves apart.1;
+    })
 
 -- a look that failed leaves the store as it was too
 pub returns-in_err-rows : goal.returns-in_err-rows

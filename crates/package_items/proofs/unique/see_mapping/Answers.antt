@@ -15,8 +15,10 @@ pub returns : goal.returns
 returns g c =
     let m = c.args.mapping in
     let found = c.deref.result.now in
-    seen_last (λ t x. AreAll (then_cmp (on (λ x. x.base_id) int_cmp) (on (λ x. x.related_id) int_cmp)) (mapping_rows m t) x.items) (λ t. IsDistinct is_pair (mapping_rows m t)) c.in_ok-pairs.was c.all_pairs.ensures
-    c.see_pairs.result c.see_pairs.ensures (λ t all apart. pairs_moved (mapping_rows m t) found (subst (IsPermutation (mapping_rows m t)) (sym c.deref.ensures.value) all.0) apart)
+    seen_last (λ t x. AreAll (then_cmp (on (λ x. x.base_id) int_cmp) (on (λ x. x.related_id) int_cmp))
+    (mapping_rows m t) x.items) (λ t. IsDistinct is_pair (mapping_rows m t)) c.in_ok-pairs.was c.all_pairs.ensures
+    c.see_pairs.result c.see_pairs.ensures (λ t all apart. pairs_moved (mapping_rows m t) found
+    (subst (IsPermutation (mapping_rows m t)) (sym c.deref.ensures.value) all.0) apart)
 
 -- a look that failed leaves the store as it was too
 pub returns-in_err-pairs : goal.returns-in_err-pairs

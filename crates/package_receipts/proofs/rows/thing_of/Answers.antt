@@ -14,6 +14,8 @@ pub returns-then-not-has_parts-clause-none : goal.returns-then-not-has_parts-cla
 returns-then-not-has_parts-clause-none c = λ r.
     let fits : FitsSigned w64 c.args.row.now.kind = kind_fits c.args.row.now.kind r.kind in
     let item : c.is_item.result ≡ is_item_number c.args.row.now.kind = simp (to_z-of_z, fits) at c.is_item.ensures in
-    let there = parts_there c.args.row.now c.args.other c.in-Some-digest_of.fingerprint c.requires.other.0 (sym c.as_str.ensures ∙ c.in-Some-digest_of.ensures.text) c.in-Some-digest_of.ensures.fit r in
-    let found : c.has_parts.result ≡ true = c.has_parts.ensures ∙ (λ n. has_parts (item n) (c.is_some.ensures n) (c.is_some-2.ensures n)) ∙ there in
+    let there = parts_there c.args.row.now c.args.other c.in-Some-digest_of.fingerprint c.requires.other.0
+    (sym c.as_str.ensures ∙ c.in-Some-digest_of.ensures.text) c.in-Some-digest_of.ensures.fit r in
+    let found : c.has_parts.result ≡ true = c.has_parts.ensures
+    ∙ (λ n. has_parts (item n) (c.is_some.ensures n) (c.is_some-2.ensures n)) ∙ there in
     true≢false (sym found ∙ c.if-not-has_parts.true)

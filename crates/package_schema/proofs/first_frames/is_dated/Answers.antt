@@ -13,8 +13,12 @@ use Rattle.package_schema.proofs.first_frames.is_dated.Goals as goal
 
 pub returns : goal.returns
 returns g c =
-    sees (λ db dated. IsFormed contents_shape db → (IsTrue dated ↔ AreDated (tables_of db))) (seen (λ db found. IsFormed contents_shape db → AreThose (λ _. true) (rows_of contents_shape db) found.items) c.in_ok-rows.was c.read_contents.ensures)
-    (λ db told formed. dated_moved (tables_of db).contents c.deref.result.now c.have_moments.result (subst (AreThose (λ _. true) (tables_of db).contents) (sym c.deref.ensures.value) (told formed)) c.have_moments.ensures)
+    sees (λ db dated. IsFormed contents_shape db → (IsTrue dated ↔ AreDated (tables_of db)))
+    (seen (λ db found. IsFormed contents_shape db → AreThose (λ _. true) (rows_of contents_shape db) found.items)
+    c.in_ok-rows.was c.read_contents.ensures)
+    (λ db told formed. dated_moved (tables_of db).contents c.deref.result.now c.have_moments.result
+    (subst (AreThose (λ _. true) (tables_of db).contents) (sym c.deref.ensures.value) (told formed))
+    c.have_moments.ensures)
 
 -- a look that failed leaves the store as it was too
 pub returns-in_err-rows : goal.returns-in_err-rows

@@ -9,12 +9,16 @@ use Rattle.package_schema.proofs.first_frames.read_first_frame.Goals as goal
 
 pub returns : goal.returns
 returns g c =
-    sees (λ db found. AreFormedAt (pos 1) db → ReadsFirstFrame (tables_of db) found) (seen (λ db found. AreFormedAt (pos 1) db → AreRead (tables_of db) found) c.in_ok-found.was c.first_rows.ensures)
-    (λ db told formed. first_frame_read db c.in_ok-found.found (told formed) c.in_ok-frame_of.field-0 c.in_ok-frame_of.ensures)
+    sees (λ db found. AreFormedAt (pos 1) db → ReadsFirstFrame (tables_of db) found)
+    (seen (λ db found. AreFormedAt (pos 1) db → AreRead (tables_of db) found) c.in_ok-found.was
+    c.first_rows.ensures)
+    (λ db told formed. first_frame_read db c.in_ok-found.found (told formed) c.in_ok-frame_of.field-0
+    c.in_ok-frame_of.ensures)
 
 -- a look that failed leaves the store as it was too
 pub returns-in_err-found : goal.returns-in_err-found
 returns-in_err-found g c = fails c.from_residual.result c.from_residual.ensures.0 (looks_stays c.first_rows.ensures)
 
 pub returns-in_err-frame_of : goal.returns-in_err-frame_of
-returns-in_err-frame_of g c = fails c.from_residual-in_err-frame_of.result c.from_residual-in_err-frame_of.ensures.0 (looks_stays c.first_rows.ensures)
+returns-in_err-frame_of g c = fails c.from_residual-in_err-frame_of.result c.from_residual-in_err-frame_of.ensures.0
+    (looks_stays c.first_rows.ensures)

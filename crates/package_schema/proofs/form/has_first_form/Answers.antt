@@ -15,20 +15,30 @@ pub returns-then-not-branch-2 : goal.returns-then-not-branch-2
 returns-then-not-branch-2 g c =
     let missing : c.in_ok-are_systems_filled.field-0 ≡ false = search rules in
     sees (λ db formed. AreKeyed db → (IsTrue formed ↔ HasFirstForm db))
-    (seen_then (λ db filled. AreKeyed db → AreFilled spatial_ref_sys_shape db filled) (seen (λ db found. IsDatabase db × (IsTrue found ↔ AreFirstPlaced db.schema)) c.in_ok-are_first_placed.was c.are_first_placed.ensures) c.in_ok-are_systems_filled.was c.are_systems_filled.ensures)
+    (seen_then (λ db filled. AreKeyed db → AreFilled spatial_ref_sys_shape db filled)
+    (seen (λ db found. IsDatabase db × (IsTrue found ↔ AreFirstPlaced db.schema)) c.in_ok-are_first_placed.was
+    c.are_first_placed.ensures) c.in_ok-are_systems_filled.was c.are_systems_filled.ensures)
     (λ db tried. first_not_filled db c.in_ok-are_first_placed.field-0 c.in_ok-are_systems_filled.field-0 tried missing)
 
 pub returns : goal.returns
 returns g c =
     let there : c.in_ok-are_first_placed.field-0 ≡ true = search rules in
     let has : c.in_ok-are_systems_filled.field-0 ≡ true = search rules in
-    sees_last (λ db filled. AreKeyed db → AreFilled contents_shape db filled) (λ db formed. AreKeyed db → (IsTrue formed ↔ HasFirstForm db)) c.are_contents_filled.result
-    (seen_then (λ db filled. AreKeyed db → AreFilled spatial_ref_sys_shape db filled) (seen (λ db found. IsDatabase db × (IsTrue found ↔ AreFirstPlaced db.schema)) c.in_ok-are_first_placed.was c.are_first_placed.ensures) c.in_ok-are_systems_filled.was c.are_systems_filled.ensures) c.are_contents_filled.ensures
-    (λ db full tried last. first_tells db c.in_ok-are_first_placed.field-0 c.in_ok-are_systems_filled.field-0 full tried there has last)
+    sees_last (λ db filled. AreKeyed db → AreFilled contents_shape db filled)
+    (λ db formed. AreKeyed db → (IsTrue formed ↔ HasFirstForm db)) c.are_contents_filled.result
+    (seen_then (λ db filled. AreKeyed db → AreFilled spatial_ref_sys_shape db filled)
+    (seen (λ db found. IsDatabase db × (IsTrue found ↔ AreFirstPlaced db.schema)) c.in_ok-are_first_placed.was
+    c.are_first_placed.ensures) c.in_ok-are_systems_filled.was c.are_systems_filled.ensures)
+    c.are_contents_filled.ensures
+    (λ db full tried last. first_tells db c.in_ok-are_first_placed.field-0 c.in_ok-are_systems_filled.field-0 full
+    tried there has last)
 
 -- a look that failed leaves the store as it was too
 pub returns-in_err-are_first_placed : goal.returns-in_err-are_first_placed
-returns-in_err-are_first_placed g c = fails c.from_residual.result c.from_residual.ensures.0 (looks_stays c.are_first_placed.ensures)
+returns-in_err-are_first_placed g c = fails c.from_residual.result c.from_residual.ensures.0
+    (looks_stays c.are_first_placed.ensures)
 
 pub returns-in_err-are_systems_filled : goal.returns-in_err-are_systems_filled
-returns-in_err-are_systems_filled g c = fails c.from_residual-in_err-are_systems_filled.result c.from_residual-in_err-are_systems_filled.ensures.0 (stays_then (looks_stays c.are_first_placed.ensures) (looks_stays c.are_systems_filled.ensures))
+returns-in_err-are_systems_filled g c = fails c.from_residual-in_err-are_systems_filled.result
+    c.from_residual-in_err-are_systems_filled.ensures.0 (stays_then (looks_stays c.are_first_placed.ensures)
+    (looks_stays c.are_systems_filled.ensures))

@@ -19,4 +19,20 @@ returns c =
     let row_down : FitsSigned w64 c.args.row.now.pixel_y_size = search rules in
     let down : FitsSigned w64 c.axes_at-axes.result.down.pixel_size = search rules in
     let axes = simp (to_z-of_z, zoom) at c.axes_at-axes.ensures.axes in
-    rw (c.is_text.ensures, same_number c.args.row.now.zoom_level c.args.zoom row_zoom zoom, same_number c.args.row.now.matrix_width c.axes_at-axes.result.across.tiles row_width width, same_number c.args.row.now.matrix_height c.axes_at-axes.result.down.tiles row_height height, same_number c.args.row.now.tile_width c.args.frame.now.tile_width row_tile_width tile_width, same_number c.args.row.now.tile_height c.args.frame.now.tile_height row_tile_height tile_height, same_number c.args.row.now.pixel_x_size c.axes_at-axes.result.across.pixel_size row_across across, same_number c.args.row.now.pixel_y_size c.axes_at-axes.result.down.pixel_size row_down down, axes) refl
+    rw (
+      c.is_text.ensures,
+      same_number c.args.row.now.zoom_level c.args.zoom row_zoom zoom,
+      same_number
+          c.args.row.now.matrix_width c.axes_at-axes.result.across.tiles row_width width,
+      same_number
+          c.args.row.now.matrix_height c.axes_at-axes.result.down.tiles row_height height,
+      same_number
+          c.args.row.now.tile_width c.args.frame.now.tile_width row_tile_width tile_width,
+      same_number
+          c.args.row.now.tile_height c.args.frame.now.tile_height row_tile_height tile_height,
+      same_number
+          c.args.row.now.pixel_x_size c.axes_at-axes.result.across.pixel_size row_across across,
+      same_number
+          c.args.row.now.pixel_y_size c.axes_at-axes.result.down.pixel_size row_down down,
+      axes,
+    ) refl

@@ -11,8 +11,12 @@ use Rattle.package_schema.proofs.frames.are_dated.Goals as goal
 
 pub returns : goal.returns
 returns g c =
-    sees (λ db dated. AreFormed db → IsTrue dated ↔ AreDated (tables_of db)) (seen (λ db found. AreFormed db → AreThose (λ _. true) (tables_of db).contents found.items) c.in_ok-rows.was c.all_contents.ensures)
-    (λ db told formed. dated_moved (tables_of db).contents c.deref.result.now c.have_moments.result (subst (AreThose (λ _. true) (tables_of db).contents) (sym c.deref.ensures.value) (told formed)) c.have_moments.ensures)
+    sees (λ db dated. AreFormed db → IsTrue dated ↔ AreDated (tables_of db))
+    (seen (λ db found. AreFormed db → AreThose (λ _. true) (tables_of db).contents found.items) c.in_ok-rows.was
+    c.all_contents.ensures)
+    (λ db told formed. dated_moved (tables_of db).contents c.deref.result.now c.have_moments.result
+    (subst (AreThose (λ _. true) (tables_of db).contents) (sym c.deref.ensures.value) (told formed))
+    c.have_moments.ensures)
 
 -- a look that failed leaves the store as it was too
 pub returns-in_err-rows : goal.returns-in_err-rows

@@ -7,9 +7,11 @@ use Rattle.package_schema.proofs.placing.are_placed.Goals as goal
 
 pub returns : goal.returns
 returns g c =
-    sees_schema (λ s found. IsTrue found ↔ AreAllPlaced s) (seen (λ _ _. ⊤) c.in_ok-answer_nothing.was c.answer_nothing.ensures) c.schema.ensures.live
+    sees_schema (λ s found. IsTrue found ↔ AreAllPlaced s) (seen (λ _ _. ⊤) c.in_ok-answer_nothing.was
+    c.answer_nothing.ensures) c.schema.ensures.live
     (subst (λ s. IsTrue c.has_all_tables.result ↔ AreAllPlaced s) c.schema.ensures.value c.has_all_tables.ensures)
 
 -- a look that failed leaves the store as it was too
 pub returns-in_err-answer_nothing : goal.returns-in_err-answer_nothing
-returns-in_err-answer_nothing g c = fails c.from_residual.result c.from_residual.ensures.0 (looks_stays c.answer_nothing.ensures)
+returns-in_err-answer_nothing g c = fails c.from_residual.result c.from_residual.ensures.0
+    (looks_stays c.answer_nothing.ensures)

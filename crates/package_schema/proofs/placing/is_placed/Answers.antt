@@ -8,9 +8,12 @@ use Rattle.package_schema.proofs.placing.is_placed.Goals as goal
 
 pub returns : goal.returns
 returns g c =
-    sees_schema (λ s found. IsTrue found ↔ IsPlaced s (table_of c.args.form.now)) (seen (λ _ _. ⊤) c.in_ok-answer_nothing.was c.answer_nothing.ensures) c.schema.ensures.live
-    (subst (λ s. IsTrue c.has_table.result ↔ IsPlaced s (table_of c.args.form.now)) c.schema.ensures.value c.has_table.ensures)
+    sees_schema (λ s found. IsTrue found ↔ IsPlaced s (table_of c.args.form.now))
+    (seen (λ _ _. ⊤) c.in_ok-answer_nothing.was c.answer_nothing.ensures) c.schema.ensures.live
+    (subst (λ s. IsTrue c.has_table.result ↔ IsPlaced s (table_of c.args.form.now)) c.schema.ensures.value
+    c.has_table.ensures)
 
 -- a look that failed leaves the store as it was too
 pub returns-in_err-answer_nothing : goal.returns-in_err-answer_nothing
-returns-in_err-answer_nothing g c = fails c.from_residual.result c.from_residual.ensures.0 (looks_stays c.answer_nothing.ensures)
+returns-in_err-answer_nothing g c = fails c.from_residual.result c.from_residual.ensures.0
+    (looks_stays c.answer_nothing.ensures)

@@ -15,4 +15,5 @@ returns-then-are_free g c is_open =
 pub returns : goal.returns
 returns g c is_open =
     let told = subst (λ s. IsTrue c.are_free.result ↔ AreFree s) c.schema.ensures.value c.are_free.ensures in
-    turn_stays g.S.Store g.met.S.Store.shut_if_dirty g.met.S.Store.settled c.args.conn.now c.requires is_open (λ free. both_ways _ c.if-are_free.false (told.1 free))
+    turn_stays g.S.Store g.met.S.Store.shut_if_dirty g.met.S.Store.settled c.args.conn.now c.requires is_open
+    (λ free. both_ways _ c.if-are_free.false (told.1 free))

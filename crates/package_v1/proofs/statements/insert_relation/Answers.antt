@@ -13,10 +13,30 @@ returns-clause-steps g c =
     let a = c.args in
     let old = state g.S.Store a.tx.now.conn.now in
     let new = state g.S.Store c.execute.new.self.conn.now in
-    let row : RelationRow = record { id = a.id; base_table_name = a.base.now; base_primary_column = a.base_column.now; related_table_name = a.related.now; related_primary_column = a.related_column.now; relation_name = a.name.now; mapping_table_name = a.mapping.now } in
+    let row : RelationRow = record {
+      id = a.id;
+      base_table_name = a.base.now;
+      base_primary_column =
+          a.base_column.now;
+      related_table_name = a.related.now;
+      related_primary_column =
+          a.related_column.now;
+      relation_name = a.name.now;
+      mapping_table_name = a.mapping.now;
+    } in
     settled_steps _ c.settled.ensures
     (write_steps (AddsRelation row) old new c.execute.result
-    (λ clean begun. writes_inside (AddsRelation row) insert_text (params_of row) old new (relation_added row old new) c.execute.result
+    (λ clean begun. writes_inside (AddsRelation row) insert_text (params_of row) old new (relation_added row old new)
+    c.execute.result
     (simp (to_z-of_z, c.ranges.id)
-    at (rw (c.params-to_sql.ensures, c.params-to_sql-2.ensures, c.params-to_sql-3.ensures, c.params-to_sql-4.ensures, c.params-to_sql-5.ensures, c.params-to_sql-6.ensures, c.params-to_sql-7.ensures) at (c.execute.ensures.runs clean begun))))
+    at (rw (
+      c.params-to_sql.ensures,
+      c.params-to_sql-2.ensures,
+      c.params-to_sql-3.ensures,
+      c.params-to_sql-4.ensures,
+      c.params-to_sql-5.ensures,
+      c.params-to_sql-6.ensures,
+      c.params-to_sql-7.ensures,
+    ) at
+    (c.execute.ensures.runs clean begun))))
     c.execute.ensures.survives)

@@ -13,4 +13,5 @@ returns-clause-steps g c =
     let old = state g.S.Store c.args.tx.now.conn.now in
     let new = state g.S.Store c.execute.new.self.conn.now in
     settled_steps _ c.settled.ensures
-    (write_steps IndexesThird old new c.execute.result (λ clean begun. writes_inside IndexesThird index_text [] old new (third_indexed old new) c.execute.result (c.execute.ensures.runs clean begun)) c.execute.ensures.survives)
+    (write_steps IndexesThird old new c.execute.result (λ clean begun. writes_inside IndexesThird index_text [] old
+    new (third_indexed old new) c.execute.result (c.execute.ensures.runs clean begun)) c.execute.ensures.survives)

@@ -13,4 +13,5 @@ returns-clause-steps g c =
     let old = state g.S.Store c.args.tx.now.conn.now in
     let new = state g.S.Store c.execute.new.self.conn.now in
     settled_steps _ c.settled.ensures
-    (write_steps MakesThird old new c.execute.result (λ clean begun. writes_inside MakesThird table_text [] old new (third_made old new) c.execute.result (c.execute.ensures.runs clean begun)) c.execute.ensures.survives)
+    (write_steps MakesThird old new c.execute.result (λ clean begun. writes_inside MakesThird table_text [] old new
+    (third_made old new) c.execute.result (c.execute.ensures.runs clean begun)) c.execute.ensures.survives)

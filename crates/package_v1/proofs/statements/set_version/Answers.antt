@@ -15,5 +15,7 @@ returns-clause-steps g c =
     let version = c.args.version in
     settled_steps _ c.settled.ensures
     (write_steps (SetsVersion version) old new c.execute.result
-    (λ clean begun. writes_inside (SetsVersion version) (codes "UPDATE sheet_package SET version = ?1") (Int version ∷ []) old new (version_set version old new) c.execute.result
-    (simp (to_z-of_z, c.ranges.version) at (rw (c.params-to_sql.ensures) at (c.execute.ensures.runs clean begun)))) c.execute.ensures.survives)
+    (λ clean begun. writes_inside (SetsVersion version) (codes "UPDATE sheet_package SET version = ?1")
+    (Int version ∷ []) old new (version_set version old new) c.execute.result
+    (simp (to_z-of_z, c.ranges.version) at (rw (c.params-to_sql.ensures) at (c.execute.ensures.runs clean begun))))
+    c.execute.ensures.survives)

@@ -7,18 +7,23 @@ returns-in_err-take g c =
     let last = c.take.new.tx.conn.now in
     let same : c.drop-tx.new.self.0 ≡ c.conn-1.given.0 = search rules in
     let d = c.drop-tx.ensures in
-    turn_dropped g.S.Store g.met.S.Store.shut_if_dirty g.met.S.Store.settled last c.transaction-tx.ensures.begun same c.requires _ c.from_residual.ensures.0 c.take.ensures.steps d.undone d.survives d.ended
+    turn_dropped g.S.Store g.met.S.Store.shut_if_dirty g.met.S.Store.settled last c.transaction-tx.ensures.begun same
+    c.requires _ c.from_residual.ensures.0 c.take.ensures.steps d.undone d.survives d.ended
 
 pub returns-in_err-commit : goal.returns-in_err-commit
 returns-in_err-commit g c =
     let last = c.take.new.tx.conn.now in
-    let same : c.commit.new.self.0 ≡ c.conn-2-1.given.0 = search (rules, c.in_ok-take.ensures.same_reference, c.transaction-tx.ensures) in
+    let same : c.commit.new.self.0 ≡ c.conn-2-1.given.0 = search
+    (rules, c.in_ok-take.ensures.same_reference, c.transaction-tx.ensures) in
     let d = c.in_err-commit.ensures in
-    turn_uncommitted g.S.Store g.met.S.Store.shut_if_dirty g.met.S.Store.settled last c.transaction-tx.ensures.begun same c.requires c.in_ok-take.ensures.steps d.ended d.survives _ c.from_residual-in_err-commit.ensures.0 d.err
+    turn_uncommitted g.S.Store g.met.S.Store.shut_if_dirty g.met.S.Store.settled last c.transaction-tx.ensures.begun
+    same c.requires c.in_ok-take.ensures.steps d.ended d.survives _ c.from_residual-in_err-commit.ensures.0 d.err
 
 pub returns : goal.returns
 returns g c =
     let last = c.take.new.tx.conn.now in
-    let same : c.commit.new.self.0 ≡ c.conn-2-1.given.0 = search (rules, c.in_ok-take.ensures.same_reference, c.transaction-tx.ensures) in
+    let same : c.commit.new.self.0 ≡ c.conn-2-1.given.0 = search
+    (rules, c.in_ok-take.ensures.same_reference, c.transaction-tx.ensures) in
     let d = c.in_ok-commit.ensures in
-    turn_committed g.S.Store g.met.S.Store.shut_if_dirty g.met.S.Store.settled last c.transaction-tx.ensures.begun same c.requires c.in_ok-take.ensures.steps d.ended d.survives (λ clean. (d.ok clean).1)
+    turn_committed g.S.Store g.met.S.Store.shut_if_dirty g.met.S.Store.settled last c.transaction-tx.ensures.begun
+    same c.requires c.in_ok-take.ensures.steps d.ended d.survives (λ clean. (d.ok clean).1)

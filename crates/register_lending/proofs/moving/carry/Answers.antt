@@ -8,5 +8,8 @@ use Rattle.register_lending.proofs.moving.carry.Goals as goal
 
 pub returns-in-Ok-clause-steps : goal.returns-in-Ok-clause-steps
 returns-in-Ok-clause-steps g c =
-    steps_answer (λ _. FromClean (state g.S.Store c.carry_over.new.source) (CarriesOver c.args.selection.now (state g.S.Store c.args.source.now).now)) tt
-    (cut_in c.args.selection.now (state g.S.Store c.args.source.now) (state g.S.Store c.carry_over.new.source) (state g.S.Store c.args.tx.now.conn.now).now (state g.S.Store c.carry_over.new.tx.conn.now).now) c.in-Ok.ensures.steps
+    steps_answer (λ _. FromClean (state g.S.Store c.carry_over.new.source)
+    (CarriesOver c.args.selection.now (state g.S.Store c.args.source.now).now)) tt
+    (cut_in c.args.selection.now (state g.S.Store c.args.source.now) (state g.S.Store c.carry_over.new.source)
+    (state g.S.Store c.args.tx.now.conn.now).now (state g.S.Store c.carry_over.new.tx.conn.now).now)
+    c.in-Ok.ensures.steps

@@ -1,4 +1,5 @@
-use Rattle.std.proofs.Common.{◌≡◌, ℤ, pos, ◌+ℤ◌, ◌++◌, ◌∷◌, [], ◌≤◌, sym, subst, ap, ◌∙◌, length, w64, to_z, of_z, arith, length-append}
+use Rattle.std.proofs.Common.{◌≡◌, ℤ, pos, ◌+ℤ◌, ◌++◌, ◌∷◌, [], ◌≤◌, sym, subst, ap, ◌∙◌, length, w64, to_z, of_z}
+use Rattle.std.proofs.Common.{arith, length-append}
 use Rattle.std.specs.Ordering.{int_eq}
 use Rattle.std.specs.List.{list_any}
 use Rattle.renumbering.proofs.Choosing.{AreLeast, least_none, least_more, least_same, next_key}
@@ -17,14 +18,29 @@ loop-key-preserved c =
     let used = c.args.used.now in
     let before = c.loop-key.invariant.least in
     let next : key +ℤ pos 1 ≡ to_z w64 (of_z w64 (key +ℤ pos 1)) = next_key key before.from c.loop-key-test.true in
-    let is : c.is_among.result ≡ list_any (int_eq key) used = c.is_among.ensures ∙ ap (list_any (int_eq key)) c.deref.ensures.value ∙ c.in_ok-taken.ensures.same key in
+    let is : c.is_among.result ≡ list_any (int_eq key) used =
+    c.is_among.ensures ∙ ap (list_any (int_eq key)) c.deref.ensures.value ∙ c.in_ok-taken.ensures.same key in
     elim c.if-not-is_among.branch [
       | then-not-is_among+in_ok-push w ↦ record {
-        least = subst (AreLeast used _) (sym (ap (λ v. v.items) w.keys-is ∙ w.in_ok-push.ensures.items)) (subst (λ k. AreLeast used k (c.loop-key.keys.items ++ key ∷ [])) next (least_more used c.loop-key.keys.items key before c.loop-key-test.true (sym is ∙ w.if-not-is_among.true)));
-        most = omega (arith, ap (λ v. length v.items) w.keys-is, ap length w.in_ok-push.ensures.items, length-append c.loop-key.keys.items (key ∷ []), c.loop-key.invariant.most, c.len.ensures, c.if-len-n.false);
+        least = subst (AreLeast used _) (sym (ap (λ v. v.items) w.keys-is ∙ w.in_ok-push.ensures.items))
+            (subst (λ k. AreLeast used k (c.loop-key.keys.items ++ key ∷ [])) next
+            (least_more used c.loop-key.keys.items key before c.loop-key-test.true
+            (sym is ∙ w.if-not-is_among.true)));
+        most = omega (
+          arith,
+          ap (λ v. length v.items) w.keys-is,
+          ap length w.in_ok-push.ensures.items,
+          length-append
+              c.loop-key.keys.items (key ∷ []),
+          c.loop-key.invariant.most,
+          c.len.ensures,
+          c.if-len-n.false,
+        );
       }
       | else-not-is_among w ↦ record {
-        least = subst (AreLeast used _) (sym (ap (λ v. v.items) w.keys-is)) (subst (λ k. AreLeast used k c.loop-key.keys.items) next (least_same used c.loop-key.keys.items key before (sym is ∙ w.if-not-is_among.false)));
+        least = subst (AreLeast used _) (sym (ap (λ v. v.items) w.keys-is))
+            (subst (λ k. AreLeast used k c.loop-key.keys.items) next
+            (least_same used c.loop-key.keys.items key before (sym is ∙ w.if-not-is_among.false)));
         most = subst (λ v. length v.items ≤ c.args.n) (sym w.keys-is) c.loop-key.invariant.most;
       }
     ]

@@ -10,10 +10,13 @@ returns-in-Ok-None-clause-ends g c = λ text before long stands.
 
 pub returns-in-Ok-Some-clause-ends : goal.returns-in-Ok-Some-clause-ends
 returns-in-Ok-Some-clause-ends g c = λ text before long stands.
-    ends_long c.args.done text before c.in-Ok-Some._more long (stands_begun g.Q.Read.remaining text c.args.list.now before stands)
-    (stands_begun g.Q.Read.remaining text c.next_request.new.self _ ((rw (c.in-Ok-Some.is, c.in-Ok-Some.field-0-is) at c.next_request.ensures.more) text before stands))
+    ends_long c.args.done text before c.in-Ok-Some._more long
+    (stands_begun g.Q.Read.remaining text c.args.list.now before stands)
+    (stands_begun g.Q.Read.remaining text c.next_request.new.self _
+    ((rw (c.in-Ok-Some.is, c.in-Ok-Some.field-0-is) at c.next_request.ensures.more) text before stands))
 
 pub returns-in-Err-clause-ends : goal.returns-in-Err-clause-ends
 returns-in-Err-clause-ends g c = λ text before long stands.
-    ends_broken g.Q.Read.remaining g.Q.ListSource.never_fails c.args.list.now c.in-Err.fault (rw c.in-Err.is at c.next_request.ensures.fault)
+    ends_broken g.Q.Read.remaining g.Q.ListSource.never_fails c.args.list.now c.in-Err.fault
+    (rw c.in-Err.is at c.next_request.ensures.fault)
     c.args.done c.args.done text before (omega arith) long stands

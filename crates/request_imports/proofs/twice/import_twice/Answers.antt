@@ -16,15 +16,30 @@ use Rattle.request_imports.proofs.twice.import_twice.Goals as goal
 
 pub returns-in_err-count-clause-imported : goal.returns-in_err-count-clause-imported
 returns-in_err-count-clause-imported g c =
-    subst (ImportsTwice g.S.Store (g.Q.Read.remaining c.args.first) (g.Q.Read.remaining c.args.second) c.args.world.now c.args.world.now (g.H.Shelf.failures_of c.args.shelf.now) (g.H.Shelf.failures_of c.args.shelf.now) c.args.writer.now c.args.writer.now (g.W.Write.contents c.args.writer.now) (g.W.Write.contents c.args.writer.now))
+    subst (ImportsTwice g.S.Store (g.Q.Read.remaining c.args.first) (g.Q.Read.remaining c.args.second)
+    c.args.world.now c.args.world.now (g.H.Shelf.failures_of c.args.shelf.now)
+    (g.H.Shelf.failures_of c.args.shelf.now) c.args.writer.now c.args.writer.now
+    (g.W.Write.contents c.args.writer.now) (g.W.Write.contents c.args.writer.now))
     (sym (turned_into c.from_residual.result (Import (Unread c.in_err-count.field-0.0)) c.from_residual.ensures.1))
     (inl (c.in_err-count.field-0.0, refl, inl c.in_err-count.ensures.fault, refl, refl, refl))
 
 pub returns-in_err-list-clause-imported : goal.returns-in_err-list-clause-imported
 returns-in_err-list-clause-imported g c =
-    subst (ImportsTwice g.S.Store (g.Q.Read.remaining c.args.first) (g.Q.Read.remaining c.args.second) c.args.world.now c.args.world.now (g.H.Shelf.failures_of c.args.shelf.now) (g.H.Shelf.failures_of c.args.shelf.now) c.args.writer.now c.args.writer.now (g.W.Write.contents c.args.writer.now) (g.W.Write.contents c.args.writer.now))
-    (sym (turned_into c.from_residual-in_err-list.result (Import (Unread c.in_err-list.field-0.0)) c.from_residual-in_err-list.ensures.1))
-    (inl (c.in_err-list.field-0.0, refl, inr (unread_again g.Q.ListSource.never_fails (g.Q.Read.remaining c.args.second) c.in_err-list.field-0.0 c.in_err-list.ensures.fault), refl, refl, refl))
+    subst (ImportsTwice g.S.Store (g.Q.Read.remaining c.args.first) (g.Q.Read.remaining c.args.second)
+    c.args.world.now c.args.world.now (g.H.Shelf.failures_of c.args.shelf.now)
+    (g.H.Shelf.failures_of c.args.shelf.now) c.args.writer.now c.args.writer.now
+    (g.W.Write.contents c.args.writer.now) (g.W.Write.contents c.args.writer.now))
+    (sym (turned_into c.from_residual-in_err-list.result (Import (Unread c.in_err-list.field-0.0))
+    c.from_residual-in_err-list.ensures.1))
+    (inl (
+      c.in_err-list.field-0.0,
+      refl,
+      inr (unread_again g.Q.ListSource.never_fails
+          (g.Q.Read.remaining c.args.second) c.in_err-list.field-0.0 c.in_err-list.ensures.fault),
+      refl,
+      refl,
+      refl,
+    ))
 
 pub returns-in_default-clause-imported : goal.returns-in_default-clause-imported
 returns-in_default-clause-imported g c = inl (Memory, refl, inl (inr (inl refl)), refl, refl, refl)
@@ -32,47 +47,78 @@ returns-in_default-clause-imported g c = inl (Memory, refl, inl (inr (inl refl))
 pub returns-in_err-send-clause-imported : goal.returns-in_err-send-clause-imported
 returns-in_err-send-clause-imported g c =
     let header : WentOut (g.W.Write.contents c.args.writer.now) (g.W.Write.contents c.send.new.writer) report_header =
-    subst (WentOut (g.W.Write.contents c.args.writer.now) (g.W.Write.contents c.send.new.writer)) (c.as_bytes.ensures.value ∙ c.header_line.ensures) c.in_err-send.ensures.err in
-    subst (ImportsTwice g.S.Store (g.Q.Read.remaining c.args.first) (g.Q.Read.remaining c.args.second) c.args.world.now c.args.world.now (g.H.Shelf.failures_of c.args.shelf.now) (g.H.Shelf.failures_of c.args.shelf.now) c.args.writer.now c.send.new.writer (g.W.Write.contents c.args.writer.now) (g.W.Write.contents c.send.new.writer))
+    subst (WentOut (g.W.Write.contents c.args.writer.now) (g.W.Write.contents c.send.new.writer))
+    (c.as_bytes.ensures.value ∙ c.header_line.ensures) c.in_err-send.ensures.err in
+    subst (ImportsTwice g.S.Store (g.Q.Read.remaining c.args.first) (g.Q.Read.remaining c.args.second)
+    c.args.world.now c.args.world.now (g.H.Shelf.failures_of c.args.shelf.now)
+    (g.H.Shelf.failures_of c.args.shelf.now) c.args.writer.now c.send.new.writer
+    (g.W.Write.contents c.args.writer.now) (g.W.Write.contents c.send.new.writer))
     (sym (turned_into c.from_residual-in_err-send.result (Import Unwritten) c.from_residual-in_err-send.ensures.1))
-    (unwritten_twice g.S.Store g.Q.Read.remaining g.H.Shelf.asks g.H.Shelf.takes (g.Q.Read.remaining c.args.first) (g.Q.Read.remaining c.args.second) c.in_ok-count.count c.in_ok-list.list c.args.world.now (g.H.Shelf.failures_of c.args.shelf.now) c.args.writer.now c.send.new.writer (g.W.Write.contents c.args.writer.now) (g.W.Write.contents c.send.new.writer)
+    (unwritten_twice g.S.Store g.Q.Read.remaining g.H.Shelf.asks g.H.Shelf.takes (g.Q.Read.remaining c.args.first)
+    (g.Q.Read.remaining c.args.second) c.in_ok-count.count c.in_ok-list.list c.args.world.now
+    (g.H.Shelf.failures_of c.args.shelf.now) c.args.writer.now c.send.new.writer
+    (g.W.Write.contents c.args.writer.now) (g.W.Write.contents c.send.new.writer)
     c.in_ok-count.ensures.list c.in_ok-list.ensures.stands header)
 
 pub returns-clause-imported : goal.returns-clause-imported
 returns-clause-imported g c =
     let header : Appends (g.W.Write.contents c.args.writer.now) (g.W.Write.contents c.send.new.writer) report_header =
-    subst (Appends (g.W.Write.contents c.args.writer.now) (g.W.Write.contents c.send.new.writer)) (c.as_bytes.ensures.value ∙ c.header_line.ensures) c.in_ok-send.ensures.ok in
-    reported_twice g.S.Store g.Q.Read.remaining g.H.Shelf.asks g.H.Shelf.takes (g.Q.Read.remaining c.args.first) (g.Q.Read.remaining c.args.second) c.in_ok-count.count c.in_ok-list.list c.args.world.now c.report_read.new.world c.args.shelf.now c.report_read.new.shelf (g.H.Shelf.failures_of c.args.shelf.now) (g.H.Shelf.failures_of c.report_read.new.shelf) (g.W.Write.contents c.send.new.writer) (g.W.Write.contents c.report_read.new.writer)
-    c.report_read.result c.in_ok-list.ensures.stands c.report_read.ensures.reported c.args.writer.now c.report_read.new.writer (g.W.Write.contents c.args.writer.now) c.in_ok-count.ensures.list header
+    subst (Appends (g.W.Write.contents c.args.writer.now) (g.W.Write.contents c.send.new.writer))
+    (c.as_bytes.ensures.value ∙ c.header_line.ensures) c.in_ok-send.ensures.ok in
+    reported_twice g.S.Store g.Q.Read.remaining g.H.Shelf.asks g.H.Shelf.takes (g.Q.Read.remaining c.args.first)
+    (g.Q.Read.remaining c.args.second) c.in_ok-count.count c.in_ok-list.list c.args.world.now
+    c.report_read.new.world c.args.shelf.now c.report_read.new.shelf (g.H.Shelf.failures_of c.args.shelf.now)
+    (g.H.Shelf.failures_of c.report_read.new.shelf) (g.W.Write.contents c.send.new.writer)
+    (g.W.Write.contents c.report_read.new.writer)
+    c.report_read.result c.in_ok-list.ensures.stands c.report_read.ensures.reported c.args.writer.now
+    c.report_read.new.writer (g.W.Write.contents c.args.writer.now) c.in_ok-count.ensures.list header
 
 pub returns-in_err-count-clause-once : goal.returns-in_err-count-clause-once
-returns-in_err-count-clause-once g c = once_of g.S.Store c.args.world.now c.args.world.now (g.H.Shelf.failures_of c.args.shelf.now) (g.H.Shelf.failures_of c.args.shelf.now) c.args.writer.now c.args.writer.now (g.W.Write.contents c.args.writer.now) (g.W.Write.contents c.args.writer.now)
-    (g.Q.Read.remaining c.args.first) (g.Q.Read.remaining c.args.second) c.from_residual.result (returns-in_err-count-clause-imported g c)
+returns-in_err-count-clause-once g c = once_of g.S.Store c.args.world.now c.args.world.now
+    (g.H.Shelf.failures_of c.args.shelf.now) (g.H.Shelf.failures_of c.args.shelf.now) c.args.writer.now
+    c.args.writer.now (g.W.Write.contents c.args.writer.now) (g.W.Write.contents c.args.writer.now)
+    (g.Q.Read.remaining c.args.first) (g.Q.Read.remaining c.args.second) c.from_residual.result
+    (returns-in_err-count-clause-imported g c)
 
 pub returns-in_err-list-clause-once : goal.returns-in_err-list-clause-once
-returns-in_err-list-clause-once g c = once_of g.S.Store c.args.world.now c.args.world.now (g.H.Shelf.failures_of c.args.shelf.now) (g.H.Shelf.failures_of c.args.shelf.now) c.args.writer.now c.args.writer.now (g.W.Write.contents c.args.writer.now) (g.W.Write.contents c.args.writer.now)
-    (g.Q.Read.remaining c.args.first) (g.Q.Read.remaining c.args.second) c.from_residual-in_err-list.result (returns-in_err-list-clause-imported g c)
+returns-in_err-list-clause-once g c = once_of g.S.Store c.args.world.now c.args.world.now
+    (g.H.Shelf.failures_of c.args.shelf.now) (g.H.Shelf.failures_of c.args.shelf.now) c.args.writer.now
+    c.args.writer.now (g.W.Write.contents c.args.writer.now) (g.W.Write.contents c.args.writer.now)
+    (g.Q.Read.remaining c.args.first) (g.Q.Read.remaining c.args.second) c.from_residual-in_err-list.result
+    (returns-in_err-list-clause-imported g c)
 
 pub returns-in_default-clause-once : goal.returns-in_default-clause-once
-returns-in_default-clause-once g c = once_of g.S.Store c.args.world.now c.args.world.now (g.H.Shelf.failures_of c.args.shelf.now) (g.H.Shelf.failures_of c.args.shelf.now) c.args.writer.now c.args.writer.now (g.W.Write.contents c.args.writer.now) (g.W.Write.contents c.args.writer.now)
+returns-in_default-clause-once g c = once_of g.S.Store c.args.world.now c.args.world.now
+    (g.H.Shelf.failures_of c.args.shelf.now) (g.H.Shelf.failures_of c.args.shelf.now) c.args.writer.now
+    c.args.writer.now (g.W.Write.contents c.args.writer.now) (g.W.Write.contents c.args.writer.now)
     (g.Q.Read.remaining c.args.first) (g.Q.Read.remaining c.args.second) _ (returns-in_default-clause-imported g c)
 
 pub returns-in_err-send-clause-once : goal.returns-in_err-send-clause-once
-returns-in_err-send-clause-once g c = once_of g.S.Store c.args.world.now c.args.world.now (g.H.Shelf.failures_of c.args.shelf.now) (g.H.Shelf.failures_of c.args.shelf.now) c.args.writer.now c.send.new.writer (g.W.Write.contents c.args.writer.now) (g.W.Write.contents c.send.new.writer)
-    (g.Q.Read.remaining c.args.first) (g.Q.Read.remaining c.args.second) c.from_residual-in_err-send.result (returns-in_err-send-clause-imported g c)
+returns-in_err-send-clause-once g c = once_of g.S.Store c.args.world.now c.args.world.now
+    (g.H.Shelf.failures_of c.args.shelf.now) (g.H.Shelf.failures_of c.args.shelf.now) c.args.writer.now
+    c.send.new.writer (g.W.Write.contents c.args.writer.now) (g.W.Write.contents c.send.new.writer)
+    (g.Q.Read.remaining c.args.first) (g.Q.Read.remaining c.args.second) c.from_residual-in_err-send.result
+    (returns-in_err-send-clause-imported g c)
 
 pub returns-clause-once : goal.returns-clause-once
-returns-clause-once g c = once_of g.S.Store c.args.world.now c.report_read.new.world (g.H.Shelf.failures_of c.args.shelf.now) (g.H.Shelf.failures_of c.report_read.new.shelf) c.args.writer.now c.report_read.new.writer (g.W.Write.contents c.args.writer.now) (g.W.Write.contents c.report_read.new.writer)
-    (g.Q.Read.remaining c.args.first) (g.Q.Read.remaining c.args.second) c.report_read.result (returns-clause-imported g c)
+returns-clause-once g c = once_of g.S.Store c.args.world.now c.report_read.new.world
+    (g.H.Shelf.failures_of c.args.shelf.now) (g.H.Shelf.failures_of c.report_read.new.shelf) c.args.writer.now
+    c.report_read.new.writer (g.W.Write.contents c.args.writer.now) (g.W.Write.contents c.report_read.new.writer)
+    (g.Q.Read.remaining c.args.first) (g.Q.Read.remaining c.args.second) c.report_read.result
+    (returns-clause-imported g c)
 
 pub returns-in_err-count-clause-told : goal.returns-in_err-count-clause-told
 returns-in_err-count-clause-told g c =
-    subst (IsToldTwice (g.Q.Read.remaining c.args.first) (g.T.Teller.told c.args.teller.now) (g.T.Teller.told c.args.teller.now)) (sym (turned_into c.from_residual.result (Import (Unread c.in_err-count.field-0.0)) c.from_residual.ensures.1))
+    subst (IsToldTwice (g.Q.Read.remaining c.args.first) (g.T.Teller.told c.args.teller.now)
+    (g.T.Teller.told c.args.teller.now)) (sym (turned_into c.from_residual.result
+    (Import (Unread c.in_err-count.field-0.0)) c.from_residual.ensures.1))
     (inl ((c.in_err-count.field-0.0, refl), none_told (g.T.Teller.told c.args.teller.now)))
 
 pub returns-in_err-list-clause-told : goal.returns-in_err-list-clause-told
 returns-in_err-list-clause-told g c =
-    subst (IsToldTwice (g.Q.Read.remaining c.args.first) (g.T.Teller.told c.args.teller.now) (g.T.Teller.told c.args.teller.now)) (sym (turned_into c.from_residual-in_err-list.result (Import (Unread c.in_err-list.field-0.0)) c.from_residual-in_err-list.ensures.1))
+    subst (IsToldTwice (g.Q.Read.remaining c.args.first) (g.T.Teller.told c.args.teller.now)
+    (g.T.Teller.told c.args.teller.now)) (sym (turned_into c.from_residual-in_err-list.result
+    (Import (Unread c.in_err-list.field-0.0)) c.from_residual-in_err-list.ensures.1))
     (inl ((c.in_err-list.field-0.0, refl), none_told (g.T.Teller.told c.args.teller.now)))
 
 pub returns-in_default-clause-told : goal.returns-in_default-clause-told
@@ -80,25 +126,59 @@ returns-in_default-clause-told g c = inl ((Memory, refl), none_told (g.T.Teller.
 
 pub returns-in_err-send-clause-told : goal.returns-in_err-send-clause-told
 returns-in_err-send-clause-told g c =
-    subst (IsToldTwice (g.Q.Read.remaining c.args.first) (g.T.Teller.told c.args.teller.now) (g.T.Teller.told c.args.teller.now)) (sym (turned_into c.from_residual-in_err-send.result (Import Unwritten) c.from_residual-in_err-send.ensures.1))
-    (inr (c.in_ok-count.count, c.in_ok-count.ensures.list, (0, omega arith, nothing_told c.in_ok-count.count (g.T.Teller.told c.args.teller.now))))
+    subst (IsToldTwice (g.Q.Read.remaining c.args.first) (g.T.Teller.told c.args.teller.now)
+    (g.T.Teller.told c.args.teller.now)) (sym (turned_into c.from_residual-in_err-send.result (Import Unwritten)
+    c.from_residual-in_err-send.ensures.1))
+    (inr (
+      c.in_ok-count.count,
+      c.in_ok-count.ensures.list,
+      (
+        0,
+        omega arith,
+        nothing_told c.in_ok-count.count
+            (g.T.Teller.told c.args.teller.now),
+      ),
+    ))
 
 pub returns-clause-told : goal.returns-clause-told
 returns-clause-told g c = inr (c.in_ok-count.count, c.in_ok-count.ensures.list, c.report_read.ensures.told)
 
 pub returns-in_err-count-clause-uses : goal.returns-in_err-count-clause-uses
-returns-in_err-count-clause-uses g c = inl ((c.in_err-count.field-0.0, turned_into c.from_residual.result (Import (Unread c.in_err-count.field-0.0)) c.from_residual.ensures.1), refl)
+returns-in_err-count-clause-uses g c = inl (
+  (
+    c.in_err-count.field-0.0,
+    turned_into c.from_residual.result
+        (Import (Unread c.in_err-count.field-0.0)) c.from_residual.ensures.1,
+  ),
+  refl,
+)
 
 pub returns-in_err-list-clause-uses : goal.returns-in_err-list-clause-uses
-returns-in_err-list-clause-uses g c = inl ((c.in_err-list.field-0.0, turned_into c.from_residual-in_err-list.result (Import (Unread c.in_err-list.field-0.0)) c.from_residual-in_err-list.ensures.1), refl)
+returns-in_err-list-clause-uses g c = inl (
+  (
+    c.in_err-list.field-0.0,
+    turned_into c.from_residual-in_err-list.result
+        (Import (Unread c.in_err-list.field-0.0)) c.from_residual-in_err-list.ensures.1,
+  ),
+  refl,
+)
 
 pub returns-in_default-clause-uses : goal.returns-in_default-clause-uses
 returns-in_default-clause-uses g c = inl ((Memory, refl), refl)
 
 pub returns-in_err-send-clause-uses : goal.returns-in_err-send-clause-uses
-returns-in_err-send-clause-uses g c = inr ([], stands_begun g.Q.Read.remaining (g.Q.Read.remaining c.args.second) c.in_ok-list.list [] c.in_ok-list.ensures.stands, refl)
+returns-in_err-send-clause-uses g c = inr (
+  [],
+  stands_begun g.Q.Read.remaining (g.Q.Read.remaining c.args.second)
+      c.in_ok-list.list [] c.in_ok-list.ensures.stands,
+  refl,
+)
 
 pub returns-clause-uses : goal.returns-clause-uses
 returns-clause-uses g c =
-    used_twice g.S.Store g.Q.Read.remaining g.H.Shelf.asks g.H.Shelf.takes (g.Q.Read.remaining c.args.first) (g.Q.Read.remaining c.args.second) c.in_ok-count.count c.in_ok-list.list c.args.world.now c.report_read.new.world c.args.shelf.now c.report_read.new.shelf (g.H.Shelf.failures_of c.args.shelf.now) (g.H.Shelf.failures_of c.report_read.new.shelf) (g.W.Write.contents c.send.new.writer) (g.W.Write.contents c.report_read.new.writer)
+    used_twice g.S.Store g.Q.Read.remaining g.H.Shelf.asks g.H.Shelf.takes (g.Q.Read.remaining c.args.first)
+    (g.Q.Read.remaining c.args.second) c.in_ok-count.count c.in_ok-list.list c.args.world.now
+    c.report_read.new.world c.args.shelf.now c.report_read.new.shelf (g.H.Shelf.failures_of c.args.shelf.now)
+    (g.H.Shelf.failures_of c.report_read.new.shelf) (g.W.Write.contents c.send.new.writer)
+    (g.W.Write.contents c.report_read.new.writer)
     c.report_read.result c.in_ok-list.ensures.stands c.report_read.ensures.reported

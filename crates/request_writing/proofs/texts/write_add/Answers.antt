@@ -1,4 +1,6 @@
-use Rattle.std.proofs.Common.{rules, FitsSigned, w64, sym, ◌≡◌, ◌∷◌, [], ℕ, List, IfOk, OnOk, Some, codes, map, string_bytes, ◌+◌, ◌-◌, ◌*◌, ◌<◌, ◌≤◌, length, ◌/◌, ◌%◌, Bool, true, false, nat_eq, nat_lt, ◌++◌, slice_index_or, slice_set, bit_and, bit_or, Fits, w8, w32, Bor, MutBor}
+use Rattle.std.proofs.Common.{rules, FitsSigned, w64, sym, ◌≡◌, ◌∷◌, [], ℕ, List, IfOk, OnOk, Some, codes, map}
+use Rattle.std.proofs.Common.{string_bytes, ◌+◌, ◌-◌, ◌*◌, ◌<◌, ◌≤◌, length, ◌/◌, ◌%◌, Bool, true, false, nat_eq}
+use Rattle.std.proofs.Common.{nat_lt, ◌++◌, slice_index_or, slice_set, bit_and, bit_or, Fits, w8, w32, Bor, MutBor}
 use Rattle.std.proofs.lemmas.Int.{to_z-of_z}
 use Rattle.std.specs.Fmt.{signed_decimal}
 use Rattle.std.specs.Io.KnownBytes.{Appends}
@@ -20,7 +22,8 @@ returns-in-Tile-clause-text c =
 
 -- src/texts.rt:301:1
 pub returns-in-Media-clause-text : goal.returns-in-Media-clause-text
-returns-in-Media-clause-text c = rw (c.in-Media.is, sym c.as_str.ensures, sym c.as_slice-in-Media.ensures) c.write_medium.ensures.text
+returns-in-Media-clause-text c = rw (c.in-Media.is, sym c.as_str.ensures, sym c.as_slice-in-Media.ensures)
+    c.write_medium.ensures.text
 
 -- src/texts.rt:301:1
 pub returns-in-Row-clause-text : goal.returns-in-Row-clause-text

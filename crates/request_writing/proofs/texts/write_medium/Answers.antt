@@ -1,4 +1,6 @@
-use Rattle.std.proofs.Common.{rules, sym, ◌≡◌, ◌∷◌, [], ℕ, List, IfOk, OnOk, Some, codes, map, string_bytes, ◌+◌, ◌-◌, ◌*◌, ◌<◌, ◌≤◌, length, ◌/◌, ◌%◌, Bool, true, false, nat_eq, nat_lt, ◌++◌, slice_index_or, slice_set, bit_and, bit_or, Fits, w8, w32, w64, Bor, MutBor}
+use Rattle.std.proofs.Common.{rules, sym, ◌≡◌, ◌∷◌, [], ℕ, List, IfOk, OnOk, Some, codes, map, string_bytes, ◌+◌, ◌-◌}
+use Rattle.std.proofs.Common.{◌*◌, ◌<◌, ◌≤◌, length, ◌/◌, ◌%◌, Bool, true, false, nat_eq, nat_lt, ◌++◌}
+use Rattle.std.proofs.Common.{slice_index_or, slice_set, bit_and, bit_or, Fits, w8, w32, w64, Bor, MutBor}
 use Rattle.std.specs.Fmt.{signed_decimal}
 use Rattle.std.specs.Io.KnownBytes.{Appends}
 use Rattle.hex.specs.Hex.{encode_lower}
@@ -10,4 +12,17 @@ use Rattle.request_writing.proofs.texts.write_medium.Goals as goal
 
 -- src/texts.rt:121:1
 pub returns-clause-text : goal.returns-clause-text
-returns-clause-text c = rw (sym c.as_bytes-id.ensures.value, sym c.as_bytes-at.ensures.value, sym c.in_ok-package.ensures.one, sym c.in_ok-package.ensures.two, sym c.in_ok-data.ensures, sym c.as_bytes-package.ensures.value, sym c.as_bytes-identity.ensures.value, sym c.as_bytes-text.ensures.value, sym c.as_bytes-data.ensures.value) c.write_record.ensures.text
+returns-clause-text c = rw (
+  sym c.as_bytes-id.ensures.value,
+  sym c.as_bytes-at.ensures.value,
+  sym
+      c.in_ok-package.ensures.one,
+  sym c.in_ok-package.ensures.two,
+  sym c.in_ok-data.ensures,
+  sym
+      c.as_bytes-package.ensures.value,
+  sym c.as_bytes-identity.ensures.value,
+  sym c.as_bytes-text.ensures.value,
+  sym
+      c.as_bytes-data.ensures.value,
+) c.write_record.ensures.text

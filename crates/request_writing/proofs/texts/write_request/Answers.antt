@@ -1,4 +1,7 @@
-use Rattle.std.proofs.Common.{rules, sym, ◌≡◌, ◌∷◌, [], ℕ, List, IfOk, OnOk, Some, codes, map, string_bytes, ◌+◌, ◌-◌, ◌*◌, ◌<◌, ◌≤◌, length, ◌/◌, ◌%◌, Bool, true, false, nat_eq, nat_lt, ◌++◌, slice_index_or, slice_set, bit_and, bit_or, Fits, w8, w32, w64, Bor, MutBor, ℤ, pos, ◌+ℤ◌, ◌-ℤ◌, ◌*ℤ◌, ◌≤ℤ◌, ◌<ℤ◌, FitsSigned, to_z, of_z}
+use Rattle.std.proofs.Common.{rules, sym, ◌≡◌, ◌∷◌, [], ℕ, List, IfOk, OnOk, Some, codes, map, string_bytes, ◌+◌, ◌-◌}
+use Rattle.std.proofs.Common.{◌*◌, ◌<◌, ◌≤◌, length, ◌/◌, ◌%◌, Bool, true, false, nat_eq, nat_lt, ◌++◌}
+use Rattle.std.proofs.Common.{slice_index_or, slice_set, bit_and, bit_or, Fits, w8, w32, w64, Bor, MutBor, ℤ, pos}
+use Rattle.std.proofs.Common.{◌+ℤ◌, ◌-ℤ◌, ◌*ℤ◌, ◌≤ℤ◌, ◌<ℤ◌, FitsSigned, to_z, of_z}
 use Rattle.std.proofs.lemmas.Int.{to_z-of_z}
 use Rattle.std.specs.Fmt.{signed_decimal}
 use Rattle.std.specs.Io.KnownBytes.{Appends}
@@ -11,7 +14,8 @@ use Rattle.request_writing.proofs.texts.write_request.Goals as goal
 
 -- src/texts.rt:339:1
 pub returns-in-Split-clause-text : goal.returns-in-Split-clause-text
-returns-in-Split-clause-text c = rw (c.in-Split.is, sym c.in_ok-front.ensures.id, sym c.in_ok-front.ensures.at) c.write_split.ensures.text
+returns-in-Split-clause-text c = rw (c.in-Split.is, sym c.in_ok-front.ensures.id, sym c.in_ok-front.ensures.at)
+    c.write_split.ensures.text
 
 -- src/texts.rt:331:1
 pub returns-clause-text : goal.returns-clause-text

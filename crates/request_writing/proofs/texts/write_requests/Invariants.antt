@@ -8,5 +8,6 @@ use Rattle.request_writing.proofs.texts.write_requests.Given as goal
 abbrev pub invariant-loop-request : goal.invariant-loop-request
 invariant-loop-request l = record {
   between : IsBetween l.writer;
-  written : Appends (text_written (λ v. Some v.items) l.initial.writer) (text_written (λ v. Some v.items) l.writer) (records_text (take l.request-index l.requests));
+  written : Appends (text_written (λ v. Some v.items) l.initial.writer) (text_written (λ v. Some v.items) l.writer)
+      (records_text (take l.request-index l.requests));
 }

@@ -7,5 +7,6 @@ use Rattle.sheet_types.specs.Lines.{entry_from}
 use Rattle.sheet_examples.proofs.frames.points_on_edges.Goals as goal
 
 pub returns : goal.returns
-unfolding sha256 first_words schedule rounds compress hash_after digest_bytes encode_with decode_pairs by_index digits entry_from
+unfolding sha256 first_words schedule rounds compress hash_after digest_bytes encode_with decode_pairs by_index digits
+    entry_from
 returns c = (refl, refl, refl, refl, refl, refl, refl, refl, refl, refl, refl, refl)

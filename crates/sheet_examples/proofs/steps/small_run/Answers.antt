@@ -9,5 +9,14 @@ use Rattle.sheet_types.specs.Lines.{entry_from}
 use Rattle.sheet_examples.proofs.steps.small_run.Goals as goal
 
 pub returns : goal.returns
-unfolding sha256 first_words schedule rounds compress hash_after digest_bytes encode_with decode_pairs by_index digits entry_from
-returns c = (world_0, inr (inl refl, refl), (world_1, inl (refl, refl), (world_1, inl (refl, refl), (world_1, inl (refl, refl), refl))))
+unfolding sha256 first_words schedule rounds compress hash_after digest_bytes encode_with decode_pairs by_index digits
+    entry_from
+returns c = (
+  world_0,
+  inr (inl refl, refl),
+  (
+    world_1,
+    inl (refl, refl),
+    (world_1, inl (refl, refl), (world_1, inl (refl, refl), refl)),
+  ),
+)

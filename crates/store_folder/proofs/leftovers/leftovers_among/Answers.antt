@@ -12,7 +12,9 @@ loop-name-preserved c =
     elim c.if-is_leftover.branch [
       | then-is_leftover+in_ok-push_text w ↦
           All-same (λ text. IsLeftover c.args.packages.now (string_bytes text)) _ _ (ap (λ v. v.items) w.found-is)
-          (push_so (IsLeftover c.args.packages.now) _ c.loop-name.found.items w.push_text.new.texts.items w.in_ok-push_text.ensures (c.is_leftover.ensures w.if-is_leftover.true) c.loop-name.invariant)
+          (push_so (IsLeftover c.args.packages.now) _ c.loop-name.found.items w.push_text.new.texts.items
+          w.in_ok-push_text.ensures (c.is_leftover.ensures w.if-is_leftover.true) c.loop-name.invariant)
       | else-is_leftover w ↦
-          All-same (λ text. IsLeftover c.args.packages.now (string_bytes text)) _ _ (ap (λ v. v.items) w.found-is) c.loop-name.invariant
+          All-same (λ text. IsLeftover c.args.packages.now (string_bytes text)) _ _ (ap (λ v. v.items) w.found-is)
+          c.loop-name.invariant
     ]

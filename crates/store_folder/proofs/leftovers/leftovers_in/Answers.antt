@@ -10,6 +10,10 @@ use Rattle.store_folder.proofs.leftovers.leftovers_in.Goals as goal
 
 pub returns : goal.returns
 returns c =
-    All-weaker (λ text. IsLeftover c.in_ok-listing.listing.packages.items (string_bytes text)) (λ text. IsLeftoverIn (names_in c.args.bytes.now) (string_bytes text))
-    (λ text left. left_in (names_in c.args.bytes.now) c.in_ok-listing.listing.packages.items (string_bytes text) c.in_ok-listing.ensures.packages left) c.sort_unstable.new.self.items
-    (All-permutation (λ text. IsLeftover c.in_ok-listing.listing.packages.items (string_bytes text)) c.in_ok-texts.texts.items c.sort_unstable.new.self.items c.sort_unstable.ensures.permutation (rw c.deref.ensures.value at c.in_ok-texts.ensures))
+    All-weaker (λ text. IsLeftover c.in_ok-listing.listing.packages.items (string_bytes text))
+    (λ text. IsLeftoverIn (names_in c.args.bytes.now) (string_bytes text))
+    (λ text left. left_in (names_in c.args.bytes.now) c.in_ok-listing.listing.packages.items (string_bytes text)
+    c.in_ok-listing.ensures.packages left) c.sort_unstable.new.self.items
+    (All-permutation (λ text. IsLeftover c.in_ok-listing.listing.packages.items (string_bytes text))
+    c.in_ok-texts.texts.items c.sort_unstable.new.self.items c.sort_unstable.ensures.permutation
+    (rw c.deref.ensures.value at c.in_ok-texts.ensures))

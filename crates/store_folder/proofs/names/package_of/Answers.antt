@@ -18,15 +18,20 @@ before name text other is file = append_cancel_right text (uuid_text other) exte
 
 pub returns-in-Some-clause-some : goal.returns-in-Some-clause-some
 returns-in-Some-clause-some c =
-    let is = strip_suffix_is Decides-eqb c.args.name.now c.as_slice.result.now (Some c.in-Some.text) c.in-Some.ensures.cases ∙ ap (λ l. c.in-Some.text.now ++ l) c.as_slice.ensures in
+    let is = strip_suffix_is Decides-eqb c.args.name.now c.as_slice.result.now (Some c.in-Some.text)
+    c.in-Some.ensures.cases ∙ ap (λ l. c.in-Some.text.now ++ l) c.as_slice.ensures in
     some_so _ _ (λ id text. is ∙ ap (λ t. t ++ extension) text) c.uuid_of.result c.uuid_of.ensures.some
 
 pub returns-in-Some-clause-only : goal.returns-in-Some-clause-only
 returns-in-Some-clause-only c =
-    let is = strip_suffix_is Decides-eqb c.args.name.now c.as_slice.result.now (Some c.in-Some.text) c.in-Some.ensures.cases ∙ ap (λ l. c.in-Some.text.now ++ l) c.as_slice.ensures in
-    some_so _ _ (λ id only. λ other fit file. only other fit (before c.args.name.now c.in-Some.text.now other is file)) c.uuid_of.result c.uuid_of.ensures.only
+    let is = strip_suffix_is Decides-eqb c.args.name.now c.as_slice.result.now (Some c.in-Some.text)
+    c.in-Some.ensures.cases ∙ ap (λ l. c.in-Some.text.now ++ l) c.as_slice.ensures in
+    some_so _ _ (λ id only. λ other fit file. only other fit
+    (before c.args.name.now c.in-Some.text.now other is file)) c.uuid_of.result c.uuid_of.ensures.only
 
 pub returns-in-Some-clause-none : goal.returns-in-Some-clause-none
 returns-in-Some-clause-none c =
-    let is = strip_suffix_is Decides-eqb c.args.name.now c.as_slice.result.now (Some c.in-Some.text) c.in-Some.ensures.cases ∙ ap (λ l. c.in-Some.text.now ++ l) c.as_slice.ensures in
-    none_so _ _ (λ none. λ other fit file. none other fit (before c.args.name.now c.in-Some.text.now other is file)) c.uuid_of.result c.uuid_of.ensures.none
+    let is = strip_suffix_is Decides-eqb c.args.name.now c.as_slice.result.now (Some c.in-Some.text)
+    c.in-Some.ensures.cases ∙ ap (λ l. c.in-Some.text.now ++ l) c.as_slice.ensures in
+    none_so _ _ (λ none. λ other fit file. none other fit (before c.args.name.now c.in-Some.text.now other is file))
+    c.uuid_of.result c.uuid_of.ensures.none

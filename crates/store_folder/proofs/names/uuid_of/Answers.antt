@@ -17,15 +17,18 @@ pub returns-in_default-clause-none : goal.returns-in_default-clause-none
 returns-in_default-clause-none c = λ id fit is.
     let read = reads_own id c.args.text.now fit is in
     let long : length c.args.text.now ≡ 36 = omega arith in
-    let none = unread c.try_parse_ascii.result c.in_default.field-0 c.args.text.now c.in_default.is c.try_parse_ascii.ensures.ok long in
+    let none = unread c.try_parse_ascii.result c.in_default.field-0 c.args.text.now c.in_default.is
+    c.try_parse_ascii.ensures.ok long in
     cc (read, none)
 
 pub returns-then-eq-clause-some : goal.returns-then-eq-clause-some
 returns-then-eq-clause-some c =
-    sym ((slice_eq-Decides Decides-eqb _ _ _ c.eq.ensures).0 c.if-eq.true) ∙ c.as_bytes.ensures.value ∙ c.encode_lower.ensures.text ∙ ap uuid_text c.hyphenated.ensures
+    sym ((slice_eq-Decides Decides-eqb _ _ _ c.eq.ensures).0 c.if-eq.true) ∙ c.as_bytes.ensures.value
+    ∙ c.encode_lower.ensures.text ∙ ap uuid_text c.hyphenated.ensures
 
 pub returns-then-eq-clause-only : goal.returns-then-eq-clause-only
-returns-then-eq-clause-only c = λ other fit is. reads_one c.args.text.now c.in-Ok.id other (omega arith) c.in-Ok.ensures.bytes fit is
+returns-then-eq-clause-only c = λ other fit is. reads_one c.args.text.now c.in-Ok.id other (omega arith)
+    c.in-Ok.ensures.bytes fit is
 
 pub returns-else-eq-clause-none : goal.returns-else-eq-clause-none
 returns-else-eq-clause-none c = λ id fit is.

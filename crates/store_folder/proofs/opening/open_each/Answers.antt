@@ -15,9 +15,13 @@ loop-package-preserved g c =
     take_more all at item c.loop-package-test.true ∙ ap (λ x. take at all ++ x ∷ []) (sym c.package-item.is) in
     let own : AllZip g.T.InFolder.is_of (take at all ++ item ∷ []) c.push.new.list.items =
     subst (AllZip g.T.InFolder.is_of (take at all ++ item ∷ [])) (sym c.in_ok-push.ensures)
-    (zip_push g.T.InFolder.is_of (take at all) c.loop-package.stores.items item c.in_ok-store.store c.loop-package.invariant.own c.in_ok-store.ensures.own) in
+    (zip_push g.T.InFolder.is_of (take at all) c.loop-package.stores.items item c.in_ok-store.store
+    c.loop-package.invariant.own c.in_ok-store.ensures.own) in
     record {
-      opened = All-same g.T.InFolder.is_just_opened _ _ c.in_ok-push.ensures (All-push g.T.InFolder.is_just_opened c.loop-package.stores.items c.in_ok-store.store c.loop-package.invariant.opened c.in_ok-store.ensures.opened);
+      opened = All-same g.T.InFolder.is_just_opened _ _ c.in_ok-push.ensures
+          (All-push g.T.InFolder.is_just_opened c.loop-package.stores.items c.in_ok-store.store
+          c.loop-package.invariant.opened c.in_ok-store.ensures.opened);
       own = subst (λ packages. AllZip g.T.InFolder.is_of packages c.push.new.list.items) (sym more) own;
-      each = ap length c.in_ok-push.ensures ∙ length_push c.loop-package.stores.items c.in_ok-store.store ∙ ap (λ (n : ℕ). n + 1) c.loop-package.invariant.each;
+      each = ap length c.in_ok-push.ensures ∙ length_push c.loop-package.stores.items c.in_ok-store.store
+          ∙ ap (λ (n : ℕ). n + 1) c.loop-package.invariant.each;
     }

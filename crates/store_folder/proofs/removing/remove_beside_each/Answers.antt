@@ -10,7 +10,8 @@ pub loop-name-preserved : goal.loop-name-preserved
 loop-name-preserved g c = removed_more g.F.RemoveFile.removes _ _ _ _ _ c.loop-name.invariant c.remove_if_beside.ensures
 
 pub returns-in_err-remove_if_beside : goal.returns-in_err-remove_if_beside
-returns-in_err-remove_if_beside g c = removed_more g.F.RemoveFile.removes _ _ _ _ _ c.loop-name.invariant c.remove_if_beside.ensures
+returns-in_err-remove_if_beside g c = removed_more g.F.RemoveFile.removes _ _ _ _ _ c.loop-name.invariant
+    c.remove_if_beside.ensures
 
 pub returns : goal.returns
 returns g c = c.loop-name.invariant

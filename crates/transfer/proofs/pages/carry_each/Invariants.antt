@@ -13,7 +13,9 @@ invariant-loop-from g l = record {
   within : l.from ≤ things (names_of l.selection);
   same : l.tx.conn.ghost_name ≡ l.fn.tx.conn.ghost_name;
   source : Stays (state g.S.Store l.fn.source) (state g.S.Store l.source);
-  each : Steps {X = Unit {0}} {E = Fault} (λ x. From (state g.S.Store l.fn.source) (state g.S.Store l.source) (λ p. WholeFrom (first l.from (names_of l.selection)) p x)) (state g.S.Store l.fn.tx.conn.now) (state g.S.Store l.tx.conn.now) (Ok tt);
+  each : Steps {X = Unit {0}} {E = Fault} (λ x. From (state g.S.Store l.fn.source) (state g.S.Store l.source)
+      (λ p. WholeFrom (first l.from (names_of l.selection)) p x)) (state g.S.Store l.fn.tx.conn.now)
+      (state g.S.Store l.tx.conn.now) (Ok tt);
 }
 
 abbrev pub decreases-loop-from : goal.decreases-loop-from

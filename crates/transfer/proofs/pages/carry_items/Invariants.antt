@@ -11,5 +11,7 @@ abbrev pub invariant-loop-identity : goal.invariant-loop-identity
 invariant-loop-identity g l = record {
   same : l.tx.conn.ghost_name ≡ l.fn.tx.conn.ghost_name;
   source : Stays (state g.S.Store l.fn.source) (state g.S.Store l.source);
-  each : Steps {X = Unit {0}} {E = Fault} (λ x. From (state g.S.Store l.fn.source) (state g.S.Store l.source) (λ p. EachFrom (take l.identity-index l.identities) p x)) (state g.S.Store l.fn.tx.conn.now) (state g.S.Store l.tx.conn.now) (Ok tt);
+  each : Steps {X = Unit {0}} {E = Fault} (λ x. From (state g.S.Store l.fn.source) (state g.S.Store l.source)
+      (λ p. EachFrom (take l.identity-index l.identities) p x)) (state g.S.Store l.fn.tx.conn.now)
+      (state g.S.Store l.tx.conn.now) (Ok tt);
 }

@@ -8,4 +8,6 @@ use Rattle.transfer.proofs.taking.take.Goals as goal
 pub returns-in-Ok-clause-steps : goal.returns-in-Ok-clause-steps
 returns-in-Ok-clause-steps g c =
     let names = names_of c.args.selection.now in
-    steps_answer (λ _. Shrinks (IsSelection names) (without_names names)) tt (selection_out names (state g.S.Store c.args.tx.now.conn.now).now (state g.S.Store c.drop_each.new.tx.conn.now).now) c.in-Ok.ensures.steps
+    steps_answer (λ _. Shrinks (IsSelection names) (without_names names)) tt
+    (selection_out names (state g.S.Store c.args.tx.now.conn.now).now
+    (state g.S.Store c.drop_each.new.tx.conn.now).now) c.in-Ok.ensures.steps

@@ -3,4 +3,5 @@ use Rattle.view_export.proofs.Texts.{ok_is}
 use Rattle.view_export.proofs.lines.place.Goals as goal
 
 pub returns : goal.returns
-returns c = ok_is c.format.result _ _ (simp (to_z-of_z, c.ranges.zoom, c.ranges.column, c.ranges.row) refl) c.format.ensures.ok
+returns c = ok_is c.format.result _ _ (simp (to_z-of_z, c.ranges.zoom, c.ranges.column, c.ranges.row) refl)
+    c.format.ensures.ok

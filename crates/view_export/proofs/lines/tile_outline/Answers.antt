@@ -12,5 +12,6 @@ drawn-requires c = simp (to_z-of_z, fits_word c.args.frame.now c.requires) (fits
 pub returns : goal.returns
 returns c =
     let f = c.args.frame.now in
-    let at : c.ground-ground.result ≡ tile_ground f c.args.zoom c.args.column c.args.row = simp (to_z-of_z, c.ranges.zoom, c.ranges.column, c.ranges.row) at c.ground-ground.ensures in
+    let at : c.ground-ground.result ≡ tile_ground f c.args.zoom c.args.column c.args.row =
+    simp (to_z-of_z, c.ranges.zoom, c.ranges.column, c.ranges.row) at c.ground-ground.ensures in
     ok_is c.drawn.result _ _ (ap (drawn f.srs_id) at) (simp (to_z-of_z, fits_word f c.requires) at c.drawn.ensures)

@@ -10,5 +10,6 @@ invariant-loop-item l = record {
   media : l.counts.media ≤ l.item-index;
   rows : l.counts.rows ≤ l.item-index;
   numbered : (id : List ℕ) →
-      unwrap_or (noted_in l.numbers id) (number_behind l.counts (drop l.item-index l.items) id) ≡ number_behind no_counts l.items id;
+      unwrap_or (noted_in l.numbers id) (number_behind l.counts (drop l.item-index l.items) id)
+      ≡ number_behind no_counts l.items id;
 }

@@ -11,4 +11,5 @@ returns c =
     onward (string_bytes c.put-4.new.text) _ _ c.in_ok-put-5.ensures (
     onward (string_bytes c.put-5.new.text) _ _ (rw c.fault_meaning.ensures at c.in_ok-put-6.ensures) (
     onward (string_bytes c.put-6.new.text) _ _ c.in_ok-put-7.ensures (
-    onward (string_bytes c.put-7.new.text) _ _ (rw c.state_text.ensures at c.in_ok-put-8.ensures) c.in_ok-put-9.ensures)))))))
+    onward (string_bytes c.put-7.new.text) _ _ (rw c.state_text.ensures at c.in_ok-put-8.ensures)
+    c.in_ok-put-9.ensures)))))))

@@ -8,4 +8,5 @@ use Rattle.view_field.proofs.projects.is_live.Goals as goal
 pub returns : goal.returns
 returns g c = λ w stands.
     let p = c.args.«package» in
-    c.is_some.ensures ∙ ap (λ sums. is_some sums) (c.sums.ensures w stands) ∙ some_where (is_live w p) (sums_held (holdings w p))
+    c.is_some.ensures ∙ ap (λ sums. is_some sums) (c.sums.ensures w stands)
+    ∙ some_where (is_live w p) (sums_held (holdings w p))

@@ -5,5 +5,13 @@ use Rattle.view_history.proofs.asking.ask_at.Goals as goal
 
 pub returns : goal.returns
 returns g c =
-    let place : slice_get c.args.stores.now.items c.args.at ≡ Some c.index_mut-conn.result.now = slice_get_read _ _ _ _ refl c.requires.within c.index_mut-conn.ensures.value in
-    record { was = c.index_mut-conn.result.now; place = place; last = c.ask.new.conn; others = refl; looked = c.ask.ensures }
+    let place : slice_get c.args.stores.now.items c.args.at ≡ Some c.index_mut-conn.result.now =
+    slice_get_read _ _ _ _ refl c.requires.within c.index_mut-conn.ensures.value in
+    record {
+      was = c.index_mut-conn.result.now;
+      place = place;
+      last = c.ask.new.conn;
+      others = refl;
+      looked =
+          c.ask.ensures;
+    }

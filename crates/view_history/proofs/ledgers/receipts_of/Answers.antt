@@ -10,7 +10,8 @@ use Rattle.view_history.proofs.ledgers.receipts_of.Goals as goal
 
 pub returns-in-Some : goal.returns-in-Some
 returns-in-Some g c =
-    sees (looked (λ t found. MatchOption found (AreReceiptsInRange t.receipts t.moved → ⊥) (λ entered. AreSaid t entered.items)) (c.in_ok-found.was ∙ ap Ok c.in-Some.is) c.receipts.ensures)
+    sees (looked (λ t found. MatchOption found (AreReceiptsInRange t.receipts t.moved → ⊥)
+    (λ entered. AreSaid t entered.items)) (c.in_ok-found.was ∙ ap Ok c.in-Some.is) c.receipts.ensures)
     (λ f p t says said. whole f p t says c.in-Some.found.items said)
 
 pub returns-in-None : goal.returns-in-None

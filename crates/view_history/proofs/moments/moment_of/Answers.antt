@@ -11,5 +11,7 @@ returns-in_err-found g c = asks_lost g.S.Store _ c.from_residual.result c.from_r
 
 pub returns : goal.returns
 returns g c =
-    asks_then g.S.Store (λ packages found. AllZip (λ p x. x ≡ moment_of p.receipts c.args.number) packages found.items) c.in_ok-found.was
-    (λ packages each. c.first_found.ensures ∙ moment_among c.args.number packages c.in_ok-found.found.items each) c.ask_each.ensures
+    asks_then g.S.Store (λ packages found. AllZip (λ p x. x ≡ moment_of p.receipts c.args.number) packages
+    found.items) c.in_ok-found.was
+    (λ packages each. c.first_found.ensures ∙ moment_among c.args.number packages c.in_ok-found.found.items each)
+    c.ask_each.ensures

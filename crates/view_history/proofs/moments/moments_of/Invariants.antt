@@ -7,5 +7,6 @@ use Rattle.view_history.proofs.moments.moments_of.Given as goal
 -- the moments of the numbers so far
 abbrev pub invariant-loop-at : goal.invariant-loop-at
 invariant-loop-at g l = record {
-  asked : AsksStores g.S.Store {E = Fault} (λ packages moments. moments.items ≡ map (moment_of (ledger_of packages)) (take l.at l.numbers)) l.fn.stores.items l.stores.items (Ok l.moments);
+  asked : AsksStores g.S.Store {E = Fault} (λ packages moments. moments.items
+      ≡ map (moment_of (ledger_of packages)) (take l.at l.numbers)) l.fn.stores.items l.stores.items (Ok l.moments);
 }

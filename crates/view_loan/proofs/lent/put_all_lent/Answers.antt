@@ -5,5 +5,6 @@ use Rattle.view_loan.proofs.lent.put_all_lent.Goals as goal
 
 pub loop-moved-preserved : goal.loop-moved-preserved
 loop-moved-preserved c =
-    one_more (lent_row c.args.register.now) c.args.items.now c.loop-moved.moved-index c.moved-item.result (string_bytes c.args.text.now) c.loop-moved-test.true
+    one_more (lent_row c.args.register.now) c.args.items.now c.loop-moved.moved-index c.moved-item.result
+    (string_bytes c.args.text.now) c.loop-moved-test.true
     c.moved-item.is c.loop-moved.invariant c.in_ok-put_lent.ensures

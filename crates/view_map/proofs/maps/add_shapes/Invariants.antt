@@ -8,6 +8,7 @@ use Rattle.view_map.proofs.maps.add_shapes.Given as goal
 abbrev pub invariant-loop-sheet : goal.invariant-loop-sheet
 invariant-loop-sheet l = record {
   counted : AreCounted l.layers (numbers_of l.layout (take l.sheet-index l.sheets));
-  text : string_bytes l.text ++ shapes_text l.layout l.zoom (layered l.layout (numbers_of l.layout (take l.sheet-index l.sheets)) (drop l.sheet-index l.sheets))
+  text : string_bytes l.text ++ shapes_text l.layout l.zoom (layered l.layout
+      (numbers_of l.layout (take l.sheet-index l.sheets)) (drop l.sheet-index l.sheets))
       ≡ string_bytes l.initial.text ++ shapes_text l.layout l.zoom (layered l.layout [] l.sheets);
 }

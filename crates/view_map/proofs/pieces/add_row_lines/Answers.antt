@@ -8,4 +8,5 @@ loop-row-init c = no_line (row_line c.args.layout.now) _
 
 pub loop-row-preserved : goal.loop-row-preserved
 loop-row-preserved c =
-    line_more (row_line c.args.layout.now) _ _ _ _ c.loop-row.row c.loop-row.invariant (c.as_str.ensures.value ∙ c.in_ok-line.ensures) c.in_ok-push_str.ensures.bytes
+    line_more (row_line c.args.layout.now) _ _ _ _ c.loop-row.row c.loop-row.invariant
+    (c.as_str.ensures.value ∙ c.in_ok-line.ensures) c.in_ok-push_str.ensures.bytes

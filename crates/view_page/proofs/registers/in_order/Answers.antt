@@ -6,5 +6,6 @@ use Rattle.view_page.proofs.registers.in_order.Goals as goal
 
 pub returns : goal.returns
 returns c =
-    sorted_is (λ l. l.loan) c.args.lives.items _ (IsNonDecreasingBy-from_sort_by_key (λ l. l.loan) _ c.in_ok-sort_by_key.ensures.sorted (λ a l q k. search rules))
+    sorted_is (λ l. l.loan) c.args.lives.items _ (IsNonDecreasingBy-from_sort_by_key (λ l. l.loan) _
+    c.in_ok-sort_by_key.ensures.sorted (λ a l q k. search rules))
     (c.sort_by_key.ensures.stable (λ l. l.loan) (answers_always _ _ _ (λ f a l g h. search rules)))

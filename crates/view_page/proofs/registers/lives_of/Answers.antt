@@ -9,8 +9,11 @@ pub loop-at-preserved : goal.loop-at-preserved
 loop-at-preserved c =
     let in_sights : c.loop-at.at < length c.args.sights.now = omega (arith, c.loop-at-test.true) in
     let in_sums : c.loop-at.at < length c.args.sums.now = omega (arith, c.loop-at-test.true, c.if-sums-count.false) in
-    let in_loans : c.loop-at.at < length c.args.loans.now = omega (arith, c.loop-at-test.true, c.if-loans-count.false) in
-    let sight : slice_get c.args.sights.now c.loop-at.at ≡ Some c.index-sights-at.result = slice_get-get_or c.args.sights.now c.loop-at.at c.index-sights-at.result in_sights ∙ ap (λ s. Some s) (sym c.index-sights-at.is) in
+    let in_loans : c.loop-at.at < length c.args.loans.now = omega
+    (arith, c.loop-at-test.true, c.if-loans-count.false) in
+    let sight : slice_get c.args.sights.now c.loop-at.at ≡ Some c.index-sights-at.result =
+    slice_get-get_or c.args.sights.now c.loop-at.at c.index-sights-at.result in_sights
+    ∙ ap (λ s. Some s) (sym c.index-sights-at.is) in
     record {
       so = λ w kept made told. chosen _ _ _ _ c.push.ensures.items (ap is_ok c.in_ok-push.was)
           ∙ life_next w c.args.sights.now c.args.sums.now c.args.loans.now c.args.receipts.now kept made told

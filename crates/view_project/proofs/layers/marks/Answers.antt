@@ -6,5 +6,6 @@ use Rattle.view_project.proofs.layers.marks.Goals as goal
 
 pub returns : goal.returns
 returns c =
-    let drawn = ap (λ style. vector (codes "sheet_rows") (codes "Marks") (codes "Point") style c.args.file.now c.args.system.now) c.marks_style.ensures in
+    let drawn = ap (λ style. vector (codes "sheet_rows") (codes "Marks") (codes "Point") style c.args.file.now
+    c.args.system.now) c.marks_style.ensures in
     ok_is c.vector_layer.result _ _ drawn c.vector_layer.ensures

@@ -5,4 +5,5 @@ use Rattle.view_report.proofs.accounts.put_accounts.Given as goal
 
 -- the accounts of the packages so far
 abbrev pub invariant-loop-live : goal.invariant-loop-live
-invariant-loop-live l = string_bytes l.text ≡ string_bytes l.initial.text ++ flat_map (account_of l.register) (take l.live-index l.packages)
+invariant-loop-live l = string_bytes l.text ≡ string_bytes l.initial.text
+    ++ flat_map (account_of l.register) (take l.live-index l.packages)

@@ -5,5 +5,6 @@ use Rattle.view_report.proofs.drawing.put_legends.Goals as goal
 
 pub loop-live-preserved : goal.loop-live-preserved
 loop-live-preserved c =
-    one_more (legend_row c.args.register.now) c.args.packages.now c.loop-live.live-index c.live-item.result (string_bytes c.args.text.now) c.loop-live-test.true
+    one_more (legend_row c.args.register.now) c.args.packages.now c.loop-live.live-index c.live-item.result
+    (string_bytes c.args.text.now) c.loop-live-test.true
     c.live-item.is c.loop-live.invariant c.in_ok-put_legend.ensures

@@ -5,4 +5,5 @@ use Rattle.view_report.proofs.drawing.put_legends.Given as goal
 
 -- the text of those so far
 abbrev pub invariant-loop-live : goal.invariant-loop-live
-invariant-loop-live l = string_bytes l.text ≡ string_bytes l.initial.text ++ flat_map (legend_row l.register) (take l.live-index l.packages)
+invariant-loop-live l = string_bytes l.text ≡ string_bytes l.initial.text
+    ++ flat_map (legend_row l.register) (take l.live-index l.packages)

@@ -6,4 +6,5 @@ loop-index-init c = no_level c.args.register.now c.args.total _
 
 pub loop-index-preserved : goal.loop-index-preserved
 loop-index-preserved c =
-    level_more c.args.register.now c.args.total _ _ _ c.loop-index.index c.loop-index.invariant c.in_ok-put_level_if.ensures
+    level_more c.args.register.now c.args.total _ _ _ c.loop-index.index c.loop-index.invariant
+    c.in_ok-put_level_if.ensures

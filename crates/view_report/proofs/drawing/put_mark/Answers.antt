@@ -9,4 +9,5 @@ returns c =
     onward (string_bytes c.put.new.text) _ _ c.in_ok-put_class.ensures (
     onward (string_bytes c.put_class.new.text) _ _ c.in_ok-put-2.ensures (
     onward (string_bytes c.put-2.new.text) _ _ c.in_ok-put_uuid.ensures (
-    onward (string_bytes c.put_uuid.new.text) _ _ c.in_ok-put-3.ensures (simp (to_z-of_z, c.ranges.x, c.ranges.y) at c.in_ok-put_mark_place.ensures)))))
+    onward (string_bytes c.put_uuid.new.text) _ _ c.in_ok-put-3.ensures
+    (simp (to_z-of_z, c.ranges.x, c.ranges.y) at c.in_ok-put_mark_place.ensures)))))

@@ -12,4 +12,5 @@ returns c =
     onward (string_bytes c.put_plain_name.new.text) _ _ c.in_ok-put-3.ensures (
     onward (string_bytes c.put-3.new.text) _ _ c.in_ok-put_escaped.ensures (
     onward (string_bytes c.put_escaped.new.text) _ _ c.in_ok-put-4.ensures (
-    onward (string_bytes c.put-4.new.text) _ _ (rw c.pattern_of.ensures at c.in_ok-put_count.ensures) c.in_ok-put-5.ensures)))))))
+    onward (string_bytes c.put-4.new.text) _ _ (rw c.pattern_of.ensures at c.in_ok-put_count.ensures)
+    c.in_ok-put-5.ensures)))))))

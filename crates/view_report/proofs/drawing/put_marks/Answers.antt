@@ -5,5 +5,6 @@ use Rattle.view_report.proofs.drawing.put_marks.Goals as goal
 
 pub loop-thing-preserved : goal.loop-thing-preserved
 loop-thing-preserved c =
-    one_more (mark_if c.args.register.now) c.args.things.now c.loop-thing.thing-index c.thing-item.result (string_bytes c.args.text.now) c.loop-thing-test.true
+    one_more (mark_if c.args.register.now) c.args.things.now c.loop-thing.thing-index c.thing-item.result
+    (string_bytes c.args.text.now) c.loop-thing-test.true
     c.thing-item.is c.loop-thing.invariant c.in_ok-put_mark_if.ensures

@@ -5,4 +5,5 @@ use Rattle.view_report.proofs.drawing.put_marks.Given as goal
 
 -- the text of those so far
 abbrev pub invariant-loop-thing : goal.invariant-loop-thing
-invariant-loop-thing l = string_bytes l.text ≡ string_bytes l.initial.text ++ flat_map (mark_if l.register) (take l.thing-index l.things)
+invariant-loop-thing l = string_bytes l.text ≡ string_bytes l.initial.text
+    ++ flat_map (mark_if l.register) (take l.thing-index l.things)

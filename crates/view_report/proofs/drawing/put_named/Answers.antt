@@ -9,4 +9,5 @@ returns c =
     onward (string_bytes c.args.text.now) _ _ c.in_ok-put.ensures (
     onward (string_bytes c.put.new.text) _ _ c.in_ok-put_style.ensures (
     onward (string_bytes c.put_style.new.text) _ _ c.in_ok-put-2.ensures (
-    onward (string_bytes c.put-2.new.text) _ _ (rw c.as_str.ensures at c.in_ok-put_escaped.ensures) c.in_ok-put-3.ensures)))
+    onward (string_bytes c.put-2.new.text) _ _ (rw c.as_str.ensures at c.in_ok-put_escaped.ensures)
+    c.in_ok-put-3.ensures)))

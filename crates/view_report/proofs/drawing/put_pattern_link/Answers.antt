@@ -11,4 +11,5 @@ returns c =
     onward (string_bytes c.put_count-2.new.text) _ _ c.in_ok-put-3.ensures (
     onward (string_bytes c.put-3.new.text) _ _ c.in_ok-put_count-3.ensures (
     onward (string_bytes c.put_count-3.new.text) _ _ c.in_ok-put-4.ensures (
-    onward (string_bytes c.put-4.new.text) _ _ (rw c.scale_of.ensures at c.in_ok-put_count-4.ensures) c.in_ok-put-5.ensures)))))))
+    onward (string_bytes c.put-4.new.text) _ _ (rw c.scale_of.ensures at c.in_ok-put_count-4.ensures)
+    c.in_ok-put-5.ensures)))))))

@@ -7,5 +7,7 @@ use Rattle.view_report.proofs.escaping.put_raw.Goals as goal
 
 pub returns : goal.returns
 returns c =
-    let end = YieldsList-end (YieldsList-from_chars c.args.raw.now c.utf8.raw cc) c.loop-letter.yielded _ c.loop-letter.yielded_by _ _ c.in-None.is c.next.ensures.steps in
-    c.loop-letter.invariant ∙ ap (λ letters. string_bytes c.args.text.now ++ flat_map raw_code letters) (sym (map-id c.loop-letter.yielded) ∙ end.0)
+    let end = YieldsList-end (YieldsList-from_chars c.args.raw.now c.utf8.raw cc) c.loop-letter.yielded _
+    c.loop-letter.yielded_by _ _ c.in-None.is c.next.ensures.steps in
+    c.loop-letter.invariant ∙ ap (λ letters. string_bytes c.args.text.now ++ flat_map raw_code letters)
+    (sym (map-id c.loop-letter.yielded) ∙ end.0)

@@ -2,4 +2,12 @@ use Rattle.std.proofs.Common.{append_assoc}
 use Rattle.view_report.proofs.holders.put_lent.Goals as goal
 
 pub returns : goal.returns
-returns c = rw (c.in_ok-put-4.ensures, c.in_ok-put_when-2.ensures, c.in_ok-put-3.ensures, c.in_ok-put_when.ensures, c.in_ok-put-2.ensures, c.in_ok-put_end.ensures, c.in_ok-put.ensures) (simp append_assoc)
+returns c = rw (
+  c.in_ok-put-4.ensures,
+  c.in_ok-put_when-2.ensures,
+  c.in_ok-put-3.ensures,
+  c.in_ok-put_when.ensures,
+  c.in_ok-put-2.ensures,
+  c.in_ok-put_end.ensures,
+  c.in_ok-put.ensures,
+) (simp append_assoc)

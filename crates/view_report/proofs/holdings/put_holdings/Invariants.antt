@@ -5,4 +5,5 @@ use Rattle.view_report.proofs.holdings.put_holdings.Given as goal
 
 -- the text of those so far
 abbrev pub invariant-loop-live : goal.invariant-loop-live
-invariant-loop-live l = string_bytes l.text ≡ string_bytes l.initial.text ++ flat_map (holding_text l.register) (take l.live-index l.packages)
+invariant-loop-live l = string_bytes l.text ≡ string_bytes l.initial.text
+    ++ flat_map (holding_text l.register) (take l.live-index l.packages)

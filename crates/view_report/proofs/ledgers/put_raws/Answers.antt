@@ -5,5 +5,6 @@ use Rattle.view_report.proofs.ledgers.put_raws.Goals as goal
 
 pub loop-receipt-preserved : goal.loop-receipt-preserved
 loop-receipt-preserved c =
-    one_more (raw_if c.args.register.now) c.args.receipts.now c.loop-receipt.receipt-index c.receipt-item.result (string_bytes c.args.text.now) c.loop-receipt-test.true
+    one_more (raw_if c.args.register.now) c.args.receipts.now c.loop-receipt.receipt-index c.receipt-item.result
+    (string_bytes c.args.text.now) c.loop-receipt-test.true
     c.receipt-item.is c.loop-receipt.invariant c.in_ok-put_raw_if.ensures

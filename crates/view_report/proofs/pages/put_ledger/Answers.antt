@@ -6,4 +6,5 @@ pub returns : goal.returns
 returns c =
     onward (string_bytes c.args.text.now) _ _ c.in_ok-put.ensures (
     onward (string_bytes c.put.new.text) _ _ (rw c.deref.ensures.value at c.in_ok-put_rows.ensures) (
-    onward (string_bytes c.put_rows.new.text) _ _ c.in_ok-put-2.ensures (rw c.deref-2.ensures.value at c.in_ok-put_raws.ensures)))
+    onward (string_bytes c.put_rows.new.text) _ _ c.in_ok-put-2.ensures
+    (rw c.deref-2.ensures.value at c.in_ok-put_raws.ensures)))

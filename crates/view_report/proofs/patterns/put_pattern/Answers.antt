@@ -2,4 +2,14 @@ use Rattle.std.proofs.Common.{append_assoc}
 use Rattle.view_report.proofs.patterns.put_pattern.Goals as goal
 
 pub returns : goal.returns
-returns c = rw (c.in_ok-put-5.ensures, c.in_ok-put-4.ensures, c.lines_of.ensures, c.pattern_of.ensures, c.in_ok-put-3.ensures, c.in_ok-put_class.ensures, c.in_ok-put-2.ensures, c.in_ok-put_count.ensures, c.in_ok-put.ensures) (simp append_assoc)
+returns c = rw (
+  c.in_ok-put-5.ensures,
+  c.in_ok-put-4.ensures,
+  c.lines_of.ensures,
+  c.pattern_of.ensures,
+  c.in_ok-put-3.ensures,
+  c.in_ok-put_class.ensures,
+  c.in_ok-put-2.ensures,
+  c.in_ok-put_count.ensures,
+  c.in_ok-put.ensures,
+) (simp append_assoc)

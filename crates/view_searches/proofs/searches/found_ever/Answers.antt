@@ -12,10 +12,13 @@ loop-receipt-init c = c.nothing-found.ensures c.args.word.now
 pub loop-receipt-preserved : goal.loop-receipt-preserved
 loop-receipt-preserved c =
     subst (λ ids. IsFound c.args.word.now ids c.found_added-found.result)
-    (flat_taken added_by c.args.receipts.now c.loop-receipt.receipt-index c.receipt-item.result c.loop-receipt-test.true c.receipt-item.is)
-    (c.found_added-found.ensures (added_of (take c.loop-receipt.receipt-index c.args.receipts.now)) c.loop-receipt.invariant)
+    (flat_taken added_by c.args.receipts.now c.loop-receipt.receipt-index c.receipt-item.result
+    c.loop-receipt-test.true c.receipt-item.is)
+    (c.found_added-found.ensures (added_of (take c.loop-receipt.receipt-index c.args.receipts.now))
+    c.loop-receipt.invariant)
 
 pub returns : goal.returns
 returns c =
     subst (λ all. IsFound c.args.word.now (added_of all) c.loop-receipt.found)
-    (take_all c.loop-receipt.receipt-index c.args.receipts.now (omega (arith, c.loop-receipt-test.false))) c.loop-receipt.invariant
+    (take_all c.loop-receipt.receipt-index c.args.receipts.now (omega (arith, c.loop-receipt-test.false)))
+    c.loop-receipt.invariant

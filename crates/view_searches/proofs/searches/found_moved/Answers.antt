@@ -12,10 +12,13 @@ loop-thing-init c = λ before it. subst (λ ids. IsFound c.args.word.now ids c.a
 pub loop-thing-preserved : goal.loop-thing-preserved
 loop-thing-preserved c = λ before it.
     subst (λ ids. IsFound c.args.word.now ids c.found_thing-next.result)
-    (identities_more before c.args.things.now c.loop-thing.thing-index c.thing-item.result c.loop-thing-test.true c.thing-item.is)
-    (c.found_thing-next.ensures (before ++ identities_of (take c.loop-thing.thing-index c.args.things.now)) (c.loop-thing.invariant before it))
+    (identities_more before c.args.things.now c.loop-thing.thing-index c.thing-item.result c.loop-thing-test.true
+    c.thing-item.is)
+    (c.found_thing-next.ensures (before ++ identities_of (take c.loop-thing.thing-index c.args.things.now))
+    (c.loop-thing.invariant before it))
 
 pub returns : goal.returns
 returns c = λ before it.
     subst (λ all. IsFound c.args.word.now (before ++ identities_of all) c.loop-thing.next)
-    (take_all c.loop-thing.thing-index c.args.things.now (omega (arith, c.loop-thing-test.false))) (c.loop-thing.invariant before it)
+    (take_all c.loop-thing.thing-index c.args.things.now (omega (arith, c.loop-thing-test.false)))
+    (c.loop-thing.invariant before it)

@@ -13,4 +13,5 @@ returns c =
     c.in_ok-put_receipts.ensures
     ∙ ap (λ t. t ++ flat_map (λ (r : Bor Receipt). ledger_line r.now) c.as_slice.result.now) put
     ∙ ap (λ l. headings ++ l) (flat_behind c.as_slice.result.now
-    ∙ ap (flat_map ledger_line) (ap (map (λ (r : Bor Receipt). r.now)) c.as_slice.ensures.value ∙ c.in_ok-asked.ensures))
+    ∙ ap (flat_map ledger_line) (ap (map (λ (r : Bor Receipt). r.now)) c.as_slice.ensures.value
+    ∙ c.in_ok-asked.ensures))

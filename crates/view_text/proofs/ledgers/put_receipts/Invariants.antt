@@ -5,4 +5,5 @@ use Rattle.view_text.proofs.ledgers.put_receipts.Given as goal
 
 -- the lines of the receipts so far
 abbrev pub invariant-loop-receipt : goal.invariant-loop-receipt
-invariant-loop-receipt l = string_bytes l.text ≡ string_bytes l.initial.text ++ flat_map (λ r. ledger_line r.now) (take l.receipt-index l.receipts)
+invariant-loop-receipt l = string_bytes l.text ≡ string_bytes l.initial.text
+    ++ flat_map (λ r. ledger_line r.now) (take l.receipt-index l.receipts)

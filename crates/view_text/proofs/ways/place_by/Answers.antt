@@ -14,7 +14,8 @@ loop-receipt-preserved c =
     let r : Receipt = c.receipt-item.result in
     let id : List ℕ = c.args.identity in
     let before : List Receipt = take c.loop-receipt.receipt-index rs in
-    let more : take (c.loop-receipt.receipt-index + 1) rs ≡ before ++ r ∷ [] = grind (arith, common_steps, c.receipt-item.is, c.loop-receipt-test.true) in
+    let more : take (c.loop-receipt.receipt-index + 1) rs ≡ before ++ r ∷ [] =
+    grind (arith, common_steps, c.receipt-item.is, c.loop-receipt-test.true) in
     subst (λ xs. c.if-names_item.place ≡ place_by xs id) (sym more)
     (elim c.if-names_item.branch [
       | then-names_item w ↦

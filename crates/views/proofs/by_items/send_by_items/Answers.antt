@@ -12,40 +12,55 @@ use Rattle.views.proofs.by_items.send_by_items.Goals as goal
 pub returns-in_err-numbers-clause-err : goal.returns-in_err-numbers-clause-err
 returns-in_err-numbers-clause-err g c =
     let f = c.args.frame.now in
-    on_err {P = OfTold g.S.Store c.args.package c.args.told.now c.args.world.now c.args.world.now (λ items. WentOut (g.W.Write.contents c.args.writer.now) (g.W.Write.contents c.args.writer.now) (export_text c.args.frame.now c.args.package c.args.ticket items c.args.links.now))} _ (λ clean w stands all.
+    on_err {P = OfTold g.S.Store c.args.package c.args.told.now c.args.world.now c.args.world.now
+    (λ items. WentOut (g.W.Write.contents c.args.writer.now) (g.W.Write.contents c.args.writer.now)
+    (export_text c.args.frame.now c.args.package c.args.ticket items c.args.links.now))} _ (λ clean w stands all.
     let items = (holdings w c.args.package).items in
-    none_sent (opening f c.args.package c.args.ticket) (items_behind f no_counts items) (flat_map (link_row items) c.args.links.now) _)
+    none_sent (opening f c.args.package c.args.ticket) (items_behind f no_counts items)
+    (flat_map (link_row items) c.args.links.now) _)
 
 pub returns-in_err-head-clause-err : goal.returns-in_err-head-clause-err
 returns-in_err-head-clause-err g c =
     let f = c.args.frame.now in
-    on_err {P = OfTold g.S.Store c.args.package c.args.told.now c.args.world.now c.args.world.now (λ items. WentOut (g.W.Write.contents c.args.writer.now) (g.W.Write.contents c.args.writer.now) (export_text c.args.frame.now c.args.package c.args.ticket items c.args.links.now))} _ (λ clean w stands all.
+    on_err {P = OfTold g.S.Store c.args.package c.args.told.now c.args.world.now c.args.world.now
+    (λ items. WentOut (g.W.Write.contents c.args.writer.now) (g.W.Write.contents c.args.writer.now)
+    (export_text c.args.frame.now c.args.package c.args.ticket items c.args.links.now))} _ (λ clean w stands all.
     let items = (holdings w c.args.package).items in
-    none_sent (opening f c.args.package c.args.ticket) (items_behind f no_counts items) (flat_map (link_row items) c.args.links.now) _)
+    none_sent (opening f c.args.package c.args.ticket) (items_behind f no_counts items)
+    (flat_map (link_row items) c.args.links.now) _)
 
 pub returns-in_err-send-clause-err : goal.returns-in_err-send-clause-err
 returns-in_err-send-clause-err g c =
     let f = c.args.frame.now in
-    on_err {P = OfTold g.S.Store c.args.package c.args.told.now c.args.world.now c.args.world.now (λ items. WentOut (g.W.Write.contents c.args.writer.now) (g.W.Write.contents c.send.new.writer) (export_text c.args.frame.now c.args.package c.args.ticket items c.args.links.now))} _ (λ clean w stands all.
+    on_err {P = OfTold g.S.Store c.args.package c.args.told.now c.args.world.now c.args.world.now
+    (λ items. WentOut (g.W.Write.contents c.args.writer.now) (g.W.Write.contents c.send.new.writer)
+    (export_text c.args.frame.now c.args.package c.args.ticket items c.args.links.now))} _ (λ clean w stands all.
     let items = (holdings w c.args.package).items in
-    head_begun (opening f c.args.package c.args.ticket) (items_behind f no_counts items) (flat_map (link_row items) c.args.links.now) _ _
+    head_begun (opening f c.args.package c.args.ticket) (items_behind f no_counts items)
+    (flat_map (link_row items) c.args.links.now) _ _
     (subst (WentOut _ _) (c.as_bytes.ensures.value ∙ c.in_ok-head.ensures) c.in_err-send.ensures.err))
 
 pub returns-in_err-send_told-clause-err : goal.returns-in_err-send_told-clause-err
 returns-in_err-send_told-clause-err g c =
     let f = c.args.frame.now in
-    on_err {P = OfTold g.S.Store c.args.package c.args.told.now c.args.world.now c.send_told.new.world (λ items. WentOut (g.W.Write.contents c.args.writer.now) (g.W.Write.contents c.send_told.new.writer) (export_text c.args.frame.now c.args.package c.args.ticket items c.args.links.now))} _ (λ clean w stands all.
+    on_err {P = OfTold g.S.Store c.args.package c.args.told.now c.args.world.now c.send_told.new.world
+    (λ items. WentOut (g.W.Write.contents c.args.writer.now) (g.W.Write.contents c.send_told.new.writer)
+    (export_text c.args.frame.now c.args.package c.args.ticket items c.args.links.now))} _ (λ clean w stands all.
     let items = (holdings w c.args.package).items in
-    rows_begun (opening f c.args.package c.args.ticket) (items_behind f no_counts items) (flat_map (link_row items) c.args.links.now) _ _ _
+    rows_begun (opening f c.args.package c.args.ticket) (items_behind f no_counts items)
+    (flat_map (link_row items) c.args.links.now) _ _ _
     (subst (Appends _ _) (c.as_bytes.ensures.value ∙ c.in_ok-head.ensures) c.in_ok-send.ensures.ok)
     (c.in_err-send_told.ensures.err clean w stands all))
 
 pub returns-in_err-send_links-clause-err : goal.returns-in_err-send_links-clause-err
 returns-in_err-send_links-clause-err g c =
     let f = c.args.frame.now in
-    on_err {P = OfTold g.S.Store c.args.package c.args.told.now c.args.world.now c.send_told.new.world (λ items. WentOut (g.W.Write.contents c.args.writer.now) (g.W.Write.contents c.send_links.new.writer) (export_text c.args.frame.now c.args.package c.args.ticket items c.args.links.now))} _ (λ clean w stands all.
+    on_err {P = OfTold g.S.Store c.args.package c.args.told.now c.args.world.now c.send_told.new.world
+    (λ items. WentOut (g.W.Write.contents c.args.writer.now) (g.W.Write.contents c.send_links.new.writer)
+    (export_text c.args.frame.now c.args.package c.args.ticket items c.args.links.now))} _ (λ clean w stands all.
     let items = (holdings w c.args.package).items in
-    links_begun (opening f c.args.package c.args.ticket) (items_behind f no_counts items) (flat_map (link_row items) c.args.links.now) _ _ _ _
+    links_begun (opening f c.args.package c.args.ticket) (items_behind f no_counts items)
+    (flat_map (link_row items) c.args.links.now) _ _ _ _
     (subst (Appends _ _) (c.as_bytes.ensures.value ∙ c.in_ok-head.ensures) c.in_ok-send.ensures.ok)
     (c.in_ok-send_told.ensures.ok clean w stands all)
     (c.in_err-send_links.ensures.err items (c.in_ok-numbers.ensures items all)))
@@ -53,9 +68,12 @@ returns-in_err-send_links-clause-err g c =
 pub returns-in_err-send-2-clause-err : goal.returns-in_err-send-2-clause-err
 returns-in_err-send-2-clause-err g c =
     let f = c.args.frame.now in
-    on_err {P = OfTold g.S.Store c.args.package c.args.told.now c.args.world.now c.send_told.new.world (λ items. WentOut (g.W.Write.contents c.args.writer.now) (g.W.Write.contents c.send-2.new.writer) (export_text c.args.frame.now c.args.package c.args.ticket items c.args.links.now))} _ (λ clean w stands all.
+    on_err {P = OfTold g.S.Store c.args.package c.args.told.now c.args.world.now c.send_told.new.world
+    (λ items. WentOut (g.W.Write.contents c.args.writer.now) (g.W.Write.contents c.send-2.new.writer)
+    (export_text c.args.frame.now c.args.package c.args.ticket items c.args.links.now))} _ (λ clean w stands all.
     let items = (holdings w c.args.package).items in
-    end_begun (opening f c.args.package c.args.ticket) (items_behind f no_counts items) (flat_map (link_row items) c.args.links.now) _ _ _ _ _
+    end_begun (opening f c.args.package c.args.ticket) (items_behind f no_counts items)
+    (flat_map (link_row items) c.args.links.now) _ _ _ _ _
     (subst (Appends _ _) (c.as_bytes.ensures.value ∙ c.in_ok-head.ensures) c.in_ok-send.ensures.ok)
     (c.in_ok-send_told.ensures.ok clean w stands all)
     (c.in_ok-send_links.ensures.ok items (c.in_ok-numbers.ensures items all))
@@ -65,7 +83,8 @@ pub returns-clause-ok : goal.returns-clause-ok
 returns-clause-ok g c = λ clean w stands all.
     let f = c.args.frame.now in
     let items = (holdings w c.args.package).items in
-    all_sent (opening f c.args.package c.args.ticket) (items_behind f no_counts items) (flat_map (link_row items) c.args.links.now) _ _ _ _ _
+    all_sent (opening f c.args.package c.args.ticket) (items_behind f no_counts items)
+    (flat_map (link_row items) c.args.links.now) _ _ _ _ _
     (subst (Appends _ _) (c.as_bytes.ensures.value ∙ c.in_ok-head.ensures) c.in_ok-send.ensures.ok)
     (c.in_ok-send_told.ensures.ok clean w stands all)
     (c.in_ok-send_links.ensures.ok items (c.in_ok-numbers.ensures items all))

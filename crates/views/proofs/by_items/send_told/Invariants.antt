@@ -14,6 +14,8 @@ invariant-loop-moved g l = record {
   tiles : l.counts.tiles ≤ l.moved-index;
   media : l.counts.media ≤ l.moved-index;
   rows : l.counts.rows ≤ l.moved-index;
-  sent : OfTold g.S.Store l.fn.package l.told l.fn.world l.world (λ items. (l.counts ≡ counts_behind no_counts (take l.moved-index items))
-      × Appends (g.W.Write.contents l.initial.writer) (g.W.Write.contents l.writer) (items_behind l.frame no_counts (take l.moved-index items)));
+  sent : OfTold g.S.Store l.fn.package l.told l.fn.world l.world
+      (λ items. (l.counts ≡ counts_behind no_counts (take l.moved-index items))
+      × Appends (g.W.Write.contents l.initial.writer) (g.W.Write.contents l.writer)
+      (items_behind l.frame no_counts (take l.moved-index items)));
 }

@@ -12,23 +12,30 @@ returns-in_err-ticket-clause-written g c =
     λ clean w stands. failed_written w c.args.package _ c.from_residual-in_err-ticket.result failed
 
 pub returns-then-not-is_good-clause-written : goal.returns-then-not-is_good-clause-written
-returns-then-not-is_good-clause-written g c = λ clean w stands. none_written w c.args.package (g.W.Write.contents c.args.writer.now)
+returns-then-not-is_good-clause-written g c = λ clean w stands. none_written w c.args.package
+    (g.W.Write.contents c.args.writer.now)
 
 pub returns-in_err-ticket-clause-read : goal.returns-in_err-ticket-clause-read
 returns-in_err-ticket-clause-read g c = c.in_ok-told.ensures.read
 
 pub returns-clause-read : goal.returns-clause-read
-returns-clause-read g c = untouched_read g.S.Store c.args.world.now c.ask.new.self c.send_by_items.new.world c.in_ok-told.ensures.read c.send_by_items.ensures.read
+returns-clause-read g c = untouched_read g.S.Store c.args.world.now c.ask.new.self c.send_by_items.new.world
+    c.in_ok-told.ensures.read c.send_by_items.ensures.read
 
 pub returns-clause-written : goal.returns-clause-written
 returns-clause-written g c = λ clean w stands.
-    let before = clean_untouched g.S.Store c.ask.new.self c.send_by_items.new.world c.send_by_items.ensures.read clean in
+    let before = clean_untouched g.S.Store c.ask.new.self c.send_by_items.new.world c.send_by_items.ensures.read
+    clean in
     let now = c.in_ok-told.ensures.read.stands w stands in
-    let told = subst (IsAnswer (λ p held. AreTold p held.0.items held.1.items) w c.args.package) c.in-Some.is (c.in_ok-told.ensures.told before w stands) in
-    told_written w c.args.package c.frame-frame.result c.in_ok-ticket.ticket _ _ _ c.send_by_items.result (c.frame-frame.ensures ∙ stands.frame)
+    let told = subst (IsAnswer (λ p held. AreTold p held.0.items held.1.items) w c.args.package) c.in-Some.is
+    (c.in_ok-told.ensures.told before w stands) in
+    told_written w c.args.package c.frame-frame.result c.in_ok-ticket.ticket _ _ _ c.send_by_items.result
+    (c.frame-frame.ensures ∙ stands.frame)
     (c.in_ok-ticket.ensures w now told.0) told.0 (c.as_slice-2.ensures.value ∙ told.1.1)
-    (given_ok c.send_by_items.result (λ it. it clean w now (c.as_slice.ensures.value ∙ told.1.0)) c.send_by_items.ensures.ok)
-    (given_err c.send_by_items.result (λ it. it clean w now (c.as_slice.ensures.value ∙ told.1.0)) c.send_by_items.ensures.err)
+    (given_ok c.send_by_items.result (λ it. it clean w now (c.as_slice.ensures.value ∙ told.1.0))
+    c.send_by_items.ensures.ok)
+    (given_err c.send_by_items.result (λ it. it clean w now (c.as_slice.ensures.value ∙ told.1.0))
+    c.send_by_items.ensures.err)
     c.send_by_items.ensures.live
 
 pub returns-in_err-told-clause-written : goal.returns-in_err-told-clause-written
@@ -37,4 +44,5 @@ returns-in_err-told-clause-written g c =
     λ clean w stands. failed_written w c.args.package _ c.from_residual.result failed
 
 pub returns-in_default-clause-written : goal.returns-in_default-clause-written
-returns-in_default-clause-written g c = λ clean w stands. rw c.in_default.is at (c.in_ok-told.ensures.told clean w stands)
+returns-in_default-clause-written g c = λ clean w stands. rw c.in_default.is at
+    (c.in_ok-told.ensures.told clean w stands)

@@ -7,7 +7,8 @@ use Rattle.views.proofs.contents.get_in.Goals as goal
 pub returns-in-Ok : goal.returns-in-Ok
 returns-in-Ok g c = record {
   found = Ok (named c.in-Ok.found (λ b. b.items));
-  told = tells_named g.S.Store (λ b. b.items) c.args.word.now c.args.world.now c.named_data.new.world c.in-Ok.found c.in-Ok.ensures.told;
+  told = tells_named g.S.Store (λ b. b.items) c.args.word.now c.args.world.now c.named_data.new.world c.in-Ok.found
+      c.in-Ok.ensures.told;
   read = c.in-Ok.ensures.read;
   shown = c.show_named.ensures;
 }

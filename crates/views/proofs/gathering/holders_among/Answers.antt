@@ -8,26 +8,33 @@ use Rattle.views.proofs.gathering.holders_among.Goals as goal
 
 pub returns-in_err-holder-clause-read : goal.returns-in_err-holder-clause-read
 returns-in_err-holder-clause-read g c =
-    untouched_then g.S.Store c.args.world.now c.loop-sight.world c.holder_of.new.world c.loop-sight.invariant.read c.in_err-holder.ensures.read
+    untouched_then g.S.Store c.args.world.now c.loop-sight.world c.holder_of.new.world c.loop-sight.invariant.read
+    c.in_err-holder.ensures.read
 
 pub returns-in_err-push-clause-read : goal.returns-in_err-push-clause-read
 returns-in_err-push-clause-read g c =
-    untouched_then g.S.Store c.args.world.now c.loop-sight.world c.holder_of.new.world c.loop-sight.invariant.read c.in_ok-holder.ensures.read
+    untouched_then g.S.Store c.args.world.now c.loop-sight.world c.holder_of.new.world c.loop-sight.invariant.read
+    c.in_ok-holder.ensures.read
 
 pub loop-sight-preserved : goal.loop-sight-preserved
 loop-sight-preserved g c = record {
-  read = untouched_then g.S.Store c.args.world.now c.loop-sight.world c.holder_of.new.world c.loop-sight.invariant.read c.in_ok-holder.ensures.read;
+  read = untouched_then g.S.Store c.args.world.now c.loop-sight.world c.holder_of.new.world
+      c.loop-sight.invariant.read c.in_ok-holder.ensures.read;
   drawn = λ clean w stands.
       let before = c.in_ok-holder.ensures.read.clean clean in
       let now = stands_after g.S.Store c.args.world.now c.loop-sight.world c.loop-sight.invariant.read w stands in
       let so_far = simp (to_z-of_z, c.ranges.zoom) at c.loop-sight.invariant.drawn before w stands in
       let here = simp (to_z-of_z, c.ranges.zoom) at c.in_ok-holder.ensures.told clean w now in
-      let more = one_more w c.args.zoom c.args.sights.now c.loop-sight.holders.items c.loop-sight.sight-index c.sight-item.result c.in_ok-holder.holder c.loop-sight-test.true c.sight-item.is so_far here in
-      simp (to_z-of_z, c.ranges.zoom) (subst (λ hs. AllZip (IsDrawn w c.args.zoom) (take (c.loop-sight.sight-index + 1) c.args.sights.now) hs) (sym (chosen _ _ _ _ c.push.ensures.items (ap is_ok c.in_ok-push.was))) more);
+      let more = one_more w c.args.zoom c.args.sights.now c.loop-sight.holders.items c.loop-sight.sight-index
+      c.sight-item.result c.in_ok-holder.holder c.loop-sight-test.true c.sight-item.is so_far here in
+      simp (to_z-of_z, c.ranges.zoom) (subst (λ hs. AllZip (IsDrawn w c.args.zoom)
+      (take (c.loop-sight.sight-index + 1) c.args.sights.now) hs)
+      (sym (chosen _ _ _ _ c.push.ensures.items (ap is_ok c.in_ok-push.was))) more);
 }
 
 pub returns-clause-told : goal.returns-clause-told
 returns-clause-told g c = λ clean w stands.
     let each = simp (to_z-of_z, c.ranges.zoom) at c.loop-sight.invariant.drawn clean w stands in
     all_drawn w c.args.zoom c.args.sights.now c.loop-sight.holders.items
-    (subst (λ l. AllZip (IsDrawn w c.args.zoom) l c.loop-sight.holders.items) (take_all c.loop-sight.sight-index c.args.sights.now c.loop-sight-test.false) each)
+    (subst (λ l. AllZip (IsDrawn w c.args.zoom) l c.loop-sight.holders.items)
+    (take_all c.loop-sight.sight-index c.args.sights.now c.loop-sight-test.false) each)

@@ -11,5 +11,6 @@ use Rattle.views.proofs.gathering.holders_among.Given as goal
 abbrev pub invariant-loop-sight : goal.invariant-loop-sight
 invariant-loop-sight g l = record {
   read : IsUntouched g.S.Store l.fn.world l.world;
-  drawn : AllClean g.S.Store l.world.members → (w : World) → StandsFor g.S.Store l.fn.world w → AllZip (IsDrawn w l.zoom) (take l.sight-index l.sights) l.holders.items;
+  drawn : AllClean g.S.Store l.world.members → (w : World) → StandsFor g.S.Store l.fn.world w
+      → AllZip (IsDrawn w l.zoom) (take l.sight-index l.sights) l.holders.items;
 }

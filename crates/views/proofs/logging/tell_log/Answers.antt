@@ -7,7 +7,8 @@ use Rattle.views.proofs.logging.tell_log.Goals as goal
 pub returns : goal.returns
 returns g c = record {
   found = told (λ t. string_bytes t) c.log_text_in-text.result;
-  told = tells_told g.S.Store (λ t. string_bytes t) (λ w. log_text c.args.form w c.args.excerpt.now) c.args.world.now c.log_text_in-text.new.world c.log_text_in-text.result c.log_text_in-text.ensures.told;
+  told = tells_told g.S.Store (λ t. string_bytes t) (λ w. log_text c.args.form w c.args.excerpt.now) c.args.world.now
+      c.log_text_in-text.new.world c.log_text_in-text.result c.log_text_in-text.ensures.told;
   read = c.log_text_in-text.ensures.read;
   shown = c.show.ensures;
 }

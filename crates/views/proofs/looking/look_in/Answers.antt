@@ -14,13 +14,23 @@ returns-in-Receipt g c =
 
 pub returns-in-Manifest : goal.returns-in-Manifest
 returns-in-Manifest g c =
-    rw c.in-Manifest.is
-    (c.manifest_in-told.new.world, c.manifest_in-told.result, c.into_stores-in-Manifest.ensures, refl, c.manifest_in-told.ensures)
+    rw c.in-Manifest.is (
+      c.manifest_in-told.new.world,
+      c.manifest_in-told.result,
+      c.into_stores-in-Manifest.ensures,
+      refl,
+      c.manifest_in-told.ensures,
+    )
 
 pub returns-in-Export : goal.returns-in-Export
 returns-in-Export g c =
-    rw c.in-Export.is
-    (c.export_in-told.new.world, c.export_in-told.result, c.into_stores-in-Export.ensures, refl, c.export_in-told.ensures)
+    rw c.in-Export.is (
+      c.export_in-told.new.world,
+      c.export_in-told.result,
+      c.into_stores-in-Export.ensures,
+      refl,
+      c.export_in-told.ensures,
+    )
 
 pub returns-in-Map : goal.returns-in-Map
 returns-in-Map g c =

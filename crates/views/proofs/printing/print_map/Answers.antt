@@ -12,7 +12,8 @@ returns-in-Ok-send-clause-printed g c = λ clean w stands.
       has_zoom w c.frame-frame.result c.args.asked c.in-Some.zoom frame c.in-Some.ensures.some c.in-Some.ensures.level,
       (
         c.as_bytes.result.now,
-        is_map w c.frame-frame.result c.args.asked c.in-Some.zoom frame c.in-Some.ensures.some c.as_bytes.result.now (subst (IsWorldMap w c.in-Some.zoom) (sym c.as_bytes.ensures.value) made),
+        is_map w c.frame-frame.result c.args.asked c.in-Some.zoom frame c.in-Some.ensures.some c.as_bytes.result.now
+            (subst (IsWorldMap w c.in-Some.zoom) (sym c.as_bytes.ensures.value) made),
         c.in-Ok-send.ensures.ok,
       ),
     )
@@ -25,7 +26,8 @@ returns-clause-printed g c = λ clean w stands.
       has_zoom w c.frame-frame.result c.args.asked c.in-Some.zoom frame c.in-Some.ensures.some c.in-Some.ensures.level,
       (
         c.as_bytes.result.now,
-        is_map w c.frame-frame.result c.args.asked c.in-Some.zoom frame c.in-Some.ensures.some c.as_bytes.result.now (subst (IsWorldMap w c.in-Some.zoom) (sym c.as_bytes.ensures.value) made),
+        is_map w c.frame-frame.result c.args.asked c.in-Some.zoom frame c.in-Some.ensures.some c.as_bytes.result.now
+            (subst (IsWorldMap w c.in-Some.zoom) (sym c.as_bytes.ensures.value) made),
         c.in-Err-send.ensures.err,
       ),
     )

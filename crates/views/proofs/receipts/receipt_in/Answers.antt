@@ -7,7 +7,8 @@ use Rattle.views.proofs.receipts.receipt_in.Goals as goal
 pub returns : goal.returns
 returns g c = record {
   found = told_if (λ t. string_bytes t) c.receipt_line-found.result;
-  told = tells_told_if g.S.Store (λ t. string_bytes t) (λ w. receipt_line w c.args.request) c.args.world.now c.receipt_line-found.new.world c.receipt_line-found.result c.receipt_line-found.ensures.told;
+  told = tells_told_if g.S.Store (λ t. string_bytes t) (λ w. receipt_line w c.args.request) c.args.world.now
+      c.receipt_line-found.new.world c.receipt_line-found.result c.receipt_line-found.ensures.told;
   read = c.receipt_line-found.ensures.read;
   shown = c.show_found.ensures;
 }

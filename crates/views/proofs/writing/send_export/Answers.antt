@@ -11,26 +11,30 @@ pub returns-in_err-numbers-clause-err : goal.returns-in_err-numbers-clause-err
 returns-in_err-numbers-clause-err g c =
     let f = c.args.frame.now in
     let items = c.args.items.now in
-    on_err _ (none_sent (opening f c.args.package c.args.ticket) (items_behind f no_counts items) (flat_map (link_row items) c.args.links.now) _)
+    on_err _ (none_sent (opening f c.args.package c.args.ticket) (items_behind f no_counts items)
+    (flat_map (link_row items) c.args.links.now) _)
 
 pub returns-in_err-head-clause-err : goal.returns-in_err-head-clause-err
 returns-in_err-head-clause-err g c =
     let f = c.args.frame.now in
     let items = c.args.items.now in
-    on_err _ (none_sent (opening f c.args.package c.args.ticket) (items_behind f no_counts items) (flat_map (link_row items) c.args.links.now) _)
+    on_err _ (none_sent (opening f c.args.package c.args.ticket) (items_behind f no_counts items)
+    (flat_map (link_row items) c.args.links.now) _)
 
 pub returns-in_err-send-clause-err : goal.returns-in_err-send-clause-err
 returns-in_err-send-clause-err g c =
     let f = c.args.frame.now in
     let items = c.args.items.now in
-    on_err _ (head_begun (opening f c.args.package c.args.ticket) (items_behind f no_counts items) (flat_map (link_row items) c.args.links.now) _ _
+    on_err _ (head_begun (opening f c.args.package c.args.ticket) (items_behind f no_counts items)
+    (flat_map (link_row items) c.args.links.now) _ _
     (subst (WentOut _ _) (c.as_bytes.ensures.value ∙ c.in_ok-head.ensures) c.in_err-send.ensures.err))
 
 pub returns-in_err-send_items-clause-err : goal.returns-in_err-send_items-clause-err
 returns-in_err-send_items-clause-err g c =
     let f = c.args.frame.now in
     let items = c.args.items.now in
-    on_err _ (rows_begun (opening f c.args.package c.args.ticket) (items_behind f no_counts items) (flat_map (link_row items) c.args.links.now) _ _ _
+    on_err _ (rows_begun (opening f c.args.package c.args.ticket) (items_behind f no_counts items)
+    (flat_map (link_row items) c.args.links.now) _ _ _
     (subst (Appends _ _) (c.as_bytes.ensures.value ∙ c.in_ok-head.ensures) c.in_ok-send.ensures.ok)
     c.in_err-send_items.ensures.err)
 
@@ -38,7 +42,8 @@ pub returns-in_err-send_links-clause-err : goal.returns-in_err-send_links-clause
 returns-in_err-send_links-clause-err g c =
     let f = c.args.frame.now in
     let items = c.args.items.now in
-    on_err _ (links_begun (opening f c.args.package c.args.ticket) (items_behind f no_counts items) (flat_map (link_row items) c.args.links.now) _ _ _ _
+    on_err _ (links_begun (opening f c.args.package c.args.ticket) (items_behind f no_counts items)
+    (flat_map (link_row items) c.args.links.now) _ _ _ _
     (subst (Appends _ _) (c.as_bytes.ensures.value ∙ c.in_ok-head.ensures) c.in_ok-send.ensures.ok)
     c.in_ok-send_items.ensures.ok
     (c.in_err-send_links.ensures.err items c.in_ok-numbers.ensures))
@@ -47,7 +52,8 @@ pub returns-in_err-send-2-clause-err : goal.returns-in_err-send-2-clause-err
 returns-in_err-send-2-clause-err g c =
     let f = c.args.frame.now in
     let items = c.args.items.now in
-    on_err _ (end_begun (opening f c.args.package c.args.ticket) (items_behind f no_counts items) (flat_map (link_row items) c.args.links.now) _ _ _ _ _
+    on_err _ (end_begun (opening f c.args.package c.args.ticket) (items_behind f no_counts items)
+    (flat_map (link_row items) c.args.links.now) _ _ _ _ _
     (subst (Appends _ _) (c.as_bytes.ensures.value ∙ c.in_ok-head.ensures) c.in_ok-send.ensures.ok)
     c.in_ok-send_items.ensures.ok
     (c.in_ok-send_links.ensures.ok items c.in_ok-numbers.ensures)
@@ -57,7 +63,8 @@ pub returns-clause-ok : goal.returns-clause-ok
 returns-clause-ok g c =
     let f = c.args.frame.now in
     let items = c.args.items.now in
-    all_sent (opening f c.args.package c.args.ticket) (items_behind f no_counts items) (flat_map (link_row items) c.args.links.now) _ _ _ _ _
+    all_sent (opening f c.args.package c.args.ticket) (items_behind f no_counts items)
+    (flat_map (link_row items) c.args.links.now) _ _ _ _ _
     (subst (Appends _ _) (c.as_bytes.ensures.value ∙ c.in_ok-head.ensures) c.in_ok-send.ensures.ok)
     c.in_ok-send_items.ensures.ok
     (c.in_ok-send_links.ensures.ok items c.in_ok-numbers.ensures)

@@ -12,5 +12,6 @@ invariant-loop-item g l = record {
   media : l.counts.media ≤ l.item-index;
   rows : l.counts.rows ≤ l.item-index;
   counted : l.counts ≡ counts_behind no_counts (take l.item-index l.items);
-  out : Appends (g.W.Write.contents l.initial.writer) (g.W.Write.contents l.writer) (items_behind l.frame no_counts (take l.item-index l.items));
+  out : Appends (g.W.Write.contents l.initial.writer) (g.W.Write.contents l.writer)
+      (items_behind l.frame no_counts (take l.item-index l.items));
 }

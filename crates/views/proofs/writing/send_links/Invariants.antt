@@ -9,4 +9,5 @@ use Rattle.views.proofs.writing.send_links.Given as goal
 
 abbrev pub invariant-loop-link : goal.invariant-loop-link
 invariant-loop-link g l = (items : List Item) → AreNumbersOf l.numbers items
-    → Appends (g.W.Write.contents l.initial.writer) (g.W.Write.contents l.writer) (flat_map (link_row items) (take l.link-index l.links))
+    → Appends (g.W.Write.contents l.initial.writer) (g.W.Write.contents l.writer)
+    (flat_map (link_row items) (take l.link-index l.links))

@@ -20,10 +20,13 @@ returns-in_err-ticket-clause-read g c = c.in_ok-items.ensures.read
 pub returns-clause-written : goal.returns-clause-written
 returns-clause-written g c = λ clean w stands.
     let told = c.in_ok-items.ensures.told clean w stands in
-    let found : Some (c.as_slice.result.now, c.as_slice-2.result.now) ≡ holdings_answer w c.args.package = search rules in
-    found_written w c.args.package c.frame-frame.result c.in_ok-ticket.ticket _ _ _ _ c.send_export.result (c.frame-frame.ensures ∙ stands.frame)
+    let found : Some (c.as_slice.result.now, c.as_slice-2.result.now) ≡ holdings_answer w c.args.package =
+    search rules in
+    found_written w c.args.package c.frame-frame.result c.in_ok-ticket.ticket _ _ _ _ c.send_export.result
+    (c.frame-frame.ensures ∙ stands.frame)
     (c.in_ok-ticket.ensures w (c.in_ok-items.ensures.read.stands w stands)) found
     c.send_export.ensures.ok c.send_export.ensures.err c.send_export.ensures.live
 
 pub returns-then-not-is_good-clause-written : goal.returns-then-not-is_good-clause-written
-returns-then-not-is_good-clause-written g c = λ clean w stands. none_written w c.args.package (g.W.Write.contents c.args.writer.now)
+returns-then-not-is_good-clause-written g c = λ clean w stands. none_written w c.args.package
+    (g.W.Write.contents c.args.writer.now)

@@ -22,12 +22,23 @@ child_at-requires g c = rw c.as_slice.ensures.value c.requires.place.from
 
 pub returns-in_default-clause-carries : goal.returns-in_default-clause-carries
 returns-in_default-clause-carries g c =
-    let made = carries_unbegun g.S.Store g.met.S.Store.shut_if_dirty g.met.S.Store.settled (λ w next. IsReturned w next c.args.due) c.args.due.receipt c.args.members.now.items c.args.members.now.items [] c.args.count.now (Turn (Before StoreFault)) refl c.requires.rests c.requires.rests
-    (all_still g.S.Store g.met.S.Store.shut_if_dirty g.met.S.Store.settled c.args.members.now.items c.requires.rests) tt in (
+    let made = carries_unbegun g.S.Store g.met.S.Store.shut_if_dirty g.met.S.Store.settled
+    (λ w next. IsReturned w next c.args.due) c.args.due.receipt c.args.members.now.items
+    c.args.members.now.items [] c.args.count.now (Turn (Before StoreFault)) refl c.requires.rests
+    c.requires.rests
+    (all_still g.S.Store g.met.S.Store.shut_if_dirty g.met.S.Store.settled c.args.members.now.items c.requires.rests)
+    tt in (
       made,
-      none_home g.S.Store g.H.Shelf.takes c.args.members.now.items (λ uuid. (child_returned c.args.command.now ≡ Some uuid) × OfEachDue g.S.Store (λ w next. IsReturned w next c.args.due) c.args.members.now.items c.args.count.now (λ w next. IsNoPackage next uuid)) made.gone c.args.shelf.now (made.kept _ refl),
-      subst (WritesTwoAtMost g.S.Store (child_asked c.args.command.now) (child_returned c.args.command.now) c.args.members.now.items c.args.members.now.items) (sym (made.kept _ refl))
-          (none_written g.S.Store (child_asked c.args.command.now) (child_returned c.args.command.now) c.args.members.now.items c.args.members.now.items (all_still g.S.Store g.met.S.Store.shut_if_dirty g.met.S.Store.settled c.args.members.now.items c.requires.rests)),
+      none_home g.S.Store g.H.Shelf.takes c.args.members.now.items
+          (λ uuid. (child_returned c.args.command.now ≡ Some uuid)
+          × OfEachDue g.S.Store (λ w next. IsReturned w next c.args.due) c.args.members.now.items c.args.count.now
+          (λ w next. IsNoPackage next uuid)) made.gone c.args.shelf.now (made.kept _ refl),
+      subst (WritesTwoAtMost g.S.Store (child_asked c.args.command.now) (child_returned c.args.command.now)
+          c.args.members.now.items c.args.members.now.items) (sym (made.kept _ refl))
+          (none_written g.S.Store (child_asked c.args.command.now) (child_returned c.args.command.now)
+          c.args.members.now.items c.args.members.now.items
+          (all_still g.S.Store g.met.S.Store.shut_if_dirty g.met.S.Store.settled c.args.members.now.items
+          c.requires.rests)),
     )
 
 pub returns-in_default-clause-shelf : goal.returns-in_default-clause-shelf
@@ -35,25 +46,49 @@ returns-in_default-clause-shelf g c = refl
 
 pub returns-clause-carries : goal.returns-clause-carries
 returns-clause-carries g c =
-    let made = carries_returned g.S.Store g.met.S.Store.shut_if_dirty g.met.S.Store.settled c.args.due c.args.members.now.items c.merge_at.new.members.items c.args.count.now _ c.in_ok-receipt.receipt c.in_ok-receipt.child (ap (λ (r : Receipt). r.seq) (c.in_ok-receipt.ensures.merges.done _ refl).0 ∙ c.requires.place.number) c.in_ok-receipt.ensures.merges in
-    let has : HasUuidAt c.args.members.now.items c.args.due.from c.in-Some.uuid = subst (λ ms. HasUuidAt ms c.args.due.from c.in-Some.uuid) c.as_slice.ensures.value c.in-Some.ensures.0 in (
+    let made = carries_returned g.S.Store g.met.S.Store.shut_if_dirty g.met.S.Store.settled c.args.due
+    c.args.members.now.items c.merge_at.new.members.items c.args.count.now _ c.in_ok-receipt.receipt
+    c.in_ok-receipt.child (ap (λ (r : Receipt). r.seq) (c.in_ok-receipt.ensures.merges.done _ refl).0
+    ∙ c.requires.place.number) c.in_ok-receipt.ensures.merges in
+    let has : HasUuidAt c.args.members.now.items c.args.due.from c.in-Some.uuid =
+    subst (λ ms. HasUuidAt ms c.args.due.from c.in-Some.uuid) c.as_slice.ensures.value c.in-Some.ensures.0 in (
       made.0,
-      subst (λ gone. ComeHome g.S.Store g.H.Shelf.takes c.args.members.now.items (λ uuid. (child_returned c.args.command.now ≡ Some uuid) × OfEachDue g.S.Store (λ w next. IsReturned w next c.args.due) c.args.members.now.items c.args.count.now (λ w next. IsNoPackage next uuid)) gone c.args.shelf.now c.retire.new.self) (sym made.1)
-          (comes_home g.S.Store g.met.S.Store.shut_if_dirty g.met.S.Store.settled c.args.due c.args.members.now.items c.merge_at.new.members.items c.args.count.now g.H.Shelf.takes c.in_ok-receipt.child c.args.command.now c.in-Some.uuid c.args.shelf.now c.retire.new.self (c.in_ok-receipt.ensures.merges.home _ refl) has c.in-Some.ensures.1 (c.into_store.result, c.into_store.ensures.quiet, c.retire.ensures.takes)),
-      subst (WritesTwoAtMost g.S.Store (child_asked c.args.command.now) (child_returned c.args.command.now) c.args.members.now.items c.merge_at.new.members.items) (sym made.1)
-          (home_written g.S.Store g.met.S.Store.shut_if_dirty g.met.S.Store.settled c.args.due c.args.members.now.items c.merge_at.new.members.items c.args.count.now c.in_ok-receipt.receipt c.in_ok-receipt.child c.args.command.now c.in-Some.uuid c.in_ok-receipt.ensures.merges has c.in-Some.ensures.1),
+      subst (λ gone. ComeHome g.S.Store g.H.Shelf.takes c.args.members.now.items
+          (λ uuid. (child_returned c.args.command.now ≡ Some uuid)
+          × OfEachDue g.S.Store (λ w next. IsReturned w next c.args.due) c.args.members.now.items c.args.count.now
+          (λ w next. IsNoPackage next uuid)) gone c.args.shelf.now c.retire.new.self) (sym made.1)
+          (comes_home g.S.Store g.met.S.Store.shut_if_dirty g.met.S.Store.settled c.args.due c.args.members.now.items
+          c.merge_at.new.members.items c.args.count.now g.H.Shelf.takes c.in_ok-receipt.child c.args.command.now
+          c.in-Some.uuid c.args.shelf.now c.retire.new.self (c.in_ok-receipt.ensures.merges.home _ refl) has
+          c.in-Some.ensures.1 (c.into_store.result, c.into_store.ensures.quiet, c.retire.ensures.takes)),
+      subst (WritesTwoAtMost g.S.Store (child_asked c.args.command.now) (child_returned c.args.command.now)
+          c.args.members.now.items c.merge_at.new.members.items) (sym made.1)
+          (home_written g.S.Store g.met.S.Store.shut_if_dirty g.met.S.Store.settled c.args.due
+          c.args.members.now.items c.merge_at.new.members.items c.args.count.now c.in_ok-receipt.receipt
+          c.in_ok-receipt.child c.args.command.now c.in-Some.uuid c.in_ok-receipt.ensures.merges has
+          c.in-Some.ensures.1),
     )
 
 pub returns-in_err-receipt-clause-carries : goal.returns-in_err-receipt-clause-carries
 returns-in_err-receipt-clause-carries g c =
     let told = turned_into _ _ c.from_residual.ensures.1 in
-    let made : Carries g.S.Store (λ w next. IsReturned w next c.args.due) c.args.due.receipt c.args.members.now.items c.merge_at.new.members.items [] c.args.count.now c.args.count.now c.from_residual.result =
-    subst (Carries g.S.Store (λ w next. IsReturned w next c.args.due) c.args.due.receipt c.args.members.now.items c.merge_at.new.members.items [] c.args.count.now c.args.count.now) (sym told)
-    (carries_unreturned g.S.Store g.met.S.Store.shut_if_dirty g.met.S.Store.settled c.args.due c.args.members.now.items c.merge_at.new.members.items c.args.count.now _ c.in_err-receipt.ensures.merges) in (
+    let made : Carries g.S.Store (λ w next. IsReturned w next c.args.due) c.args.due.receipt c.args.members.now.items
+    c.merge_at.new.members.items [] c.args.count.now c.args.count.now c.from_residual.result =
+    subst (Carries g.S.Store (λ w next. IsReturned w next c.args.due) c.args.due.receipt c.args.members.now.items
+    c.merge_at.new.members.items [] c.args.count.now c.args.count.now) (sym told)
+    (carries_unreturned g.S.Store g.met.S.Store.shut_if_dirty g.met.S.Store.settled c.args.due
+    c.args.members.now.items c.merge_at.new.members.items c.args.count.now _ c.in_err-receipt.ensures.merges) in (
       made,
-      none_home g.S.Store g.H.Shelf.takes c.args.members.now.items (λ uuid. (child_returned c.args.command.now ≡ Some uuid) × OfEachDue g.S.Store (λ w next. IsReturned w next c.args.due) c.args.members.now.items c.args.count.now (λ w next. IsNoPackage next uuid)) made.gone c.args.shelf.now (made.kept _ told),
-      subst (WritesTwoAtMost g.S.Store (child_asked c.args.command.now) (child_returned c.args.command.now) c.args.members.now.items c.merge_at.new.members.items) (sym (made.kept _ told))
-          (one_written g.S.Store (child_asked c.args.command.now) (child_returned c.args.command.now) c.args.members.now.items c.args.members.now.items (all_still g.S.Store g.met.S.Store.shut_if_dirty g.met.S.Store.settled c.args.members.now.items c.requires.rests)
+      none_home g.S.Store g.H.Shelf.takes c.args.members.now.items
+          (λ uuid. (child_returned c.args.command.now ≡ Some uuid)
+          × OfEachDue g.S.Store (λ w next. IsReturned w next c.args.due) c.args.members.now.items c.args.count.now
+          (λ w next. IsNoPackage next uuid)) made.gone c.args.shelf.now (made.kept _ told),
+      subst (WritesTwoAtMost g.S.Store (child_asked c.args.command.now) (child_returned c.args.command.now)
+          c.args.members.now.items c.merge_at.new.members.items) (sym (made.kept _ told))
+          (one_written g.S.Store (child_asked c.args.command.now) (child_returned c.args.command.now)
+          c.args.members.now.items c.args.members.now.items
+          (all_still g.S.Store g.met.S.Store.shut_if_dirty g.met.S.Store.settled c.args.members.now.items
+          c.requires.rests)
           c.merge_at.new.members.items (c.in_err-receipt.ensures.merges.kept _ refl)),
     )
 
@@ -64,7 +99,8 @@ pub returns-in_err-receipt-clause-shorter : goal.returns-in_err-receipt-clause-s
 returns-in_err-receipt-clause-shorter g c = omega (arith, (c.in_err-receipt.ensures.merges.failed _ refl).0)
 
 pub returns-in_err-receipt-clause-shelf : goal.returns-in_err-receipt-clause-shelf
-returns-in_err-receipt-clause-shelf g c = counts_turn _ c.in_err-receipt.field-0.0 _ (turned_into _ _ c.from_residual.ensures.1)
+returns-in_err-receipt-clause-shelf g c = counts_turn _ c.in_err-receipt.field-0.0 _
+    (turned_into _ _ c.from_residual.ensures.1)
 
 pub returns-clause-shelf : goal.returns-clause-shelf
 returns-clause-shelf g c = c.retire.ensures.counts

@@ -13,5 +13,6 @@ returns-then-eq g c = (
     slice_get_read _ _ _ _ refl c.requires c.index-members-at.is,
     ap (λ (m : Member g.row.S.Denot). m.uuid) (sym c.index-members-at.is),
   ),
-  ap child_returned c.in-Merge.is ∙ ap Some (sym ((bytes_eq-Decides _ c.in-Merge.child).0 (sym c.eq.ensures ∙ c.if-eq.true))),
+  ap child_returned c.in-Merge.is ∙ ap Some (sym ((bytes_eq-Decides _ c.in-Merge.child).0
+      (sym c.eq.ensures ∙ c.if-eq.true))),
 )

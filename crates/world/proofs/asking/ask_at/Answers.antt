@@ -7,7 +7,17 @@ use Rattle.world.proofs.asking.ask_at.Goals as goal
 
 pub returns : goal.returns
 returns g c =
-    let place : slice_get c.args.members.now.items c.args.at ≡ Some c.index_mut-member.result.now = slice_get_read _ _ _ _ refl c.requires.within c.index_mut-member.ensures.value in
-    looked_at g.S.Store g.met.S.Store.shut_if_dirty g.met.S.Store.settled (λ f p x. g.Q.Question.tells c.args.question.now p x) c.args.members.now.items _ c.args.at c.ask.result
-    (record { was = c.index_mut-member.result.now; place = place; last = c.ask.new.conn; others = refl; turned = c.ask.ensures }) c.requires.rests
-    (λ x w p here told q there. let same : p ≡ q = cc in subst (λ v. g.Q.Question.tells c.args.question.now v x) same told)
+    let place : slice_get c.args.members.now.items c.args.at ≡ Some c.index_mut-member.result.now =
+    slice_get_read _ _ _ _ refl c.requires.within c.index_mut-member.ensures.value in
+    looked_at g.S.Store g.met.S.Store.shut_if_dirty g.met.S.Store.settled
+    (λ f p x. g.Q.Question.tells c.args.question.now p x) c.args.members.now.items _ c.args.at c.ask.result
+    (record {
+      was = c.index_mut-member.result.now;
+      place = place;
+      last = c.ask.new.conn;
+      others = refl;
+      turned =
+          c.ask.ensures;
+    }) c.requires.rests
+    (λ x w p here told q there. let same : p ≡ q = cc in subst (λ v. g.Q.Question.tells c.args.question.now v x) same
+    told)

@@ -8,11 +8,18 @@ use Rattle.world_changes.proofs.splitting.lend_and_place.Goals as goal
 
 pub returns-in-Ok-clause-splits : goal.returns-in-Ok-clause-splits
 returns-in-Ok-clause-splits g c =
-    subst (λ ms. Splits g.S.Store c.args.due c.args.child c.args.members.now.items ms c.args.strays.now.items c.args.strays.now.items (Ok c.args.due.receipt))
-    (sym (c.insert_reserved.ensures.items ∙ ap (insert c.lend_at.new.members.items c.args.due.child_at) c.child_member-member.ensures))
-    (splits_done g.S.Store g.met.S.Store.shut_if_dirty g.met.S.Store.settled c.args.due c.args.child c.args.members.now.items c.lend_at.new.members.items c.args.strays.now.items c.requires.rests c.requires.child {E = TurnFault} c.in-Ok.ensures.turned)
+    subst (λ ms. Splits g.S.Store c.args.due c.args.child c.args.members.now.items ms c.args.strays.now.items
+    c.args.strays.now.items (Ok c.args.due.receipt))
+    (sym (c.insert_reserved.ensures.items ∙ ap (insert c.lend_at.new.members.items c.args.due.child_at)
+    c.child_member-member.ensures))
+    (splits_done g.S.Store g.met.S.Store.shut_if_dirty g.met.S.Store.settled c.args.due c.args.child
+    c.args.members.now.items c.lend_at.new.members.items c.args.strays.now.items c.requires.rests c.requires.child
+    {E = TurnFault} c.in-Ok.ensures.turned)
 
 pub returns-in-Err-clause-splits : goal.returns-in-Err-clause-splits
 returns-in-Err-clause-splits g c =
-    splits_failed g.S.Store g.met.S.Store.shut_if_dirty g.met.S.Store.settled c.args.due c.args.child c.args.members.now.items c.lend_at.new.members.items c.args.strays.now.items c.requires.rests c.requires.child c.in-Err.why c.in-Err.ensures.turned c.args.strays.now.items c.keep_or_return.new.strays.items
-    c.keep_or_return.ensures.kept c.keep_or_return.ensures.dropped (λ fault is. c.in-Err.ensures.unharmed fault (ap Err is))
+    splits_failed g.S.Store g.met.S.Store.shut_if_dirty g.met.S.Store.settled c.args.due c.args.child
+    c.args.members.now.items c.lend_at.new.members.items c.args.strays.now.items c.requires.rests c.requires.child
+    c.in-Err.why c.in-Err.ensures.turned c.args.strays.now.items c.keep_or_return.new.strays.items
+    c.keep_or_return.ensures.kept c.keep_or_return.ensures.dropped
+    (λ fault is. c.in-Err.ensures.unharmed fault (ap Err is))

@@ -16,14 +16,23 @@ returns-in_ok-taken-in-Tile g c =
     let column : SFits w64 c.in-Tile.column = search rules in
     let row : SFits w64 c.in-Tile.row = search rules in
     let asked = simp (to_z-of_z, zoom, column, row) at c.has_tile_in.ensures in
-    let made = simp (to_z-of_z, zoom, column, row) at (rw (c.unsigned_abs.ensures.value, c.unsigned_abs-in-Tile.ensures.value, c.unsigned_abs-in-Tile-2.ensures.value) at c.then_some.ensures) in
+    let made = simp (to_z-of_z, zoom, column, row) at (rw (
+      c.unsigned_abs.ensures.value,
+      c.unsigned_abs-in-Tile.ensures.value,
+      c.unsigned_abs-in-Tile-2.ensures.value,
+    ) at c.then_some.ensures) in
     asks_answer g.S.Store {x = c.in_ok-taken-in-Tile.taken} c.in_ok-taken-in-Tile.was
-    (λ w count are told p here. made ∙ clash_told c.args.item.now p c.in-Tile.zoom c.in-Tile.column c.in-Tile.row c.in-Tile.bytes c.in_ok-taken-in-Tile.taken c.in-Tile.is (told p here)) asked
+    (λ w count are told p here. made ∙ clash_told c.args.item.now p c.in-Tile.zoom c.in-Tile.column c.in-Tile.row
+    c.in-Tile.bytes c.in_ok-taken-in-Tile.taken c.in-Tile.is (told p here)) asked
 
 pub returns-in-Media : goal.returns-in-Media
 returns-in-Media g c =
-    asks_still g.S.Store g.met.S.Store.shut_if_dirty g.met.S.Store.settled c.requires.rests (λ w count are p here. sym (ap (λ content. then_some (takes_place p content) (clash_of c.args.item.now)) c.in-Media.is))
+    asks_still g.S.Store g.met.S.Store.shut_if_dirty g.met.S.Store.settled c.requires.rests
+    (λ w count are p here. sym (ap (λ content. then_some (takes_place p content) (clash_of c.args.item.now))
+    c.in-Media.is))
 
 pub returns-in-Row : goal.returns-in-Row
 returns-in-Row g c =
-    asks_still g.S.Store g.met.S.Store.shut_if_dirty g.met.S.Store.settled c.requires.rests (λ w count are p here. sym (ap (λ content. then_some (takes_place p content) (clash_of c.args.item.now)) c.in-Row.is))
+    asks_still g.S.Store g.met.S.Store.shut_if_dirty g.met.S.Store.settled c.requires.rests
+    (λ w count are p here. sym (ap (λ content. then_some (takes_place p content) (clash_of c.args.item.now))
+    c.in-Row.is))

@@ -9,10 +9,12 @@ pub returns-in_err-items-clause-asks : goal.returns-in_err-items-clause-asks
 returns-in_err-items-clause-asks g c = asks_failed g.S.Store _ c.from_residual.ensures.0 c.holdings_at.ensures
 
 pub decide_held-requires-clause-from : goal.decide_held-requires-clause-from
-decide_held-requires-clause-from g c = subst (λ n. c.args.from < n) (stay_length g.S.Store _ _ c.holdings_at.ensures.stay) c.requires.from
+decide_held-requires-clause-from g c = subst (λ n. c.args.from < n)
+    (stay_length g.S.Store _ _ c.holdings_at.ensures.stay) c.requires.from
 
 pub decide_held-requires-clause-within : goal.decide_held-requires-clause-within
-decide_held-requires-clause-within g c = subst (λ n. c.args.at < n) (stay_length g.S.Store _ _ c.holdings_at.ensures.stay) c.requires.within
+decide_held-requires-clause-within g c = subst (λ n. c.args.at < n)
+    (stay_length g.S.Store _ _ c.holdings_at.ensures.stay) c.requires.within
 
 pub returns-clause-asks : goal.returns-clause-asks
 returns-clause-asks g c =

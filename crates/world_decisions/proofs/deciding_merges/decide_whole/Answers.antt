@@ -11,7 +11,10 @@ use Rattle.world_decisions.proofs.deciding_merges.decide_whole.Goals as goal
 pub returns-clause-decides : goal.returns-clause-decides
 returns-clause-decides g c = λ w are is nothing items_are links_are.
     let selected : IsSelectionOf (all_of (holdings w is.child)) c.in_ok-selection.selection =
-    subst (λ (xs : List Item). IsSelectionOf (record { items = xs; links = (holdings w is.child).links }) c.in_ok-selection.selection) items_are
-    (subst (λ (ls : List Relation). IsSelectionOf (record { items = c.args.items.now; links = ls }) c.in_ok-selection.selection) links_are c.in_ok-selection.ensures) in
+    subst (λ (xs : List Item). IsSelectionOf (record { items = xs; links = (holdings w is.child).links })
+    c.in_ok-selection.selection) items_are
+    (subst (λ (ls : List Relation). IsSelectionOf (record { items = c.args.items.now; links = ls })
+    c.in_ok-selection.selection) links_are c.in_ok-selection.ensures) in
     c.weighed.ensures.decides w c.args.request.now are is nothing
-    (receipt_made c.args.count c.args.from c.args.at c.args.request.now w is c.args.items.now c.deref.result.now _ c.in_ok-receipt.receipt items_are (c.deref.ensures.value ∙ links_are) refl c.in_ok-receipt.ensures) selected
+    (receipt_made c.args.count c.args.from c.args.at c.args.request.now w is c.args.items.now c.deref.result.now _
+    c.in_ok-receipt.receipt items_are (c.deref.ensures.value ∙ links_are) refl c.in_ok-receipt.ensures) selected

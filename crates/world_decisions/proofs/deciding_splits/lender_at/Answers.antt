@@ -6,5 +6,7 @@ use Rattle.world_decisions.proofs.deciding_splits.lender_at.Goals as goal
 
 pub returns-clause-kept : goal.returns-clause-kept
 returns-clause-kept g c =
-    let place : slice_get c.args.members.now c.args.at ≡ Some c.index-members-at.result = slice_get_read _ _ _ _ refl c.requires.within c.index-members-at.is in
-    λ w count p are there. lender_told g.S.Store c.args.members.now count c.args.at w p c.index-members-at.result are place there
+    let place : slice_get c.args.members.now c.args.at ≡ Some c.index-members-at.result =
+    slice_get_read _ _ _ _ refl c.requires.within c.index-members-at.is in
+    λ w count p are there. lender_told g.S.Store c.args.members.now count c.args.at w p c.index-members-at.result are
+    place there

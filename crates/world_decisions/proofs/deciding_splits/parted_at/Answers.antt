@@ -9,7 +9,8 @@ pub returns-in_err-things-clause-asks : goal.returns-in_err-things-clause-asks
 returns-in_err-things-clause-asks g c = asks_failed g.S.Store _ c.from_residual.ensures.0 c.things_at.ensures
 
 pub returns-in_err-receipt-clause-asks : goal.returns-in_err-receipt-clause-asks
-returns-in_err-receipt-clause-asks g c = asks_failed g.S.Store _ c.from_residual-in_err-receipt.ensures.0 c.things_at.ensures
+returns-in_err-receipt-clause-asks g c = asks_failed g.S.Store _ c.from_residual-in_err-receipt.ensures.0
+    c.things_at.ensures
 
 pub returns-in_err-left-clause-asks : goal.returns-in_err-left-clause-asks
 returns-in_err-left-clause-asks g c = asks_failed g.S.Store _ c.from_residual-in_err-left.ensures.0 c.things_at.ensures
@@ -17,7 +18,8 @@ returns-in_err-left-clause-asks g c = asks_failed g.S.Store _ c.from_residual-in
 pub returns-clause-asks : goal.returns-clause-asks
 returns-clause-asks g c =
     asks_answer g.S.Store {x = c.in_ok-things.things} c.in_ok-things.was
-    (λ w n are told p cut here selected part. c.in_ok-receipt.ensures ∙ ap (receipt_over c.args.seq c.args.request.now) (told p cut here selected part)) c.things_at.ensures
+    (λ w n are told p cut here selected part. c.in_ok-receipt.ensures
+    ∙ ap (receipt_over c.args.seq c.args.request.now) (told p cut here selected part)) c.things_at.ensures
 
 pub returns-clause-left : goal.returns-clause-left
 returns-clause-left g c = c.in_ok-left.ensures ∙ ap (λ s. sums_less s c.args.lender.held) c.sums_moved.ensures

@@ -8,5 +8,7 @@ use Rattle.world_decisions.proofs.loan_receipts.in_order.Goals as goal
 
 pub returns-then-is_sorted_by-clause-order : goal.returns-then-is_sorted_by-clause-order
 returns-then-is_sorted_by-clause-order c =
-    let answer = c.if-is_sorted_by.ensures.cases (λ x y. is_before (moved_key x) (moved_key y)) (answers_always _ _ _ (λ f a r g h. search rules)) in
-    subst (IsArranged moved_key) c.deref.ensures.value (rising moved_key c.deref.result.now (λ k d less. sym (answer k d less)))
+    let answer = c.if-is_sorted_by.ensures.cases (λ x y. is_before (moved_key x) (moved_key y))
+    (answers_always _ _ _ (λ f a r g h. search rules)) in
+    subst (IsArranged moved_key) c.deref.ensures.value (rising moved_key c.deref.result.now
+    (λ k d less. sym (answer k d less)))

@@ -11,4 +11,5 @@ returns-in-Some g c =
     (λ w count are told p here. ap Some c.of_item.ensures ∙ ap (option_map item_moved) (told p here)) c.item_at.ensures
 
 pub returns-in-None : goal.returns-in-None
-returns-in-None g c = asks_answer g.S.Store {x = None} (c.in_ok-item.was ∙ ap Ok c.in-None.is) (λ w count are told p here. ap (option_map item_moved) (told p here)) c.item_at.ensures
+returns-in-None g c = asks_answer g.S.Store {x = None} (c.in_ok-item.was ∙ ap Ok c.in-None.is)
+    (λ w count are told p here. ap (option_map item_moved) (told p here)) c.item_at.ensures

@@ -8,5 +8,7 @@ use Rattle.world_decisions.proofs.loan_receipts.things_under.Given as goal
 -- each identity so far has its thing
 abbrev pub invariant-loop-identity : goal.invariant-loop-identity
 invariant-loop-identity g l = record {
-  asked : AsksAll g.S.Store {X = List Moved} {E = Unit {0}} (λ w things. (p : Package) → slice_get w.packages l.fn.at ≡ Some p → map (told_of p) (take l.identity-index l.identities) ≡ map Some things) l.fn.members.items l.members.items (Ok l.things.items);
+  asked : AsksAll g.S.Store {X = List Moved} {E = Unit {0}} (λ w things. (p : Package)
+      → slice_get w.packages l.fn.at ≡ Some p → map (told_of p) (take l.identity-index l.identities)
+      ≡ map Some things) l.fn.members.items l.members.items (Ok l.things.items);
 }

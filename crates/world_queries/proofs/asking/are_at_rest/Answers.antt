@@ -10,8 +10,16 @@ use Rattle.world_queries.proofs.asking.are_at_rest.Goals as goal
 pub loop-at-preserved : goal.loop-at-preserved
 loop-at-preserved g c =
     let P : Member g.row.S.Denot → Type 0 = λ m. Rests (state g.S.Store m.conn) in
-    let rests : P (slice_index_or c.args.members.now c.loop-at.at c.index-members-at.result) = c.if-not-is_at_rest.ensures.yes refl in
-    record { each = AllWithin-more P c.args.members.now 0 c.loop-at.at c.loop-at.invariant.each (λ d. subst P (get_or_default c.args.members.now c.loop-at.at c.index-members-at.result d c.loop-at-test.true) rests) }
+    let rests : P (slice_index_or c.args.members.now c.loop-at.at c.index-members-at.result) =
+    c.if-not-is_at_rest.ensures.yes refl in
+    record {
+      each = AllWithin-more P c.args.members.now 0 c.loop-at.at c.loop-at.invariant.each
+          (λ d. subst P (get_or_default c.args.members.now c.loop-at.at c.index-members-at.result d c.loop-at-test.true)
+          rests);
+    }
 
 pub returns : goal.returns
-returns g c = (λ all k d low. c.loop-at.invariant.each k d (omega arith) (omega (arith, low, c.loop-at-test.false)), λ rest. refl)
+returns g c = (
+  λ all k d low. c.loop-at.invariant.each k d (omega arith) (omega (arith, low, c.loop-at-test.false)),
+  λ rest. refl,
+)

@@ -5,5 +5,15 @@ use Rattle.world_queries.proofs.asking.kept_by.Goals as goal
 
 pub returns : goal.returns
 returns g c =
-    let place : slice_get c.args.members.now.items c.args.at ≡ Some c.index_mut-member.result.now = slice_get_read _ _ _ _ refl c.requires.within c.index_mut-member.ensures.value in
-    record { looked = record { was = c.index_mut-member.result.now; place = place; last = c.kept.new.conn; others = refl; turned = c.kept.ensures } }
+    let place : slice_get c.args.members.now.items c.args.at ≡ Some c.index_mut-member.result.now =
+    slice_get_read _ _ _ _ refl c.requires.within c.index_mut-member.ensures.value in
+    record {
+      looked = record {
+        was = c.index_mut-member.result.now;
+        place = place;
+        last = c.kept.new.conn;
+        others =
+            refl;
+        turned = c.kept.ensures;
+      };
+    }

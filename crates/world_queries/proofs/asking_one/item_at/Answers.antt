@@ -7,7 +7,16 @@ use Rattle.world_queries.proofs.asking_one.item_at.Goals as goal
 
 pub returns : goal.returns
 returns g c =
-    let place : slice_get c.args.members.now.items c.args.at ≡ Some c.index_mut-member.result.now = slice_get_read _ _ _ _ refl c.requires.within c.index_mut-member.ensures.value in
-    looked_at g.S.Store g.met.S.Store.shut_if_dirty g.met.S.Store.settled (λ f p found. found ≡ item_of p c.args.identity) c.args.members.now.items _ c.args.at c.find.result
-    (record { was = c.index_mut-member.result.now; place = place; last = c.find.new.conn; others = refl; turned = c.find.ensures }) c.requires.rests
+    let place : slice_get c.args.members.now.items c.args.at ≡ Some c.index_mut-member.result.now =
+    slice_get_read _ _ _ _ refl c.requires.within c.index_mut-member.ensures.value in
+    looked_at g.S.Store g.met.S.Store.shut_if_dirty g.met.S.Store.settled
+    (λ f p found. found ≡ item_of p c.args.identity) c.args.members.now.items _ c.args.at c.find.result
+    (record {
+      was = c.index_mut-member.result.now;
+      place = place;
+      last = c.find.new.conn;
+      others = refl;
+      turned =
+          c.find.ensures;
+    }) c.requires.rests
     (λ found w p here told q there. let same : p ≡ q = cc in told ∙ ap (λ x. item_of x c.args.identity) same)

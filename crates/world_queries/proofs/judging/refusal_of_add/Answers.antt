@@ -15,13 +15,15 @@ returns-in-Tile g c =
     let zoom : SFits w64 c.in-Tile.zoom = search rules in
     let column : SFits w64 c.in-Tile.column = search rules in
     let row : SFits w64 c.in-Tile.row = search rules in
-    judges_so (λ f p found. f ≡ c.args.frame.now → found ≡ first_row (tile_reasons f p c.in-Tile.zoom c.in-Tile.column c.in-Tile.row)) c.refusal_of_tile.result
+    judges_so (λ f p found. f ≡ c.args.frame.now → found ≡ first_row
+    (tile_reasons f p c.in-Tile.zoom c.in-Tile.column c.in-Tile.row)) c.refusal_of_tile.result
     (λ x f p so same. so same ∙ ap (λ y. first_row (content_reasons f p y)) (sym c.in-Tile.is))
     (simp (to_z-of_z, zoom, column, row) at c.refusal_of_tile.ensures)
 
 pub returns-in-Media : goal.returns-in-Media
 returns-in-Media g c =
-    judges_still g.S.Store g.met.S.Store.shut_if_dirty g.met.S.Store.settled c.args.conn.now c.requires.rests (λ f p same. ap (λ y. first_row (content_reasons f p y)) (sym c.in-Media.is))
+    judges_still g.S.Store g.met.S.Store.shut_if_dirty g.met.S.Store.settled c.args.conn.now c.requires.rests
+    (λ f p same. ap (λ y. first_row (content_reasons f p y)) (sym c.in-Media.is))
 
 pub returns-in-Row : goal.returns-in-Row
 returns-in-Row g c =
@@ -30,5 +32,7 @@ returns-in-Row g c =
     let inside = simp (to_z-of_z, x, y) at c.in_frame.ensures in
     judges_still g.S.Store g.met.S.Store.shut_if_dirty g.met.S.Store.settled c.args.conn.now c.requires.rests
     (λ f p same.
-    let found : c.then_some.result ≡ first_row (content_reasons f p (Row c.in-Row.x c.in-Row.y c.in-Row.code c.in-Row.label)) = c.then_some.ensures ∙ on_frame f c.args.frame.now c.in-Row.x c.in-Row.y c.in_frame.result inside same in
+    let found : c.then_some.result ≡ first_row (content_reasons f p
+    (Row c.in-Row.x c.in-Row.y c.in-Row.code c.in-Row.label)) =
+    c.then_some.ensures ∙ on_frame f c.args.frame.now c.in-Row.x c.in-Row.y c.in_frame.result inside same in
     found ∙ ap (λ y. first_row (content_reasons f p y)) (sym c.in-Row.is))

@@ -12,4 +12,5 @@ returns-in-None g c =
 pub returns-in-Some : goal.returns-in-Some
 returns-in-Some g c =
     judges (seen (IsLinked c.args.identity) c.in_ok-is_linked.was c.is_linked.ensures)
-    (λ f p reads told. c.then_some.ensures ∙ delete_told p c.args.identity (Some c.in-Some.linked) (sym c.in-Some.is ∙ told))
+    (λ f p reads told. c.then_some.ensures ∙ delete_told p c.args.identity (Some c.in-Some.linked)
+    (sym c.in-Some.is ∙ told))

@@ -7,4 +7,5 @@ use Rattle.world_queries.proofs.judging.refusal_of_link.Goals as goal
 
 pub returns : goal.returns
 returns g c =
-    judges (seen (IsState c.args.relation) c.in_ok-found.was c.link_state.ensures.told) (λ f p reads told. c.reason_told.ensures ∙ ap reason_told told ∙ reason_is p c.args.relation)
+    judges (seen (IsState c.args.relation) c.in_ok-found.was c.link_state.ensures.told)
+    (λ f p reads told. c.reason_told.ensures ∙ ap reason_told told ∙ reason_is p c.args.relation)

@@ -9,11 +9,13 @@ pub returns-then-not-has_place : goal.returns-then-not-has_place
 returns-then-not-has_place g c =
     let place = simp (to_z-of_z, c.ranges.zoom, c.ranges.column, c.ranges.row) at c.has_place.ensures in
     judges_still g.S.Store g.met.S.Store.shut_if_dirty g.met.S.Store.settled c.args.conn.now c.requires.rests
-    (λ f p same. no_place f c.args.frame.now p c.args.zoom c.args.column c.args.row c.has_place.result place c.if-not-has_place.true same)
+    (λ f p same. no_place f c.args.frame.now p c.args.zoom c.args.column c.args.row c.has_place.result place
+    c.if-not-has_place.true same)
 
 pub returns : goal.returns
 returns g c =
     let place = simp (to_z-of_z, c.ranges.zoom, c.ranges.column, c.ranges.row) at c.has_place.ensures in
     let taken = simp (to_z-of_z, c.ranges.zoom, c.ranges.column, c.ranges.row) at c.has_tile_at.ensures in
     judges (seen (IsTaken c.args.zoom c.args.column c.args.row) c.in_ok-taken.was taken)
-    (λ f p reads told same. c.then_some.ensures ∙ a_place f c.args.frame.now p c.args.zoom c.args.column c.args.row c.has_place.result c.in_ok-taken.taken place c.if-not-has_place.false told same)
+    (λ f p reads told same. c.then_some.ensures ∙ a_place f c.args.frame.now p c.args.zoom c.args.column c.args.row
+    c.has_place.result c.in_ok-taken.taken place c.if-not-has_place.false told same)

@@ -9,4 +9,5 @@ use Rattle.world_queries.proofs.judging.refusal_of_unlink.Goals as goal
 
 pub returns : goal.returns
 returns g c =
-    judges (seen (IsThere c.args.relation) c.in_ok-there.was c.has_link.ensures) (λ f p reads told. c.then_some.ensures ∙ ap (λ b. then_some (not b) UnknownLink) told ∙ last _ UnknownLink)
+    judges (seen (IsThere c.args.relation) c.in_ok-there.was c.has_link.ensures)
+    (λ f p reads told. c.then_some.ensures ∙ ap (λ b. then_some (not b) UnknownLink) told ∙ last _ UnknownLink)

@@ -12,15 +12,21 @@ use Rattle.world_queries.proofs.too_many.is_too_many.Goals as goal
 
 pub returns-then-any_past_limits : goal.returns-then-any_past_limits
 returns-then-any_past_limits g c =
-    sym (ap (λ b. b || nat_lt greatest_packages (length c.args.members.now) || nat_lt greatest_receipts (c.args.count + 1)) (sym c.any_past_limits.ensures ∙ c.if-any_past_limits.true))
+    sym (ap (λ b. b || nat_lt greatest_packages (length c.args.members.now) || nat_lt greatest_receipts
+    (c.args.count + 1)) (sym c.any_past_limits.ensures ∙ c.if-any_past_limits.true))
 
 pub returns-then-members-gt-GREATEST_PACKAGES : goal.returns-then-members-gt-GREATEST_PACKAGES
 returns-then-members-gt-GREATEST_PACKAGES g c =
-    sym (ap (λ b. list_any is_past_limits (sums_with c.args.members.now c.args.at c.args.sums) || b || nat_lt greatest_receipts (c.args.count + 1)) (lt-ltb greatest_packages (length c.args.members.now) c.if-members-gt-GREATEST_PACKAGES.true)
-    ∙ ap (λ b. b || nat_lt greatest_receipts (c.args.count + 1)) (or-true (list_any is_past_limits (sums_with c.args.members.now c.args.at c.args.sums))))
+    sym (ap (λ b. list_any is_past_limits (sums_with c.args.members.now c.args.at c.args.sums) || b || nat_lt
+    greatest_receipts (c.args.count + 1)) (lt-ltb greatest_packages (length c.args.members.now)
+    c.if-members-gt-GREATEST_PACKAGES.true)
+    ∙ ap (λ b. b || nat_lt greatest_receipts (c.args.count + 1))
+    (or-true (list_any is_past_limits (sums_with c.args.members.now c.args.at c.args.sums))))
 
 pub returns : goal.returns
 returns g c =
-    sym (ap (λ b. b || nat_lt greatest_packages (length c.args.members.now) || nat_lt greatest_receipts (c.args.count + 1)) (sym c.any_past_limits.ensures ∙ c.if-any_past_limits.false)
-    ∙ ap (λ b. b || nat_lt greatest_receipts (c.args.count + 1)) (le-ltb greatest_packages (length c.args.members.now) c.if-members-gt-GREATEST_PACKAGES.false)
+    sym (ap (λ b. b || nat_lt greatest_packages (length c.args.members.now) || nat_lt greatest_receipts
+    (c.args.count + 1)) (sym c.any_past_limits.ensures ∙ c.if-any_past_limits.false)
+    ∙ ap (λ b. b || nat_lt greatest_receipts (c.args.count + 1))
+    (le-ltb greatest_packages (length c.args.members.now) c.if-members-gt-GREATEST_PACKAGES.false)
     ∙ one_more_is_over greatest_receipts c.args.count)

@@ -10,15 +10,19 @@ use Rattle.world_queries.proofs.too_many.sums_at.Goals as goal
 
 pub returns-then-place-at : goal.returns-then-place-at
 returns-then-place-at g c =
-    let long : length (map (λ (m : Member g.row.S.Denot). m.sums) c.args.members.now) ≡ length c.args.members.now = length-map c.args.members.now (λ (m : Member g.row.S.Denot). m.sums) in
-    let here : c.args.at < length (map (λ (m : Member g.row.S.Denot). m.sums) c.args.members.now) = omega (arith, long, c.if-place-at.true, c.requires.within) in
+    let long : length (map (λ (m : Member g.row.S.Denot). m.sums) c.args.members.now) ≡ length c.args.members.now =
+    length-map c.args.members.now (λ (m : Member g.row.S.Denot). m.sums) in
+    let here : c.args.at < length (map (λ (m : Member g.row.S.Denot). m.sums) c.args.members.now) =
+    omega (arith, long, c.if-place-at.true, c.requires.within) in
     ap (slice_get (sums_with c.args.members.now c.args.at c.args.sums)) c.if-place-at.true
     ∙ get_set_same (map (λ (m : Member g.row.S.Denot). m.sums) c.args.members.now) c.args.at c.args.sums here
 
 pub returns : goal.returns
 returns g c =
-    let place : slice_get c.args.members.now c.args.place ≡ Some c.index-members-place.result = slice_get_read _ _ _ _ refl c.requires.within c.index-members-place.is in
-    get_set_other (map (λ (m : Member g.row.S.Denot). m.sums) c.args.members.now) c.args.at c.args.place c.args.sums c.if-place-at.false
+    let place : slice_get c.args.members.now c.args.place ≡ Some c.index-members-place.result =
+    slice_get_read _ _ _ _ refl c.requires.within c.index-members-place.is in
+    get_set_other (map (λ (m : Member g.row.S.Denot). m.sums) c.args.members.now) c.args.at c.args.place c.args.sums
+    c.if-place-at.false
     ∙ slice_get-map (λ (m : Member g.row.S.Denot). m.sums) c.args.members.now c.args.place
     ∙ ap (option_map (λ (m : Member g.row.S.Denot). m.sums)) place
     ∙ ap (λ (m : Member g.row.S.Denot). Some m.sums) c.index-members-place.is

@@ -6,4 +6,5 @@ use Rattle.cut.proofs.group.Group.sorted.Goals as goal
 pub returns-clause-order : goal.returns-clause-order
 returns-clause-order c =
     let is : c.in_ok-collect.field-0.items ≡ c.args.self.known.keys = search rules in
-    subst (IsArranged (λ id. id)) (sym is) (sorted_arranged c.args.self.known.keys c.into_iter.ensures.into_iter_gives.4)
+    subst (IsArranged (λ id. id)) (sym is) (sorted_arranged c.args.self.known.keys
+    c.into_iter.ensures.into_iter_gives.4)

@@ -22,17 +22,22 @@ returns-in-Some-clause-walk c = λ items file before w.
 pub count_up-requires : goal.count_up-requires
 count_up-requires c =
     let x = c.args.item.now.content in
-    let many : unwrap_or (get (slice_cmp nat_cmp) c.args.self.now.counts (rank_key 0 x)) 0 ≡ copies (λ k. k) x (others c.requires.0 [] c.requires.2) = c.requires.3.counts x in
-    let less : copies (λ k. k) x (others c.requires.0 [] c.requires.2) ≤ length c.requires.2 = few c.requires.0 c.requires.2 x in
+    let many : unwrap_or (get (slice_cmp nat_cmp) c.args.self.now.counts (rank_key 0 x)) 0
+    ≡ copies (λ k. k) x (others c.requires.0 [] c.requires.2) = c.requires.3.counts x in
+    let less : copies (λ k. k) x (others c.requires.0 [] c.requires.2) ≤ length c.requires.2 =
+    few c.requires.0 c.requires.2 x in
     omega (arith, many, less, c.requires.4)
 
 pub returns-clause-name : goal.returns-clause-name
 returns-clause-name c = λ items file before w.
     let x = c.args.item.now.content in
     let none = rw c.in_default.is at (c.own-own.ensures items file before w) in
-    other_name items file before c.args.item.now c.name.result none (c.name.ensures (unmarked items file) w.spare ∙ ap (λ n. shared_name (unmarked items file) x n) (c.in_ok-place.ensures.before ∙ w.counts x))
+    other_name items file before c.args.item.now c.name.result none
+    (c.name.ensures (unmarked items file) w.spare ∙ ap (λ n. shared_name (unmarked items file) x n)
+    (c.in_ok-place.ensures.before ∙ w.counts x))
 
 pub returns-clause-walk : goal.returns-clause-walk
 returns-clause-walk c = λ items file before w.
     let none = rw c.in_default.is at (c.own-own.ensures items file before w) in
-    walk_other items file before c.args.item.now c.args.self.now c.note_mark.new.marks c.count_up.new.counts c.in_ok-place.place none c.in_ok-note_mark.ensures c.in_ok-place.ensures.before c.in_ok-place.ensures.after w
+    walk_other items file before c.args.item.now c.args.self.now c.note_mark.new.marks c.count_up.new.counts
+    c.in_ok-place.place none c.in_ok-note_mark.ensures c.in_ok-place.ensures.before c.in_ok-place.ensures.after w

@@ -7,4 +7,5 @@ returns-in-Row-clause-text c =
     let x : FitsSigned w64 c.in-Row.x = search rules in
     let y : FitsSigned w64 c.in-Row.y = search rules in
     let code : FitsSigned w64 c.in-Row.code = search rules in
-    rw c.in-Row.is (simp (to_z-of_z, x, y, code) at (rw (c.as_str-in-Row.ensures, c.in-Row.is) at c.write_row.ensures.text))
+    rw c.in-Row.is (simp (to_z-of_z, x, y, code) at (rw (c.as_str-in-Row.ensures, c.in-Row.is) at
+    c.write_row.ensures.text))

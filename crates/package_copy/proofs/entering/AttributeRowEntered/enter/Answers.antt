@@ -12,4 +12,5 @@ returns-clause-steps g c =
     let y : FitsSigned w64 row.y = search rules in
     let code : FitsSigned w64 row.code = search rules in
     makes_steps (Adds attributes row)
-    (simp (to_z-of_z, id, x, y, code) at (rw c.as_str.ensures at c.insert_attribute.ensures.wrote)) c.insert_attribute.ensures.survives
+    (simp (to_z-of_z, id, x, y, code) at (rw c.as_str.ensures at c.insert_attribute.ensures.wrote))
+    c.insert_attribute.ensures.survives

@@ -10,4 +10,5 @@ returns-clause-steps g c =
     let kind : FitsSigned w64 row.kind = search rules in
     let local_id : FitsSigned w64 row.local_id = search rules in
     makes_steps (Adds identities row)
-    (simp (to_z-of_z, kind, local_id) at (rw c.as_str.ensures at c.insert_identity.ensures.wrote)) c.insert_identity.ensures.survives
+    (simp (to_z-of_z, kind, local_id) at (rw c.as_str.ensures at c.insert_identity.ensures.wrote))
+    c.insert_identity.ensures.survives

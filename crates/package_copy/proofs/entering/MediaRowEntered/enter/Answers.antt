@@ -9,4 +9,5 @@ returns-clause-steps g c =
     let row = c.args.self.now in
     let id : FitsSigned w64 row.id = search rules in
     makes_steps (Adds media row)
-    (simp (to_z-of_z, id) at (rw (c.as_slice.ensures, c.as_str.ensures) at c.insert_medium.ensures.wrote)) c.insert_medium.ensures.survives
+    (simp (to_z-of_z, id) at (rw (c.as_slice.ensures, c.as_str.ensures) at c.insert_medium.ensures.wrote))
+    c.insert_medium.ensures.survives

@@ -12,4 +12,5 @@ returns-clause-steps g c =
     let kind : FitsSigned w64 row.kind = search rules in
     let size : FitsSigned w64 row.size = search rules in
     makes_steps (Adds moved row)
-    (simp (to_z-of_z, seq, position, kind, size) at (rw (c.as_str.ensures, c.as_str-2.ensures, c.as_str-3.ensures) at c.insert_moved.ensures.wrote)) c.insert_moved.ensures.survives
+    (simp (to_z-of_z, seq, position, kind, size) at (rw (c.as_str.ensures, c.as_str-2.ensures, c.as_str-3.ensures) at
+    c.insert_moved.ensures.wrote)) c.insert_moved.ensures.survives

@@ -14,4 +14,6 @@ returns-clause-steps g c =
     let n_links : FitsSigned w64 row.n_links = search rules in
     let n_bytes : FitsSigned w64 row.n_bytes = search rules in
     makes_steps (Adds receipts row)
-    (simp (to_z-of_z, seq, n_tiles, n_media, n_rows, n_links, n_bytes) at (rw (c.as_str.ensures, c.as_str-2.ensures, c.as_str-3.ensures, c.as_str-4.ensures, c.as_str-5.ensures) at c.insert_receipt.ensures.wrote)) c.insert_receipt.ensures.survives
+    (simp (to_z-of_z, seq, n_tiles, n_media, n_rows, n_links, n_bytes) at
+    (rw (c.as_str.ensures, c.as_str-2.ensures, c.as_str-3.ensures, c.as_str-4.ensures, c.as_str-5.ensures) at
+    c.insert_receipt.ensures.wrote)) c.insert_receipt.ensures.survives

@@ -12,4 +12,5 @@ returns-clause-steps g c =
     let tile_column : FitsSigned w64 row.tile_column = search rules in
     let tile_row : FitsSigned w64 row.tile_row = search rules in
     makes_steps (Adds tiles row)
-    (simp (to_z-of_z, id, zoom_level, tile_column, tile_row) at (rw c.as_slice.ensures at c.insert_tile.ensures.wrote)) c.insert_tile.ensures.survives
+    (simp (to_z-of_z, id, zoom_level, tile_column, tile_row) at
+    (rw c.as_slice.ensures at c.insert_tile.ensures.wrote)) c.insert_tile.ensures.survives

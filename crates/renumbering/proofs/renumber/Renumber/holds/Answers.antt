@@ -12,4 +12,6 @@ is_among-requires c = subst (IsStrictlySortedBy int_cmp) (sym c.deref.ensures.va
 pub returns : goal.returns
 returns c =
     subst (λ pairs. IsTrue c.is_among.result ↔ IsSome (new_key pairs c.args.key)) c.self.view_is
-    (holds_is c.self.inside.olds.items c.self.inside.news.items c.args.key c.is_among.result c.self.invariant.1 (c.is_among.ensures ∙ ap (list_any (int_eq (to_z w64 (of_z w64 c.args.key)))) c.deref.ensures.value ∙ ap (λ k. list_any (int_eq k) c.self.inside.olds.items) (to_z-of_z c.ranges.key)))
+    (holds_is c.self.inside.olds.items c.self.inside.news.items c.args.key c.is_among.result c.self.invariant.1
+    (c.is_among.ensures ∙ ap (list_any (int_eq (to_z w64 (of_z w64 c.args.key)))) c.deref.ensures.value
+    ∙ ap (λ k. list_any (int_eq k) c.self.inside.olds.items) (to_z-of_z c.ranges.key)))
