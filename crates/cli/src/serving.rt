@@ -83,7 +83,7 @@ pub fn rehearse_and_serve<
         Err(_) => return Err(Outcome::Stopped(Failure::StoreFault)),
     };
     teller.tell_port(desk.port);
-    served(
+    serve_rehearsal(
         net, alloc, &rehearsal, &listener, desk.count, reader, writer, teller,
     )
 }
@@ -97,7 +97,7 @@ pub fn rehearse_and_serve<
 /// # Errors
 ///
 /// How the rehearsal ended where it was not done. Nothing was served.
-pub fn served<C: Clock, R: Read + Drop, W: Write, T: Teller + DeskTeller>(
+pub fn serve_rehearsal<C: Clock, R: Read + Drop, W: Write, T: Teller + DeskTeller>(
     clock: &C,
     alloc: Global,
     rehearsal: &Rehearsal<'_>,

@@ -2,7 +2,7 @@
 ghost use Rattle.std.specs.Prelude.{◌≡◌, Ok};
 ghost use Rattle.command_named.specs.Packages.{ShowsFound, ShowsPackage, look_of};
 
-use crate::telling::{stopped, tell_fault};
+use crate::telling::{fault_ending, tell_fault};
 use command_folder::endings::Ending as CommandEnding;
 use command_names::hints::{Hint, Whose};
 use command_names::searching::Found;
@@ -80,6 +80,6 @@ pub fn package_in<'t, S: Alter + Drop, W: Write>(
 {
     match found_package(alloc, &world, word) {
         Ok(found) => show_found(alloc, world, what, word, found, writer),
-        Err(fault) => (stopped(fault), None, world.into_stores()),
+        Err(fault) => (fault_ending(fault), None, world.into_stores()),
     }
 }

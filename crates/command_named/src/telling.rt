@@ -15,7 +15,7 @@ use std::io::Write;
 use views::endings::Ending;
 
 /// How the program ends where memory or a store gave out.
-pub(crate) fn stopped(fault: Fault) -> Ending
+pub(crate) fn fault_ending(fault: Fault) -> Ending
     ensures { result ≡ stopped fault }
 {
     Ending::Usual(CommandEnding::Usual(Outcome::Stopped(Failure::from(fault))))

@@ -4,7 +4,7 @@ ghost use Rattle.view_searches.specs.Ways.{IsNamedWay};
 ghost use Rattle.command_named.specs.Ways.{ShowsNamed, TellsFound, TellsNamed, TellsWay, way_hint};
 ghost use Rattle.views.specs.Showing.{PrintsAll};
 
-use crate::telling::{stopped, tell_fault};
+use crate::telling::{fault_ending, tell_fault};
 use command_folder::endings::{DONE, FAILED};
 use command_names::hints::{Hint, Whose};
 use command_names::searching::Found;
@@ -82,7 +82,7 @@ fn tell_way<W: Write>(alloc: Global, way: &Result<NamedWay, Fault>, writer: &mut
 {
     match way {
         Ok(it) => tell_found(alloc, it, writer),
-        Err(fault) => stopped(*fault),
+        Err(fault) => fault_ending(*fault),
     }
 }
 

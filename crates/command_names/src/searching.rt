@@ -27,7 +27,7 @@ pub fn nothing() -> Found
 }
 
 /// How many first characters of a word a text has, where capitals of the word count as small letters.
-fn shared(word: &[u8], text: &[u8]) -> usize
+fn shared_length(word: &[u8], text: &[u8]) -> usize
     ensures count { result ≡ shared word.now text.now }
     ensures most { result ≤ length word.now }
 {
@@ -38,7 +38,7 @@ fn shared(word: &[u8], text: &[u8]) -> usize
         return 0;
     };
     if digit.to_ascii_lowercase() == *byte {
-        shared(digits, bytes) + 1
+        shared_length(digits, bytes) + 1
     } else {
         0
     }
@@ -50,7 +50,7 @@ fn shared_by(word: &str, id: Uuid) -> usize
 {
     let mut buffer = Uuid::encode_buffer();
     let text: &str = id.hyphenated().encode_lower(&mut buffer);
-    shared(word.as_bytes(), text.as_bytes())
+    shared_length(word.as_bytes(), text.as_bytes())
 }
 
 /// One more that begins with the word.

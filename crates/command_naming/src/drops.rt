@@ -5,7 +5,7 @@ ghost use Rattle.command_plans.specs.Requests.{AreRequestsFor};
 ghost use Rattle.command_requests.specs.Listing.{IsUntouched};
 ghost use Rattle.command_naming.specs.Drops.{DropsHeld, DropsItem, DropsNamed, may_drop};
 
-use crate::naming::named;
+use crate::naming::pick_one;
 use command_drops::dropping::{Dropped, drop_held};
 use command_drops::holding::{Holding, holding_of};
 use command_names::searching::Found;
@@ -52,7 +52,7 @@ fn may_drop(dropping: &Dropping<'_>, holding: &Holding) -> bool
 }
 
 /// The requests that drop an item which is held so.
-fn planned<N: Identities>(
+fn plan_drop<N: Identities>(
     alloc: Global,
     at: &str,
     id: Uuid,
@@ -87,7 +87,7 @@ fn drop_so<S: Alter + Drop, H: Shelf<S>, N: Identities>(
         return Ok(DropOutcome::Linked(holding.links));
     }
     if dropping.is_shown {
-        return match planned(alloc, dropping.at, id, &holding, identities) {
+        return match plan_drop(alloc, dropping.at, id, &holding, identities) {
             Ok(requests) => Ok(DropOutcome::Planned(requests)),
             Err(fault) => Err(fault),
         };
@@ -143,7 +143,7 @@ pub fn drop_named<S: Alter + Drop, H: Shelf<S>, N: Identities>(
         Ok(found) => found,
         Err(fault) => return Err(fault),
     };
-    match named(dropping.word, &found) {
+    match pick_one(dropping.word, &found) {
         Ok(id) => match drop_item(alloc, world, shelf, dropping, id, identities) {
             Ok(outcome) => Ok(outcome),
             Err(fault) => Err(fault),

@@ -22,7 +22,7 @@ fn of_found(found: &Found) -> Result<Uuid, NameFault>
 /// # Errors
 ///
 /// Why it names none.
-pub fn named(word: &str, found: &Found) -> Result<Uuid, NameFault>
+pub fn pick_one(word: &str, found: &Found) -> Result<Uuid, NameFault>
     ensures { result ≡ named word.now found.now }
 {
     if word.len() < 4 {

@@ -3,7 +3,7 @@ ghost use Rattle.std.specs.Prelude.{◌≡◌, MatchResult};
 ghost use Rattle.command_requests.specs.Listing.{IsUntouched};
 ghost use Rattle.command_naming.specs.Trees.{AddsBeside, AddsNamed, target_of};
 
-use crate::naming::named;
+use crate::naming::pick_one;
 use command_names::searching::Found;
 use command_plans::requests::Identities;
 use command_searches::searches::found_package;
@@ -93,7 +93,7 @@ pub fn add_named<S: Alter + Drop, H: Shelf<S>, N: Identities, F: Sheets>(
         Ok(found) => found,
         Err(fault) => return Err(fault),
     };
-    match named(words.package, &found) {
+    match pick_one(words.package, &found) {
         Ok(package) => {
             let target = target_of(words, package);
             match add_to(alloc, world, shelf, &target, files, sheets, identities) {

@@ -6,7 +6,7 @@ ghost use Rattle.commands.specs.Orders.{Orders};
 ghost use Rattle.command_ordering.specs.Boxes.{EndsBoxed, IsGiverHint, LendsBox, LendsBoxed, order_of};
 
 use crate::areas::area_in;
-use crate::telling::{stopped, tell_fault};
+use crate::telling::{fault_ending, tell_fault};
 use command_folder::endings::Ending;
 use command_folder::folders::{OpenFolder, open_folder};
 use command_names::hints::Hint;
@@ -106,7 +106,7 @@ pub fn lend_box_in<'t, S: Alter + Drop, H: Shelf<S>, W: Write>(
             (ending, hint)
         }
         Ok(None) => (tell_fault(alloc, &VerbFault::BadArea, writer), None),
-        Err(fault) => (stopped(fault), None),
+        Err(fault) => (fault_ending(fault), None),
     }
 }
 

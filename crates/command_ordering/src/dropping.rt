@@ -7,7 +7,7 @@ ghost use Rattle.commands.specs.Orders.{PrintsLine};
 ghost use Rattle.command_ordering.specs.Dropping.{DropsFor, DropsIn, EndsDrop, TellsDrop, drop_hint};
 ghost use Rattle.command_ordering.specs.Telling.{replies_ending};
 
-use crate::telling::{refusal_ending, stopped, tell, tell_fault};
+use crate::telling::{fault_ending, refusal_ending, tell, tell_fault};
 use command_folder::endings::{DONE, Ending, NO_MEMORY};
 use command_folder::folders::{OpenFolder, open_folder};
 use command_lines::drops::{linked_text, outcomes_text, requests_text};
@@ -115,7 +115,7 @@ fn tell_outcome<W: Write>(
             dropped.replies.as_slice(),
             writer,
         ),
-        Err(fault) => stopped(*fault),
+        Err(fault) => fault_ending(*fault),
     }
 }
 

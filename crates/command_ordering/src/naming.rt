@@ -2,7 +2,7 @@
 ghost use Rattle.std.specs.Prelude.{Ok};
 ghost use Rattle.command_ordering.specs.Naming.{NamesFor, NamesPackage, TellsName};
 
-use crate::telling::{stopped, tell_fault};
+use crate::telling::{fault_ending, tell_fault};
 use command_folder::endings::Ending;
 use command_folder::folders::{OpenFolder, open_folder};
 use command_names::hints::{Hint, Whose};
@@ -57,7 +57,7 @@ fn tell_name<'t, W: Write>(
 {
     match search {
         Ok(found) => tell_found(alloc, word, *found, writer),
-        Err(fault) => (Err(stopped(*fault)), None),
+        Err(fault) => (Err(fault_ending(*fault)), None),
     }
 }
 

@@ -13,7 +13,7 @@ ghost use Rattle.command_ordering.specs.Putting.{
   tree_hint,
 };
 
-use crate::telling::{stopped, tell, tell_fault, tell_refused};
+use crate::telling::{fault_ending, tell, tell_fault, tell_refused};
 use command_folder::endings::{DONE, Ending, NO_MEMORY};
 use command_folder::folders::{OpenFolder, open_folder};
 use command_lines::trees::counts_line;
@@ -42,7 +42,7 @@ fn tell_stop<W: Write>(alloc: Global, fault: &AddFault, writer: &mut W) -> Endin
     match fault {
         AddFault::BadPlace => tell_fault(alloc, &VerbFault::BadPlace, writer),
         AddFault::Unread => Ending::BadBody,
-        AddFault::Failed(fault) => stopped(*fault),
+        AddFault::Failed(fault) => fault_ending(*fault),
         AddFault::Refused(why) => tell_refused(alloc, why, writer),
     }
 }
@@ -87,7 +87,7 @@ fn tell_tree<W: Write>(
             tell_fault(alloc, &VerbFault::Unnamed(*fault), writer)
         }
         Ok(TreeOutcome::Added(counts, added)) => tell_added(alloc, counts, added, writer),
-        Err(fault) => stopped(*fault),
+        Err(fault) => fault_ending(*fault),
     }
 }
 

@@ -20,7 +20,7 @@ use std::alloc::Global;
 use std::io::Write;
 
 /// How the program ends where memory or a store gave out.
-pub(crate) fn stopped(fault: Fault) -> Ending
+pub(crate) fn fault_ending(fault: Fault) -> Ending
     ensures { result ≡ stopped fault }
 {
     Ending::Usual(Outcome::Stopped(Failure::from(fault)))

@@ -11,7 +11,7 @@ use sheet_types::command::{Content, Item};
 use sheet_types::frame::Frame;
 
 /// The row that is as far from the last of so many rows as this one is from the first.
-fn turned(rows: i64, row: i64) -> i64
+fn mirror_row(rows: i64, row: i64) -> i64
     requires { (pos 0 ≤ℤ row) × (row <ℤ rows) × (rows ≤ℤ pos 2000000000000) }
     ensures { ((result +ℤ row) +ℤ pos 1) ≡ rows }
 {
@@ -29,7 +29,7 @@ fn turned_row(frame: &Frame, zoom: i64, row: i64) -> Option<i64>
     if !has_place(frame, zoom, 0, row) {
         return None;
     }
-    Some(turned(axes_at(frame, zoom).down.tiles, row))
+    Some(mirror_row(axes_at(frame, zoom).down.tiles, row))
 }
 
 /// The place of a file's tile, whose rows run downwards, or upwards as in a TMS; `None` where the

@@ -10,7 +10,7 @@ use std::alloc::{AllocError, Global};
 use uuid::Uuid;
 
 /// A word and the UUID that it is said of, as a line.
-fn said(alloc: Global, word: &str, id: Uuid) -> Result<String, AllocError>
+fn word_line(alloc: Global, word: &str, id: Uuid) -> Result<String, AllocError>
     ensures { IfOk result (λ line. string_bytes line ≡ said word.now id) }
 {
     format!(in alloc; "{word} {id}\n")
@@ -42,12 +42,12 @@ fn deed_text(alloc: Global, command: &Command) -> Result<String, AllocError>
     ensures { IfOk result (λ text. string_bytes text ≡ deed_text command.now) }
 {
     match command {
-        Command::Add { identity, .. } => said(alloc, "added", *identity),
-        Command::Delete { identity, .. } => said(alloc, "deleted", *identity),
+        Command::Add { identity, .. } => word_line(alloc, "added", *identity),
+        Command::Delete { identity, .. } => word_line(alloc, "deleted", *identity),
         Command::Link { base, other, .. } => said_of_two(alloc, "joined", *base, *other),
         Command::Unlink { base, other, .. } => said_of_two(alloc, "parted", *base, *other),
         Command::Split { child, rect, .. } => {
-            let loan = said(alloc, "loan", *child)?;
+            let loan = word_line(alloc, "loan", *child)?;
             let area = area_text(alloc, rect)?;
             format!(in alloc; "{loan}sheets {area}\n")
         }

@@ -12,7 +12,7 @@ use std::alloc::{AllocError, Global};
 use uuid::Uuid;
 
 /// A text as a JSON string.
-fn quoted(alloc: Global, text: &str) -> Result<String, AllocError>
+fn quote_text(alloc: Global, text: &str) -> Result<String, AllocError>
     ensures { IfOk result (λ json. string_bytes json ≡ quoted text.now) }
 {
     let value = json!(in alloc; text)?;
@@ -45,7 +45,7 @@ fn tile_members(alloc: Global, place: &str, data: &str) -> Result<String, AllocE
 fn medium_members(alloc: Global, content_type: &str, bytes: &[u8]) -> Result<String, AllocError>
     ensures { IfOk result (λ text. string_bytes text ≡ medium_members content_type.now bytes.now) }
 {
-    let content_type = quoted(alloc, content_type)?;
+    let content_type = quote_text(alloc, content_type)?;
     let digits = hex::encode(alloc, bytes)?;
     format!(in alloc; "\"kind\":\"media\",\"text\":{content_type},\"data\":\"{digits}\"")
 }
@@ -54,7 +54,7 @@ fn medium_members(alloc: Global, content_type: &str, bytes: &[u8]) -> Result<Str
 fn mark_members(alloc: Global, x: i64, y: i64, code: i64, label: &str) -> Result<String, AllocError>
     ensures { IfOk result (λ text. string_bytes text ≡ mark_members x y code label.now) }
 {
-    let label = quoted(alloc, label)?;
+    let label = quote_text(alloc, label)?;
     format!(in alloc; "\"kind\":\"row\",\"x\":{x},\"y\":{y},\"code\":{code},\"text\":{label}")
 }
 
@@ -182,7 +182,7 @@ fn front_members(alloc: Global, request: &Request) -> Result<String, AllocError>
     ensures { IfOk result (λ text. string_bytes text ≡ front_members request.now) }
 {
     let id = request.id;
-    let at = quoted(alloc, request.at.as_str())?;
+    let at = quote_text(alloc, request.at.as_str())?;
     let word = command_word(&request.command);
     let package = package_of(&request.command);
     format!(in alloc;

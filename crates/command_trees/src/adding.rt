@@ -157,7 +157,7 @@ fn add_file<S: Alter + Drop, H: Shelf<S>, N: Identities, F: Sheets>(
 }
 
 /// The counts with one more file, which was added or passed over.
-fn counted(counts: Counts, is_new: bool) -> Counts
+fn count_file(counts: Counts, is_new: bool) -> Counts
     requires { counts.added + counts.passed + 1 < 2 ^ 64 }
     ensures one { result.added + result.passed ≡ counts.added + counts.passed + 1 }
     ensures each { (told : List Bool) → AreCounted told counts → AreCounted (told ++ (is_new ∷ [])) result }
@@ -197,7 +197,7 @@ pub fn add_files<S: Alter + Drop, H: Shelf<S>, N: Identities, F: Sheets>(
     };
     for file in files {
         match add_file(alloc, world, shelf, target, items, file, sheets, identities) {
-            Ok(is_new) => counts = counted(counts, is_new),
+            Ok(is_new) => counts = count_file(counts, is_new),
             Err(fault) => return (counts, Err(fault)),
         }
     }

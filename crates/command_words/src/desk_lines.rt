@@ -16,7 +16,7 @@ pub fn listening_line(alloc: Global, port: u16) -> Result<String, AllocError>
 }
 
 /// A byte as it is shown: itself where it is a visible character of ASCII or a space, else `?`.
-fn shown(byte: u8) -> u8
+fn visible_byte(byte: u8) -> u8
     ensures { result ≡ shown byte }
 {
     if (byte < 32) | (byte > 126) {
@@ -41,7 +41,10 @@ pub fn exchange_line(
 ) -> Result<Vec<u8>, AllocError>
     ensures { IfOk result (λ line. line.items ≡ exchange_line moment.now request.now status.now) }
 {
-    let shown_request: Vec<u8> = request.iter().map(|byte| shown(*byte)).collect(alloc)?;
+    let shown_request: Vec<u8> = request
+        .iter()
+        .map(|byte| visible_byte(*byte))
+        .collect(alloc)?;
     let mut line = Vec::new(alloc);
     line.extend_from_slice(moment.as_bytes())?;
     line.extend_from_slice(b" ")?;

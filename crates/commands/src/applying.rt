@@ -116,7 +116,7 @@ fn write_line<W: Write>(writer: &mut W, text: &str) -> Result<(), WriteFault>
 }
 
 /// The same, and how the program ends after it.
-pub(crate) fn told<W: Write>(writer: &mut W, text: &str, ending: Ending) -> Ending
+pub(crate) fn tell_line<W: Write>(writer: &mut W, text: &str, ending: Ending) -> Ending
     ensures { Prints (with_end text.now) ending (W.contents writer.old) (W.contents writer.new) result }
 {
     match write_line(writer, text) {
@@ -130,8 +130,8 @@ pub(crate) fn tell_receipt<W: Write>(alloc: Global, receipt: &Receipt, writer: &
     ensures { PrintsReply (Ok receipt.now) (W.contents writer.old) (W.contents writer.new) result }
 {
     match receipt_body(alloc, receipt) {
-        Ok(text) => told(writer, text.as_str(), DONE),
-        Err(_) => told(writer, ask_again_body(), NO_MEMORY),
+        Ok(text) => tell_line(writer, text.as_str(), DONE),
+        Err(_) => tell_line(writer, ask_again_body(), NO_MEMORY),
     }
 }
 
@@ -152,8 +152,8 @@ pub(crate) fn tell_refusal<W: Write>(alloc: Global, why: &Refusal, writer: &mut 
 {
     let ending = refusal_ending(why);
     match refusal_body(alloc, why) {
-        Ok(text) => told(writer, text.as_str(), ending),
-        Err(_) => told(writer, no_memory_body(), NO_MEMORY),
+        Ok(text) => tell_line(writer, text.as_str(), ending),
+        Err(_) => tell_line(writer, no_memory_body(), NO_MEMORY),
     }
 }
 

@@ -74,7 +74,7 @@ fn make_whole(rt: &HostRuntime, rehearsal: &Rehearsal<'_>, folder: &str) -> Resu
 {
     let conn = match blank_unfinished(rt, folder, rehearsal.archive) {
         Ok(conn) => conn,
-        Err(fault) => return Err(unopened(fault)),
+        Err(fault) => return Err(folder_ending(fault)),
     };
     let made: Result<Vec<Connection<FolderStore>>, Failure> = new_stores(
         rt.alloc(),
@@ -84,7 +84,7 @@ fn make_whole(rt: &HostRuntime, rehearsal: &Rehearsal<'_>, folder: &str) -> Resu
     match made {
         Ok(stores) => match finish(rt, folder, rehearsal.archive, stores) {
             Ok(()) => Ok(()),
-            Err(fault) => Err(unopened(fault)),
+            Err(fault) => Err(folder_ending(fault)),
         },
         Err(failure) => Err(Ending::Usual(Outcome::Stopped(failure))),
     }
@@ -108,24 +108,24 @@ fn make_alone(rt: &HostRuntime, rehearsal: &Rehearsal<'_>, folder: &str) -> Resu
 {
     let _lock = match lock_folder(rt, folder) {
         Ok(lock) => lock,
-        Err(fault) => return Err(unopened(fault)),
+        Err(fault) => return Err(folder_ending(fault)),
     };
     match list(rt, folder) {
         Ok(listing) if listing.holds_packages => Err(Ending::HoldsPackages),
         Ok(_) => make(rt, rehearsal, folder),
-        Err(fault) => Err(unopened(fault)),
+        Err(fault) => Err(folder_ending(fault)),
     }
 }
 
 /// How a folder that fails ends the program.
-fn unopened(fault: FolderFault) -> Ending
+fn folder_ending(fault: FolderFault) -> Ending
     ensures { IsUnmade result }
 {
     Ending::Unopened(OpenFault::from(fault))
 }
 
 /// Makes the archive that good words ask for in a folder that holds no packages, and writes the line that names it.
-fn made<W: Write>(
+fn make_archive<W: Write>(
     rt: &HostRuntime,
     rehearsal: &Rehearsal<'_>,
     folder: &str,
@@ -159,7 +159,7 @@ pub fn init<W: Write>(rt: &HostRuntime, words: &Words<'_>, folder: &str, writer:
         (W.contents writer.new) result }
 {
     match read_rehearsal(words) {
-        Ok(rehearsal) => made(rt, &rehearsal, folder, writer),
+        Ok(rehearsal) => make_archive(rt, &rehearsal, folder, writer),
         Err(what) => Ending::Usual(Outcome::Refused(what)),
     }
 }

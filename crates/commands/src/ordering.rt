@@ -8,7 +8,7 @@ ghost use Rattle.command_folder.specs.declared.endings.Ending.TheVariants.{NoReq
 ghost use Rattle.command_replies.specs.Requests.{request_text};
 ghost use Rattle.command_verbs.specs.Faults.{verb_line};
 
-use crate::applying::{ask_again_body, read_body, tell_refusal, told};
+use crate::applying::{ask_again_body, read_body, tell_line, tell_refusal};
 use command_folder::endings::{DONE, Ending, FAILED, NO_MEMORY};
 use command_folder::folders::{OpenFolder, open_folder};
 use command_replies::receipts::reply_text;
@@ -71,7 +71,7 @@ fn show<W: Write>(alloc: Global, request: &Request, writer: &mut W) -> Ending
         (with_end (request_text request.now)) done result }
 {
     match request_text(alloc, request) {
-        Ok(text) => told(writer, text.as_str(), DONE),
+        Ok(text) => tell_line(writer, text.as_str(), DONE),
         Err(_) => NO_MEMORY,
     }
 }
@@ -86,8 +86,8 @@ fn tell_deed<W: Write>(
     ensures { PrintsDeed command.now receipt.now (W.contents writer.old) (W.contents writer.new) result }
 {
     match reply_text(alloc, command, receipt) {
-        Ok(text) => told(writer, text.as_str(), DONE),
-        Err(_) => told(writer, ask_again_body(), NO_MEMORY),
+        Ok(text) => tell_line(writer, text.as_str(), DONE),
+        Err(_) => tell_line(writer, ask_again_body(), NO_MEMORY),
     }
 }
 

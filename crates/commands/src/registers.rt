@@ -59,7 +59,7 @@ fn receipts_of<S: Alter + Drop>(
 }
 
 /// The two together.
-fn joined(
+fn join_register(
     live: Result<Vec<Uuid>, Fault>,
     receipts: Result<Vec<Receipt>, Fault>,
 ) -> Result<Register, Fault>
@@ -86,7 +86,7 @@ pub fn register_of<S: Alter + Drop>(
     let live = live_of(alloc, &world);
     let mut stores = world.into_stores();
     let receipts = receipts_of(&live, &mut stores, alloc);
-    (joined(live, receipts), stores)
+    (join_register(live, receipts), stores)
 }
 
 /// The same of a world that stays.
@@ -100,5 +100,5 @@ pub fn register_in<S: Alter + Drop>(alloc: Global, world: &mut World<S>) -> Resu
 {
     let live = live_of(alloc, world);
     let receipts = ledger_in(alloc, world);
-    joined(live, receipts)
+    join_register(live, receipts)
 }

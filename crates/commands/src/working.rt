@@ -59,7 +59,14 @@ fn read_asked(asked: Asked<'_>) -> Option<Work<'_>>
 
 /// Does it over a world and a shelf. The teller is told of each request of a list that is done, and of each connection
 /// of a desk. The clerk carries out the commands that are asked of a desk.
-fn worked<S: Alter + Drop, H: Shelf<S>, R: Read + Drop, W: Write, T: Teller + DeskTeller, K: Clerk>(
+fn do_work<
+    S: Alter + Drop,
+    H: Shelf<S>,
+    R: Read + Drop,
+    W: Write,
+    T: Teller + DeskTeller,
+    K: Clerk,
+>(
     rt: &HostRuntime,
     world: &mut World<S>,
     shelf: &mut H,
@@ -100,7 +107,7 @@ fn work_in<
     ensures { EndsWork S.Store (R.remaining reader) world result.1.items
         writer.old writer.new (W.contents writer.old) (W.contents writer.new) work.entry result.0 }
 {
-    let ending = worked(rt, &mut world, shelf, work, reader, writer, teller, clerk);
+    let ending = do_work(rt, &mut world, shelf, work, reader, writer, teller, clerk);
     (ending, world.into_stores())
 }
 

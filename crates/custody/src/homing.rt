@@ -10,7 +10,7 @@ ghost use Rattle.package_tables.specs.Listed.{receipts};
 ghost use Rattle.custody.specs.Entries.{Enters};
 ghost use Rattle.custody.specs.Homing.{BringsThings, BringsReceipt, BringsHome, FromClean};
 
-use crate::stored;
+use crate::column_number;
 use package_tables::fault::Fault;
 use package_tables::moved::{insert_moved, moved_at};
 use package_tables::receipts::{insert_receipt, receipt_after};
@@ -70,7 +70,7 @@ fn bring_things<S: Alter>(
         (state S.Store tx.new.conn.now) result }
 {
     for position in 0..u64::MAX {
-        let at = stored(position)?;
+        let at = column_number(position)?;
         match moved_at(source, seq, at)? {
             None => return Ok(()),
             Some(row) => put_thing(tx, row)?,

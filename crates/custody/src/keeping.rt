@@ -33,7 +33,7 @@ use std::alloc::Global;
 use uuid::Uuid;
 
 /// A number that a receipt says, which is not below zero.
-fn counted(number: i64) -> Result<u64, Fault>
+fn natural_of(number: i64) -> Result<u64, Fault>
     ensures counted { IfOk result (λ counted. number ≡ pos counted) }
     ensures none { IfErr result (λ _. (counted : ℕ) → number ≢ pos counted) }
 {
@@ -101,12 +101,12 @@ fn thing_at(
     ensures none { IfErr result (λ _. (thing : Moved) → is_fit_moved thing ≡ true
         → row.now ≢ row_at seq position thing) }
 {
-    let place = counted(row.position)?;
+    let place = natural_of(row.position)?;
     if row.seq != seq || place != position as u64 {
         return Err(Fault::StoreFault);
     }
     let kind = kind_of_number(row.kind)?;
-    let size = counted(row.size)?;
+    let size = natural_of(row.size)?;
     let fingerprint = digest_of(row.fingerprint.as_str())?;
     Ok(Moved {
         kind,
@@ -167,7 +167,7 @@ fn named_by(row: &ReceiptRow) -> Result<Named, Fault>
     ensures target_fit { IfOk result (λ named. is_fit_end named.target ≡ true) }
     ensures none { IfErr result (λ _. (receipt : Receipt) → IsFitReceipt receipt → receipt_row receipt ≢ row.now) }
 {
-    let seq = counted(row.seq)?;
+    let seq = natural_of(row.seq)?;
     let request = stored_uuid(row.request.as_str())?;
     let source = end_of(row.source.as_str())?;
     let target = end_of(row.target.as_str())?;
@@ -188,11 +188,11 @@ fn sums_of(row: &ReceiptRow) -> Result<Sums, Fault>
     ensures bytes { IfOk result (λ sums. row.now.n_bytes ≡ pos sums.bytes) }
     ensures none { IfErr result (λ _. (receipt : Receipt) → receipt_row receipt ≢ row.now) }
 {
-    let tiles = counted(row.n_tiles)?;
-    let media = counted(row.n_media)?;
-    let rows = counted(row.n_rows)?;
-    let links = counted(row.n_links)?;
-    let bytes = counted(row.n_bytes)?;
+    let tiles = natural_of(row.n_tiles)?;
+    let media = natural_of(row.n_media)?;
+    let rows = natural_of(row.n_rows)?;
+    let links = natural_of(row.n_links)?;
+    let bytes = natural_of(row.n_bytes)?;
     Ok(Sums {
         tiles,
         media,
@@ -245,7 +245,7 @@ fn row_of<S: Alter>(conn: &mut Connection<S>, request: Uuid) -> Result<Option<Re
 /// # Errors
 ///
 /// Want of memory, a store that failed, or rows that no receipt has. The store is as it was.
-pub fn kept<S: Alter>(
+pub fn find_receipt<S: Alter>(
     conn: &mut Connection<S>,
     alloc: Global,
     id: Uuid,

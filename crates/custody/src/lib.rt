@@ -36,7 +36,7 @@ use uuid::Uuid;
 const GREATEST_STORED: u64 = 9_223_372_036_854_775_807;
 
 /// A number as a column of integers has it; a greater one than such a column can have is a fault.
-fn stored(number: u64) -> Result<i64, Fault>
+fn column_number(number: u64) -> Result<i64, Fault>
     ensures stored { IfOk result (λ stored. stored ≡ pos number) }
     ensures great { IfErr result (λ _. 9223372036854775807 < number) }
 {
@@ -67,9 +67,9 @@ fn enter_moved<S: Alter>(
     ensures steps { Steps (λ _. Enters (moved_row seq position moved)) (state S.Store tx.old.conn.now)
         (state S.Store tx.new.conn.now) result }
 {
-    let seq = stored(seq)?;
-    let position = stored(position)?;
-    let size = stored(moved.size)?;
+    let seq = column_number(seq)?;
+    let position = column_number(position)?;
+    let size = column_number(moved.size)?;
     let kind = number_of_kind(moved.kind);
     let mut base_buffer = Uuid::encode_buffer();
     let base = moved.base.hyphenated().encode_lower(&mut base_buffer);
@@ -102,12 +102,12 @@ fn enter_row<S: Alter>(tx: &mut Transaction<'_, S>, receipt: &Receipt) -> Result
     ensures steps { Steps (λ _. OnTables (Adds receipts (receipt_row receipt.now))) (state S.Store tx.old.conn.now)
         (state S.Store tx.new.conn.now) result }
 {
-    let seq = stored(receipt.seq)?;
-    let tiles = stored(receipt.tiles)?;
-    let media = stored(receipt.media)?;
-    let rows = stored(receipt.rows)?;
-    let links = stored(receipt.links)?;
-    let bytes = stored(receipt.bytes)?;
+    let seq = column_number(receipt.seq)?;
+    let tiles = column_number(receipt.tiles)?;
+    let media = column_number(receipt.media)?;
+    let rows = column_number(receipt.rows)?;
+    let links = column_number(receipt.links)?;
+    let bytes = column_number(receipt.bytes)?;
     let mut request_buffer = Uuid::encode_buffer();
     let request = receipt
         .request

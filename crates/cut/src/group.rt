@@ -66,7 +66,7 @@ impl Group {
     }
 
     /// They are sorted.
-    pub(crate) fn sorted(self, alloc: Global) -> Result<Vec<Uuid>, Fault>
+    pub(crate) fn into_sorted(self, alloc: Global) -> Result<Vec<Uuid>, Fault>
         requires { IsGroup self }
         ensures order { IfOk result (λ ids. IsArranged (λ id. id) ids.items) }
         ensures same { IfOk result (λ ids. AreSame ids.items self.order.items) }

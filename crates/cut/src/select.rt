@@ -105,13 +105,13 @@ fn selection_of(gathered: Gathered, alloc: Global) -> Result<Selection, Fault>
 {
     let Gathered { items, links } = gathered;
     Ok(Selection {
-        identities: items.sorted(alloc)?,
+        identities: items.into_sorted(alloc)?,
         links: links_in_order(links)?,
     })
 }
 
 /// What comes along with a start.
-fn gathered<R: Reach>(
+fn gather<R: Reach>(
     reach: &mut R,
     start: &[Uuid],
     mode: Mode,
@@ -149,7 +149,7 @@ pub fn select_over<R: Reach>(
     if start.is_empty() {
         return Ok(Err(Refusal::NothingToLend));
     }
-    let gathered = gathered(reach, &start, mode, alloc)?;
+    let gathered = gather(reach, &start, mode, alloc)?;
     if let Some(id) = torn(&gathered, mode) {
         return Ok(Err(Refusal::CutLink(id)));
     }

@@ -105,7 +105,7 @@ fn host_of(own: &[u8]) -> &[u8]
 
 /// What bars a request by its fields, if something does: a page asks, the key is not the clerk's, or the host is not
 /// this desk. An empty key is nobody's.
-fn barred(own: &[u8], key: &[u8], input: &[u8], headers: &[HeaderSpan]) -> Option<Bar>
+fn bar_of(own: &[u8], key: &[u8], input: &[u8], headers: &[HeaderSpan]) -> Option<Bar>
     requires { All (IsHeaderWithin (length input.now)) headers.now }
     ensures { IfNone result (IsFree own.now key.now (map (header_bytes input.now) headers.now)) }
 {
@@ -157,7 +157,7 @@ fn size_passed(own: &[u8], key: &[u8], input: &[u8], headers: &[HeaderSpan]) -> 
     requires { All (IsHeaderWithin (length input.now)) headers.now }
     ensures { IfOk result (FieldsPass own.now key.now (map (header_bytes input.now) headers.now)) }
 {
-    match barred(own, key, input, headers) {
+    match bar_of(own, key, input, headers) {
         Some(bar) => Err(bar),
         None => size_told(input, headers),
     }

@@ -80,7 +80,7 @@ impl<'a, C: Clock> Timed<'a, C> {
     fn take_some(&mut self, buf: &mut [u8]) -> io::Result<usize>
         ensures { ReadsAtMost result buf.new }
     {
-        let left = self.left()?;
+        let left = self.time_left()?;
         let mut stream = self.stream;
         stream.set_read_timeout(Some(left))?;
         let count = stream.read(buf)?;
@@ -98,7 +98,7 @@ impl<'a, C: Clock> Timed<'a, C> {
     /// # Errors
     ///
     /// `TimedOut` where its time is over; a clock that fails.
-    fn left(&self) -> io::Result<Duration> {
+    fn time_left(&self) -> io::Result<Duration> {
         let gone = self.begun.elapsed(self.clock)?;
         match Duration::from_secs(PATIENCE).checked_sub(gone) {
             Some(left) if !left.is_zero() => Ok(left),
@@ -126,7 +126,7 @@ impl<'a, C: Clock> Write for Timed<'a, C> {
         if self.is_renewed {
             self.begun = Instant::now(self.clock)?;
         }
-        let left = self.left()?;
+        let left = self.time_left()?;
         let mut stream = self.stream;
         stream.set_write_timeout(Some(left))?;
         let count = stream.write(buf)?;

@@ -10,7 +10,7 @@ use crate::ends::links_of;
 use crate::held::{HeldItem, HeldLink};
 use crate::ids::Asker;
 use crate::naming::{Named, names};
-use crate::parts::{beyond, gone, items_in_order, links_in_order, new_items};
+use crate::parts::{beyond, gone_items, items_in_order, links_in_order, new_items};
 use sheet_types::command::{Item, Relation, Request};
 use sheet_types::error::OutOfMemory;
 use std::alloc::Global;
@@ -73,7 +73,7 @@ fn deletes(
     if more {
         return Ok(Vec::new(alloc));
     }
-    gone(alloc, names, items)
+    gone_items(alloc, names, items)
 }
 
 /// The four parts of the requests, for a package that holds this and a file of these items and

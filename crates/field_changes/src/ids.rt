@@ -12,7 +12,7 @@ use std::alloc::{AllocError, Global};
 use uuid::Uuid;
 
 /// The UUID of a text: version 8 (RFC 9562, 5.8), of the first 16 bytes of its SHA-256.
-pub fn derived(text: &str) -> Uuid
+pub fn derive_uuid(text: &str) -> Uuid
     ensures { result ≡ derived text.now }
 {
     let mut hasher = Sha256::new();
@@ -52,7 +52,7 @@ pub fn new_identity(
     ensures { IfOk result (λ id. id ≡ derived (item_text «package» ticket copy content.now)) }
 {
     let text = item_text(alloc, package, ticket, copy, content)?;
-    Ok(derived(text.as_str()))
+    Ok(derive_uuid(text.as_str()))
 }
 
 // What the identity of a request comes from.
@@ -89,7 +89,7 @@ impl<'a> Asker<'a> {
         let text = request_text(alloc, self.package, self.ticket, words.as_str())?;
         let at = Text::from_string(self.at.to_string(alloc)?);
         Ok(Request {
-            id: derived(text.as_str()),
+            id: derive_uuid(text.as_str()),
             at,
             command,
         })

@@ -81,16 +81,16 @@ fn head_of(content: &Content) -> [u64; 7]
             column,
             row,
             ..
-        } => numbered(1, *zoom, *column, *row),
+        } => key_of_numbers(1, *zoom, *column, *row),
         Content::Media { content_type, .. } => {
             [2, content_type.as_str().len() as u64, 0, 0, 0, 0, 0]
         }
-        Content::Row { x, y, code, .. } => numbered(3, *x, *y, *code),
+        Content::Row { x, y, code, .. } => key_of_numbers(3, *x, *y, *code),
     }
 }
 
 // A kind and three numbers.
-fn numbered(kind: u64, a: i64, b: i64, c: i64) -> [u64; 7]
+fn key_of_numbers(kind: u64, a: i64, b: i64, c: i64) -> [u64; 7]
     ensures { result ≡ numbered kind a b c }
 {
     [

@@ -125,7 +125,7 @@ fn unknown(alloc: Global, known: &BTreeSet<Uuid>, items: &[Item]) -> Result<Vec<
 /// # Errors
 ///
 /// Want of memory.
-pub fn gone(alloc: Global, names: &[Named], items: &[Item]) -> Result<Vec<Uuid>, OutOfMemory>
+pub fn gone_items(alloc: Global, names: &[Named], items: &[Item]) -> Result<Vec<Uuid>, OutOfMemory>
     ensures { IfOk result (λ ids. ids.items ≡ identities (gone names.now items.now)) }
 {
     let known = names_of(alloc, names)?;

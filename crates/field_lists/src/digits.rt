@@ -69,7 +69,7 @@ fn decode_into(values: &[u8; 256], text: &[u8], bytes: &mut [u8]) -> bool
 ///
 /// Want of memory.
 #[tactic(auto, using(crate::proofs::DigitFacts::of_even, crate::proofs::DigitFacts::of_odd))]
-pub(crate) fn decoded(alloc: Global, text: &[u8]) -> Result<Option<Vec<u8>>, OutOfMemory>
+pub(crate) fn decode_hex(alloc: Global, text: &[u8]) -> Result<Option<Vec<u8>>, OutOfMemory>
     ensures some { IfOk result (λ found. IfSome found (λ bytes. decode_of text.now ≡ Ok bytes.items)) }
     ensures none { IfOk result (λ found. IfNone found ((bytes : List ℕ) → decode_of text.now ≢ Ok bytes)) }
 {

@@ -10,7 +10,7 @@ ghost use Rattle.sheet_types.specs.declared.frame.Frame.{Frame};
 ghost use Rattle.sheet_types.specs.Texts.{kind_word};
 ghost use Rattle.sheet_types.specs.declared.receipt.MovedKind.{MovedKind};
 
-use crate::digits::decoded;
+use crate::digits::decode_hex;
 use csv::StringRecord;
 use sheet_types::collections::Text;
 use sheet_types::error::OutOfMemory;
@@ -71,7 +71,7 @@ pub(crate) fn hex_at(
     let Some(text) = row.get(column) else {
         return Ok(None);
     };
-    decoded(alloc, text.as_bytes())
+    decode_hex(alloc, text.as_bytes())
 }
 
 /// The kind that this column names.

@@ -9,7 +9,7 @@ ghost use Rattle.opening_stores.specs.Sharing.{strays_of, HasRoomOf};
 ghost use Rattle.opening.specs.Recovered.{IsRecovered, IsUnopened, seen_of_stores, StandsForSome};
 
 use opening_faults::faults::RecoverFault;
-use opening_stores::bringing::{Room, brought};
+use opening_stores::bringing::{Room, bring_stores};
 use opening_stores::judging::{Judged, is_of_all, judge_stores};
 use opening_stores::sharing::{Shares, share_out};
 use opening_stores::surveying::are_at_rest;
@@ -37,7 +37,7 @@ pub struct Unopened<S: Alter + Drop> {
 }
 
 // The world of stores that are judged and brought. Takes no memory.
-fn opened<S: Alter + Drop>(
+fn open_world<S: Alter + Drop>(
     stores: Vec<Connection<S>>,
     judged: Judged,
     room: Room<S>,
@@ -57,7 +57,7 @@ fn opened<S: Alter + Drop>(
     ensures strays { result.strays.items ≡ strays_of stores.items judged.verdict.kept.items }
 {
     let Shares { members, strays } = share_out(stores, &judged.verdict.kept, room.shares);
-    let world = World::gathered(
+    let world = World::from_members(
         judged.frame,
         members,
         judged.verdict.count,
@@ -88,11 +88,11 @@ fn recover_at_rest<S: Alter + Drop, W: Watcher>(
         let fault = RecoverFault::StoreFault;
         return Err(Unopened { fault, stores });
     }
-    let room = match brought(alloc, &mut stores, &judged.verdict.kept) {
+    let room = match bring_stores(alloc, &mut stores, &judged.verdict.kept) {
         Ok(room) => room,
         Err(fault) => return Err(Unopened { fault, stores }),
     };
-    Ok(opened(stores, judged, room))
+    Ok(open_world(stores, judged, room))
 }
 
 /// Opens the world that stores stand for, whatever they are and in whatever order: the live ones

@@ -10,7 +10,11 @@ use std::alloc::{AllocError, Global};
 use uuid::Uuid;
 
 /// The packages at whose place a flag stands.
-fn flagged(alloc: Global, packages: &[Uuid], flags: &[bool]) -> Result<Vec<Uuid>, AllocError>
+fn flagged_packages(
+    alloc: Global,
+    packages: &[Uuid],
+    flags: &[bool],
+) -> Result<Vec<Uuid>, AllocError>
     ensures { IfOk result (λ chosen. chosen.items ≡ flagged flags.now packages.now) }
 {
     packages
@@ -37,9 +41,9 @@ pub fn live_packages(
 {
     let loans = loans_named(alloc, &sights)?;
     let flags = all_named(alloc, &loans, &sights)?;
-    let packages = flagged(alloc, packages, &flags)?;
+    let packages = flagged_packages(alloc, packages, &flags)?;
     let sights = those_named(alloc, &loans, sights)?;
     let reached = reach(alloc, &sights)?;
-    let chosen = flagged(alloc, &packages, &reached.live)?;
+    let chosen = flagged_packages(alloc, &packages, &reached.live)?;
     Ok(chosen)
 }

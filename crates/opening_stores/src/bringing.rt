@@ -98,7 +98,7 @@ fn room_of<S: Alter + Drop>(alloc: Global, count: usize) -> Result<Room<S>, Allo
 /// # Errors
 ///
 /// Want of memory, or a store that failed; some stores may have been brought before.
-pub fn brought<S: Alter + Drop>(
+pub fn bring_stores<S: Alter + Drop>(
     alloc: Global,
     stores: &mut Vec<Connection<S>>,
     kept: &[Option<Kept>],

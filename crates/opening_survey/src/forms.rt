@@ -39,7 +39,10 @@ fn is_good(frame: &Frame) -> bool
 
 /// The frame whose fixed rows the tables have, where each last change has a moment and the rows of
 /// items and links are in their ranges; `None` where there is no such frame.
-fn framed<S: Alter>(conn: &mut Connection<S>, alloc: Global) -> Result<Option<Frame>, Fault>
+fn read_good_frame<S: Alter>(
+    conn: &mut Connection<S>,
+    alloc: Global,
+) -> Result<Option<Frame>, Fault>
     requires { Rests (state S.Store conn.old) }
     ensures { LooksUp ReadsFramed (state S.Store conn.old) (state S.Store conn.new) result }
 {
@@ -76,7 +79,7 @@ pub(crate) fn read_formed<S: Alter>(
     if !has_form(conn)? {
         return Ok(None);
     }
-    let Some(frame) = framed(conn, alloc)? else {
+    let Some(frame) = read_good_frame(conn, alloc)? else {
         return Ok(None);
     };
     let Some(receipts) = receipts(conn, alloc)? else {

@@ -10,7 +10,7 @@ use crate::forms::{Formed, read_formed};
 use crate::held::held_of;
 use crate::laws::reads_as_a_package;
 use crate::said::{Said, read_said};
-use crate::ties::tied;
+use crate::ties::has_good_ties;
 use opening_faults::sights::{Sight, StoreHead};
 use opening_verdict::seen::StoreSeen;
 use package_tables::fault::Fault;
@@ -86,7 +86,7 @@ fn survey_formed<S: Alter>(
     requires heads { said.head ≡ Some head }
     ensures { LooksAt (SeesFormed said formed) (state S.Store conn.old) (state S.Store conn.new) result }
 {
-    if !tied(conn, alloc)? {
+    if !has_good_ties(conn, alloc)? {
         return Ok(without_package(alloc, said, formed.frame, true));
     }
     let held = held_of(conn, alloc, head, formed.receipts)?;

@@ -15,7 +15,10 @@ use std::alloc::Global;
 /// # Errors
 ///
 /// Want of memory, a store that failed, or a row that is there twice, which the constraints of the tables exclude.
-pub(crate) fn tied<S: Alter>(conn: &mut Connection<S>, alloc: Global) -> Result<bool, Fault>
+pub(crate) fn has_good_ties<S: Alter>(
+    conn: &mut Connection<S>,
+    alloc: Global,
+) -> Result<bool, Fault>
     requires { Rests (state S.Store conn.old) }
     ensures { LooksUp TellsTied (state S.Store conn.old) (state S.Store conn.new) result }
 {

@@ -74,7 +74,7 @@ fn blank(alloc: Global) -> Result<Connection<MemStore>, Fault>
 }
 
 /// The same store, of which it is known that its tables are in the order of their rowids.
-fn reopened(alloc: Global, conn: Connection<MemStore>) -> Result<Connection<MemStore>, Fault>
+fn reopen(alloc: Global, conn: Connection<MemStore>) -> Result<Connection<MemStore>, Fault>
     requires { Holds (state over_memory conn) (state over_memory conn).now }
     ensures rests { IfOk result (λ new. Rests (state over_memory new)) }
     ensures same { IfOk result (λ new. (state over_memory new).now ≡ (state over_memory conn).now) }
@@ -105,6 +105,6 @@ pub fn copy(
     let blank = blank(alloc)?;
     let mut conn = create(alloc, blank, frame, info)?.into_connection();
     fill(&mut conn, rows)?;
-    let package = reopened(alloc, conn)?;
+    let package = reopen(alloc, conn)?;
     Ok(package)
 }

@@ -25,7 +25,7 @@ use uuid::Uuid;
 const GREATEST_SEQ: i64 = 1_000_000_000;
 
 /// A number that is not below zero.
-fn counted(number: i64) -> Option<u64>
+fn natural_of(number: i64) -> Option<u64>
     ensures counted { IfSome result (λ counted. number ≡ pos counted) }
     ensures none { IfNone result (pos 0 ≤ℤ number → ⊥) }
 {
@@ -118,7 +118,7 @@ pub(crate) fn thing_of(row: &MovedRow, base: Uuid, other: Option<Uuid>) -> Optio
     let Ok(kind) = kind_of_number(row.kind) else {
         return None;
     };
-    let Some(size) = counted(row.size) else {
+    let Some(size) = natural_of(row.size) else {
         return None;
     };
     let Some(fingerprint) = digest_of(row.fingerprint.as_str()) else {
@@ -148,19 +148,19 @@ fn sums_of(row: &ReceiptRow) -> Option<Sums>
     ensures some { IfSome result (HasSums row.now) }
     ensures none { IfNone result (AreCounts row.now → ⊥) }
 {
-    let Some(tiles) = counted(row.n_tiles) else {
+    let Some(tiles) = natural_of(row.n_tiles) else {
         return None;
     };
-    let Some(media) = counted(row.n_media) else {
+    let Some(media) = natural_of(row.n_media) else {
         return None;
     };
-    let Some(rows) = counted(row.n_rows) else {
+    let Some(rows) = natural_of(row.n_rows) else {
         return None;
     };
-    let Some(links) = counted(row.n_links) else {
+    let Some(links) = natural_of(row.n_links) else {
         return None;
     };
-    let Some(bytes) = counted(row.n_bytes) else {
+    let Some(bytes) = natural_of(row.n_bytes) else {
         return None;
     };
     Some(Sums {
@@ -199,7 +199,7 @@ fn named_by(row: &ReceiptRow) -> Option<Named>
     if !is_seq(row.seq) || !is_moment(row.at.as_str()) {
         return None;
     }
-    let Some(seq) = counted(row.seq) else {
+    let Some(seq) = natural_of(row.seq) else {
         return None;
     };
     let Some(request) = uuid_of(row.request.as_str()) else {

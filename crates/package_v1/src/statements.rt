@@ -12,7 +12,7 @@ use package_tables::fault::Fault;
 use sqlite::{Alter, Error, Transaction, params};
 
 /// What a write answers, its count of rows dropped.
-fn settled(outcome: Result<usize, Error>) -> Result<(), Fault>
+fn drop_count(outcome: Result<usize, Error>) -> Result<(), Fault>
     ensures { MatchResult outcome (λ _. IsOk result) (λ error. result ≡ Err (fault_of error)) }
 {
     match outcome {
@@ -26,7 +26,7 @@ pub(crate) fn make_third_table<S: Alter>(tx: &mut Transaction<'_, S>) -> Result<
     ensures same_reference { tx.new.conn.ghost_name ≡ tx.old.conn.ghost_name }
     ensures steps { Steps (λ _. MakesThird) (state S.Store tx.old.conn.now) (state S.Store tx.new.conn.now) result }
 {
-    settled(tx.execute(
+    drop_count(tx.execute(
         "CREATE TABLE rows_tiles (base_id INTEGER NOT NULL, related_id INTEGER NOT NULL, UNIQUE (base_id, related_id)) STRICT",
         &[],
     ))
@@ -37,7 +37,7 @@ pub(crate) fn make_third_index<S: Alter>(tx: &mut Transaction<'_, S>) -> Result<
     ensures same_reference { tx.new.conn.ghost_name ≡ tx.old.conn.ghost_name }
     ensures steps { Steps (λ _. IndexesThird) (state S.Store tx.old.conn.now) (state S.Store tx.new.conn.now) result }
 {
-    settled(tx.execute("CREATE INDEX by_rows_tiles ON rows_tiles (related_id)", &[]))
+    drop_count(tx.execute("CREATE INDEX by_rows_tiles ON rows_tiles (related_id)", &[]))
 }
 
 fn insert_relation<S: Alter>(
@@ -64,7 +64,7 @@ fn insert_relation<S: Alter>(
     }))
         (state S.Store tx.old.conn.now) (state S.Store tx.new.conn.now) result }
 {
-    settled(tx.execute(
+    drop_count(tx.execute(
         "INSERT INTO gpkgext_relations VALUES (?1, ?2, ?3, ?4, ?5, ?6, ?7)",
         params![
             id,
@@ -102,7 +102,7 @@ pub(crate) fn set_version<S: Alter>(tx: &mut Transaction<'_, S>, version: i64) -
     ensures steps { Steps (λ _. SetsVersion version) (state S.Store tx.old.conn.now) (state S.Store tx.new.conn.now)
         result }
 {
-    settled(tx.execute("UPDATE sheet_package SET version = ?1", params![version]))
+    drop_count(tx.execute("UPDATE sheet_package SET version = ?1", params![version]))
 }
 
 /// Takes the third mapping out of the relations.
@@ -111,7 +111,7 @@ pub(crate) fn delete_third_relation<S: Alter>(tx: &mut Transaction<'_, S>) -> Re
     ensures steps { Steps (λ _. OnTables DropsThirdRelation) (state S.Store tx.old.conn.now)
         (state S.Store tx.new.conn.now) result }
 {
-    settled(tx.execute("DELETE FROM gpkgext_relations WHERE id = ?1", params![3i64]))
+    drop_count(tx.execute("DELETE FROM gpkgext_relations WHERE id = ?1", params![3i64]))
 }
 
 /// Drops the table of the third mapping, and its indexes with it.
@@ -119,5 +119,5 @@ pub(crate) fn drop_third_table<S: Alter>(tx: &mut Transaction<'_, S>) -> Result<
     ensures same_reference { tx.new.conn.ghost_name ≡ tx.old.conn.ghost_name }
     ensures steps { Steps (λ _. DropsThird) (state S.Store tx.old.conn.now) (state S.Store tx.new.conn.now) result }
 {
-    settled(tx.execute("DROP TABLE rows_tiles", &[]))
+    drop_count(tx.execute("DROP TABLE rows_tiles", &[]))
 }

@@ -62,7 +62,7 @@ impl<'f> Shelf<FolderStore> for FolderShelf<'f> {
     {
         match blank_in_folder(self.rt, self.folder, package) {
             Ok(store) => Ok(store),
-            Err(fault) => Err(counted(fault.into(), &mut self.failures)),
+            Err(fault) => Err(count_fault(fault.into(), &mut self.failures)),
         }
     }
 
@@ -85,7 +85,7 @@ impl<'f> Shelf<FolderStore> for FolderShelf<'f> {
 }
 
 /// The fault, which is counted.
-fn counted(fault: ShelfFault, failures: &mut u64) -> ShelfFault
+fn count_fault(fault: ShelfFault, failures: &mut u64) -> ShelfFault
     ensures rises { MoreFaults failures.old failures.new }
     ensures more { failures.old ≤ failures.new }
 {

@@ -63,7 +63,7 @@ fn tell_item(
             }
         }
         (Some(_), None) => told.unread("frame"),
-        (None, _) => told.value(&Counts::none().counted(content).of_kind(content)),
+        (None, _) => told.value(&Counts::none().count_content(content).of_kind(content)),
     }
     Ok(())
 }

@@ -2,7 +2,7 @@
 // `held` says where things stand.
 // Each function puts its lines behind those that are there, so that none holds a text of its own when it fails.
 use crate::told::{end, number, push_sights, push_sums};
-use custody::keeping::kept;
+use custody::keeping::find_receipt;
 use identity_register::whole::holdings;
 use package_tables::fault::Fault;
 use package_tables::head::all_heads;
@@ -172,7 +172,7 @@ fn push_kept_by<S: Alter>(
     text: &mut String,
 ) -> Result<(), Fault> {
     at_rest(conn)?;
-    let kept = kept(conn, alloc, id)?;
+    let kept = find_receipt(conn, alloc, id)?;
     push_kept(alloc, &kept, text)
 }
 

@@ -35,7 +35,7 @@ fn tile_row(
 }
 
 /// Some ground as the blob of a geometry, or `NULL`.
-fn drawn(alloc: Global, srs_id: i64, ground: &Option<Ground>) -> Result<String, AllocError>
+fn ground_blob(alloc: Global, srs_id: i64, ground: &Option<Ground>) -> Result<String, AllocError>
     requires { FitsHeader srs_id }
     ensures { IfOk result (λ text. string_bytes text ≡ drawn srs_id ground.now) }
 {
@@ -60,7 +60,7 @@ fn tile_outline(
     ensures { IfOk result (λ text. string_bytes text ≡ tile_outline frame.now zoom column row) }
 {
     let ground = ground(frame, zoom, column, row);
-    drawn(alloc, frame.srs_id, &ground)
+    ground_blob(alloc, frame.srs_id, &ground)
 }
 
 /// The numbers of a place with commas between them.

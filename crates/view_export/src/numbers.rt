@@ -33,7 +33,7 @@ impl Counts {
     }
 
     /// With one more of the kind of this content.
-    pub fn counted(self, content: &Content) -> Counts
+    pub fn count_content(self, content: &Content) -> Counts
         requires { count_of self content.now < 2 ^ 64 - 1 }
         ensures { result ≡ counted self content.now }
     {
@@ -81,7 +81,7 @@ fn note_all(alloc: Global, items: &[Item]) -> Result<BTreeMap<Uuid, u64>, AllocE
     let mut numbers = BTreeMap::new(alloc);
     let mut counts = Counts::none();
     for item in items {
-        counts = counts.counted(&item.content);
+        counts = counts.count_content(&item.content);
         note(&mut numbers, item.identity, counts.of_kind(&item.content))?;
     }
     Ok(numbers)

@@ -15,7 +15,7 @@ use std::alloc::Global;
 use world::asking::Question;
 
 /// A number that a head says, which is not below zero.
-fn counted(number: i64) -> Result<u64, Fault>
+fn natural_of(number: i64) -> Result<u64, Fault>
     ensures { IfOk result (λ counted. number ≡ pos counted) }
 {
     if number < 0 {
@@ -31,7 +31,7 @@ fn loan_in(heads: &[HeadRow]) -> Result<u64, Fault>
     if heads.len() != 1 {
         return Err(Fault::StoreFault);
     }
-    counted(heads[0].loan)
+    natural_of(heads[0].loan)
 }
 
 /// The number of the split that made the package of a store; 0 of an archive.

@@ -18,7 +18,7 @@ use world::asking::Question;
 const GREATEST_STORED: u64 = 9_223_372_036_854_775_807;
 
 /// A number as a column of integers has it; a greater one than such a column can have is a fault.
-fn stored(number: u64) -> Result<i64, Fault>
+fn column_number(number: u64) -> Result<i64, Fault>
     ensures { IfOk result (λ stored. stored ≡ pos number) }
 {
     if number > GREATEST_STORED {
@@ -34,7 +34,7 @@ fn before(number: u64) -> Result<i64, Fault>
     if number == 0 {
         return Ok(-1);
     }
-    let before = stored(number - 1)?;
+    let before = column_number(number - 1)?;
     Ok(before)
 }
 
@@ -52,7 +52,7 @@ fn moment_at<S: Alter>(conn: &mut Connection<S>, number: u64) -> Result<Option<T
         (state S.Store conn.new) result }
 {
     let before = before(number)?;
-    let seq = stored(number)?;
+    let seq = column_number(number)?;
     match receipt_after(conn, before)? {
         Some(row) => Ok(moment_in(row, seq)),
         None => Ok(None),

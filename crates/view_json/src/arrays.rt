@@ -20,7 +20,7 @@ pub(crate) struct Lines {
 }
 
 /// Opens an array.
-pub(crate) fn opened(alloc: Global) -> Result<Lines, AllocError>
+pub(crate) fn open_array(alloc: Global) -> Result<Lines, AllocError>
     ensures { IfOk result (λ lines. IsOpen [] lines) }
 {
     let text = String::from_str(alloc, "[")?;
@@ -57,7 +57,7 @@ pub(crate) fn put_object(lines: &mut Lines, object: &str) -> Result<(), AllocErr
 }
 
 /// Closes an array.
-pub(crate) fn closed(lines: Lines) -> Result<String, AllocError>
+pub(crate) fn close_array(lines: Lines) -> Result<String, AllocError>
     ensures { IfOk result (λ text.
         (ds : List Data) → IsOpen ds lines → string_bytes text ≡ array_text ds) }
 {

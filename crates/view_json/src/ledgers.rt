@@ -5,7 +5,7 @@ ghost use Rattle.serde_json.specs.Written.{compact_text};
 ghost use Rattle.view_json.specs.Arrays.{Puts};
 ghost use Rattle.view_json.specs.Ledgers.{excerpt_json, receipt_data};
 
-use crate::arrays::{Lines, closed, end_value, opened, put_object};
+use crate::arrays::{Lines, close_array, end_value, open_array, put_object};
 use serde_json::{Value, json};
 use sheet_types::receipt::Receipt;
 use std::alloc::{AllocError, Global};
@@ -73,8 +73,8 @@ pub fn excerpt_json(
     ensures { IfOk result (λ text. string_bytes text ≡ excerpt_json ledger.now excerpt.now) }
 {
     let asked = asked_of(alloc, ledger, excerpt)?;
-    let mut lines = opened(alloc)?;
+    let mut lines = open_array(alloc)?;
     put_receipts(alloc, &mut lines, asked.as_slice())?;
-    let text = closed(lines)?;
+    let text = close_array(lines)?;
     Ok(text)
 }

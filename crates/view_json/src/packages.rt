@@ -5,7 +5,7 @@ ghost use Rattle.serde_json.specs.Written.{compact_text};
 ghost use Rattle.view_json.specs.Arrays.{Puts};
 ghost use Rattle.view_json.specs.Packages.{package_data, package_object, status_json, strays_data};
 
-use crate::arrays::{Lines, closed, end_value, opened, put_object, text_value};
+use crate::arrays::{Lines, close_array, end_value, open_array, put_object, text_value};
 use serde_json::{Value, json};
 use std::alloc::{AllocError, Global};
 use uuid::Uuid;
@@ -99,11 +99,11 @@ fn put_strays(alloc: Global, lines: &mut Lines, strays: u64) -> Result<(), Alloc
 pub fn status_json(alloc: Global, rows: &[PackageRow], strays: u64) -> Result<String, AllocError>
     ensures { IfOk result (λ text. string_bytes text ≡ status_json rows.now strays) }
 {
-    let mut lines = opened(alloc)?;
+    let mut lines = open_array(alloc)?;
     for row in rows {
         put_package(alloc, &mut lines, row)?;
     }
     put_strays(alloc, &mut lines, strays)?;
-    let text = closed(lines)?;
+    let text = close_array(lines)?;
     Ok(text)
 }

@@ -7,7 +7,7 @@ ghost use Rattle.view_text.specs.Ways.{speaks_of};
 ghost use Rattle.view_json.specs.Arrays.{Puts};
 ghost use Rattle.view_json.specs.Ways.{naming_data, naming_object, place_data, way_datas, way_json};
 
-use crate::arrays::{Lines, closed, end_value, opened, put_object};
+use crate::arrays::{Lines, close_array, end_value, open_array, put_object};
 use serde_json::{Value, json};
 use sheet_types::receipt::Receipt;
 use std::alloc::{AllocError, Global};
@@ -138,10 +138,10 @@ fn put_place(alloc: Global, lines: &mut Lines, place: Option<Uuid>) -> Result<()
 fn way_array(alloc: Global, receipts: &[Receipt], identity: Uuid) -> Result<String, AllocError>
     ensures { IfOk result (λ text. string_bytes text ≡ way_json identity receipts.now) }
 {
-    let mut lines = opened(alloc)?;
+    let mut lines = open_array(alloc)?;
     put_receipts(alloc, &mut lines, receipts, identity)?;
     put_place(alloc, &mut lines, place_by(receipts, identity))?;
-    let text = closed(lines)?;
+    let text = close_array(lines)?;
     Ok(text)
 }
 

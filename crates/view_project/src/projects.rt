@@ -12,7 +12,7 @@ use view_export::literals::Thousandths;
 use view_report::escaping::put_raw;
 
 /// A name, fit for the text of an element.
-fn escaped(alloc: Global, name: &str) -> Result<String, AllocError>
+fn escape_name(alloc: Global, name: &str) -> Result<String, AllocError>
     ensures { IfOk result (λ text. string_bytes text ≡ raw_text name.now) }
 {
     let mut text = String::new(alloc);
@@ -69,7 +69,7 @@ fn canvas(alloc: Global, extent: &str, system: &str) -> Result<String, AllocErro
 }
 
 /// What stands before the layers.
-fn framed(alloc: Global, extent: &str, system: &str) -> Result<String, AllocError>
+fn project_head(alloc: Global, extent: &str, system: &str) -> Result<String, AllocError>
     ensures { IfOk result (λ text. string_bytes text ≡ framed extent.now system.now) }
 {
     let beginning = beginning();
@@ -83,10 +83,10 @@ fn framed(alloc: Global, extent: &str, system: &str) -> Result<String, AllocErro
 fn write_project(alloc: Global, frame: &Frame, name: &str) -> Result<String, AllocError>
     ensures { IfOk result (λ text. string_bytes text ≡ project frame.now name.now) }
 {
-    let file = escaped(alloc, name)?;
+    let file = escape_name(alloc, name)?;
     let system = reference_system(alloc, frame.srs_id)?;
     let extent = extent(alloc, frame)?;
-    let framed = framed(alloc, extent.as_str(), system.as_str())?;
+    let framed = project_head(alloc, extent.as_str(), system.as_str())?;
     let layers = layers(alloc, file.as_str(), system.as_str())?;
     let relations = relations();
     let closing = closing();

@@ -33,7 +33,7 @@ fn control_picture(code: u32) -> u32
 }
 
 /// A character as it is seen.
-fn shown(letter: char) -> char
+fn visible_letter(letter: char) -> char
     ensures { result ≡ shown_code letter }
 {
     let code = letter as u32;
@@ -56,7 +56,7 @@ fn put_letter(text: &mut String, letter: char) -> Result<(), AllocError>
         '>' => text.push_str("&gt;"),
         '"' => text.push_str("&quot;"),
         '\'' => text.push_str("&#39;"),
-        _ => text.push(shown(letter)),
+        _ => text.push(visible_letter(letter)),
     }
 }
 

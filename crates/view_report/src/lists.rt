@@ -69,7 +69,7 @@ impl Things {
     }
 
     /// The item of this identity, if there is one.
-    pub fn found(&self, identity: Uuid) -> Option<&Thing>
+    pub fn find_thing(&self, identity: Uuid) -> Option<&Thing>
         ensures { option_map (λ t. t.now) result ≡ thing_found self.now identity }
     {
         let place = self.places.get(&identity)?;
@@ -123,7 +123,7 @@ impl Names {
     }
 
     /// The first name of this UUID, if there is one.
-    pub fn found(&self, uuid: Uuid) -> Option<&Name>
+    pub fn find_name(&self, uuid: Uuid) -> Option<&Name>
         ensures { option_map (λ n. n.now) result ≡ name_of self.now uuid }
     {
         let place = self.places.get(&uuid)?;

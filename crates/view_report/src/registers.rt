@@ -170,7 +170,7 @@ pub fn ends_at(end: Option<Uuid>, id: Uuid) -> bool
 pub fn name_of<'t>(names: &'t Names, uuid: Uuid) -> Option<&'t Name>
     ensures { option_map (λ n. n.now) result ≡ name_of names.now uuid }
 {
-    names.found(uuid)
+    names.find_name(uuid)
 }
 
 /// The package of this UUID, if it lives.
@@ -184,7 +184,7 @@ pub fn live_of(packages: &[Live], uuid: Uuid) -> Option<&Live>
 pub fn thing_found(things: &Things, identity: Uuid) -> Option<&Thing>
     ensures { option_map (λ t. t.now) result ≡ thing_found things.now identity }
 {
-    things.found(identity)
+    things.find_thing(identity)
 }
 
 /// The receipt of this number, if there is one.

@@ -101,7 +101,7 @@ fn asked_among<'r>(
 }
 
 /// How many of so many are passed over, so that the last ones are left.
-fn passed(last: Option<usize>, count: usize) -> usize
+fn count_passed(last: Option<usize>, count: usize) -> usize
     ensures value { result ≡ passed last count }
     ensures bound { result ≤ count }
 {
@@ -119,7 +119,7 @@ fn last_among<'r>(
 ) -> Result<Vec<&'r Receipt>, AllocError>
     ensures { IfOk result (λ asked. asked.items ≡ drop (passed last (length found.now)) found.now) }
 {
-    let start = passed(last, found.len());
+    let start = count_passed(last, found.len());
     let mut asked = Vec::new(alloc);
     asked.extend_from_slice(&found[start..])?;
     Ok(asked)

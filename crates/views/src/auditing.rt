@@ -42,7 +42,7 @@ fn good_line(alloc: Global, receipts: u64) -> Result<String, AllocError>
 }
 
 /// What gave out, as an audit tells it.
-fn faulted(fault: RecoverFault) -> Ending
+fn audit_ending(fault: RecoverFault) -> Ending
     ensures { result ≡ Faulted (unopened.Fault fault) }
 {
     Ending::Faulted(OpenFault::Fault(fault))
@@ -58,11 +58,11 @@ pub fn audit_in<S: Alter + Drop, W: Write>(
 {
     let receipts = match receipts_of(alloc, world) {
         Ok(receipts) => receipts,
-        Err(Fault::OutOfMemory) => return faulted(RecoverFault::OutOfMemory),
-        Err(Fault::StoreFault) => return faulted(RecoverFault::StoreFault),
+        Err(Fault::OutOfMemory) => return audit_ending(RecoverFault::OutOfMemory),
+        Err(Fault::StoreFault) => return audit_ending(RecoverFault::StoreFault),
     };
     let Ok(line) = good_line(alloc, receipts) else {
-        return faulted(RecoverFault::OutOfMemory);
+        return audit_ending(RecoverFault::OutOfMemory);
     };
     match send(writer, line.as_bytes()) {
         Ok(()) => DONE,

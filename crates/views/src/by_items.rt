@@ -116,7 +116,7 @@ fn send_told<S: Alter + Drop, W: Write>(
     let mut counts = Counts::none();
     for moved in told {
         let item = item_in(alloc, world, package, moved.base)?;
-        counts = counts.counted(&item.content);
+        counts = counts.count_content(&item.content);
         let rows = item_rows(alloc, frame, counts.of_kind(&item.content), &item)?;
         send(writer, rows.as_bytes())?;
     }

@@ -4,7 +4,7 @@ ghost use Rattle.views.specs.Contents.{Gets, ShowsData, TellsUnfound, named};
 ghost use Rattle.views.specs.Showing.{PrintsAll};
 
 use crate::endings::Ending;
-use crate::showing::stopped;
+use crate::showing::fault_ending;
 use command_folder::endings::{DONE, Ending as CommandEnding, FAILED, NO_MEMORY};
 use command_requests::contents::named_data;
 use command_verbs::faults::verb_line;
@@ -62,6 +62,6 @@ pub fn get_in<S: Alter + Drop, W: Write>(
 {
     match named_data(alloc, world, word) {
         Ok(found) => show_named(alloc, found, writer),
-        Err(fault) => stopped(fault),
+        Err(fault) => fault_ending(fault),
     }
 }

@@ -173,7 +173,7 @@ pub fn look_over<S: Alter + Drop, W: Write>(
 }
 
 /// How a folder that is not opened ends the program: an audit tells its fault.
-fn unopened(look: &Look<'_>, fault: OpenFault) -> Ending
+fn look_ending(look: &Look<'_>, fault: OpenFault) -> Ending
     ensures { result ≡ unopened look.now fault }
 {
     match look {
@@ -202,7 +202,7 @@ fn look_at<W: Write>(rt: &HostRuntime, folder: &str, look: &Look<'_>, writer: &m
             close_stores(stores);
             ending
         }
-        Err(fault) => unopened(look, fault),
+        Err(fault) => look_ending(look, fault),
     }
 }
 

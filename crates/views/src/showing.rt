@@ -10,7 +10,7 @@ use package_tables::fault::Fault;
 use std::io::Write;
 
 /// How the program ends where memory or a store gave out.
-pub(crate) fn stopped(fault: Fault) -> Ending
+pub(crate) fn fault_ending(fault: Fault) -> Ending
     ensures { result ≡ stopped fault }
 {
     Ending::Usual(CommandEnding::Usual(Outcome::Stopped(Failure::from(fault))))
@@ -33,7 +33,7 @@ pub(crate) fn show<W: Write>(writer: &mut W, text: Result<String, Fault>) -> End
 {
     match text {
         Ok(text) => print(writer, text.as_str()),
-        Err(fault) => stopped(fault),
+        Err(fault) => fault_ending(fault),
     }
 }
 
@@ -49,6 +49,6 @@ pub(crate) fn show_found<W: Write>(
     match found {
         Ok(Some(text)) => print(writer, text.as_str()),
         Ok(None) => none,
-        Err(fault) => stopped(fault),
+        Err(fault) => fault_ending(fault),
     }
 }

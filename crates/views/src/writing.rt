@@ -49,7 +49,7 @@ fn send_items<W: Write>(
 {
     let mut counts = Counts::none();
     for item in items {
-        counts = counts.counted(&item.content);
+        counts = counts.count_content(&item.content);
         let rows = item_rows(alloc, frame, counts.of_kind(&item.content), item)?;
         send(writer, rows.as_bytes())?;
     }

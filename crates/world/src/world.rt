@@ -128,7 +128,7 @@ impl<S: Alter + Drop> World<S> {
     /// all that these name is known; each member's store is at rest. That they stand for it may
     /// rest on the disks of other stores too. The list that is handed in has room for the stores of
     /// all members, so this takes no memory.
-    pub fn gathered(
+    pub fn from_members(
         frame: Frame,
         members: Vec<Member<S>>,
         count: u64,

@@ -85,7 +85,7 @@ pub fn package_of(command: &Command) -> Uuid
 }
 
 /// The reply to a request that came before: the receipt that is kept for it, if it is of the same line.
-fn repeated(
+fn repeat_reply(
     alloc: Global,
     receipt: Receipt,
     command: &Command,
@@ -218,7 +218,7 @@ fn sums_within<S: Alter + Drop>(
 
 /// What a request that is not refused before comes to by what it would leave: too many, or the
 /// change is due with this receipt.
-fn limited<S: Alter + Drop>(
+fn decide_by_sums<S: Alter + Drop>(
     members: &[Member<S>],
     at: usize,
     count: u64,
@@ -249,7 +249,7 @@ fn limited<S: Alter + Drop>(
 }
 
 /// The same, with the receipt to be made. A store that has no item for a delete that it did not refuse has failed.
-fn prepared<S: Alter + Drop>(
+fn decide_by_receipt<S: Alter + Drop>(
     members: &mut Vec<Member<S>>,
     at: usize,
     count: u64,
@@ -272,7 +272,7 @@ fn prepared<S: Alter + Drop>(
     let Ok(receipt) = receipt_over(alloc, count + 1, request, thing) else {
         return Err(Fault::OutOfMemory);
     };
-    Ok(limited(members.as_slice(), at, count, request, receipt))
+    Ok(decide_by_sums(members.as_slice(), at, count, request, receipt))
 }
 
 /// What a new request comes to whose package stands at a place.
@@ -297,7 +297,7 @@ fn decide_at<S: Alter + Drop>(
     if let Some(why) = refused_before(members, known, at, frame, request)? {
         return Ok(Decision::Answered(Err(why)));
     }
-    prepared(members, at, count, alloc, request)
+    decide_by_receipt(members, at, count, alloc, request)
 }
 
 /// What a request of the commands that change one package comes to that did not come before.
@@ -390,7 +390,7 @@ pub fn decide<S: Alter + Drop>(
     ensures makes { IfOk result (λ decision. Makes (child_asked request.now.command) decision) }
 {
     if let Some(receipt) = find_kept(members, known, alloc, request.id)? {
-        let reply = repeated(alloc, receipt, &request.command)?;
+        let reply = repeat_reply(alloc, receipt, &request.command)?;
         return Ok(Decision::Answered(reply));
     }
     decide_new(members, known, frame, count, alloc, request)

@@ -325,7 +325,7 @@ fn sums_within<S: Alter + Drop>(
 }
 
 /// What a merge that nothing speaks against comes to by what it would leave: too many, or it is due.
-fn weighed<S: Alter + Drop>(
+fn decide_by_sums<S: Alter + Drop>(
     members: &[Member<S>],
     from: usize,
     at: usize,
@@ -394,7 +394,7 @@ fn decide_whole<S: Alter + Drop>(
 {
     let receipt = receipt_of_all(alloc, count + 1, request, items, &links)?;
     let selection = selection_of(alloc, items, links)?;
-    Ok(weighed(members, from, at, count, receipt, selection))
+    Ok(decide_by_sums(members, from, at, count, receipt, selection))
 }
 
 /// What a merge comes to that is not refused by what is kept, whose child holds these items and

@@ -213,7 +213,7 @@ fn is_too_many<S: Alter + Drop>(
 }
 
 /// What a split comes to of which all was made that would be due: too many, or it is due.
-fn limited<S: Alter + Drop>(members: &[Member<S>], count: u64, due: Lending) -> Decision
+fn decide_by_sums<S: Alter + Drop>(members: &[Member<S>], count: u64, due: Lending) -> Decision
     requires at { due.at < length members.now }
     requires child_at { due.child_at ≤ length members.now }
     requires number { due.receipt.seq ≡ count + 1 }
@@ -265,7 +265,7 @@ fn parted_at<S: Alter + Drop>(
 }
 
 /// What a split comes to whose cut is selected.
-fn prepared<S: Alter + Drop>(
+fn decide_selected<S: Alter + Drop>(
     members: &mut Vec<Member<S>>,
     lender: Lender,
     count: u64,
@@ -297,7 +297,7 @@ fn prepared<S: Alter + Drop>(
         left,
         lent,
     };
-    Ok(limited(members.as_slice(), count, due))
+    Ok(decide_by_sums(members.as_slice(), count, due))
 }
 
 /// The member at a place as one that is to lend.
@@ -342,7 +342,7 @@ fn decide_at<S: Alter + Drop>(
     }
     match cut_at(members, at, frame, alloc, &asked.rect, asked.mode)? {
         Err(why) => Ok(Decision::Answered(Err(why))),
-        Ok(selection) => prepared(members, lender, count, alloc, request, asked, selection),
+        Ok(selection) => decide_selected(members, lender, count, alloc, request, asked, selection),
     }
 }
 

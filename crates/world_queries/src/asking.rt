@@ -11,7 +11,7 @@ ghost use Rattle.world_queries.specs.Asking.{AsksAll, IsPlaceOf};
 ghost use Rattle.world_members.specs.Register.{ever_lent};
 ghost use Rattle.world_members.specs.Members.{AllRest, TurnsAt};
 
-use custody::keeping::kept;
+use custody::keeping::find_receipt;
 use custody::lending::was_lent;
 use custody::names;
 use package_tables::fault::Fault;
@@ -47,7 +47,7 @@ pub(crate) fn kept_by<S: Alter + Drop>(
         (λ before after. Looks (Sees (λ f p found. IsKept p id found)) before after result) }
 {
     let member = &mut members[at];
-    kept(&mut member.conn, alloc, id)
+    find_receipt(&mut member.conn, alloc, id)
 }
 
 /// The receipt that is kept for a request, if it came before.

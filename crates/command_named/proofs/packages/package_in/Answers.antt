@@ -13,5 +13,5 @@ pub returns-in-Err : goal.returns-in-Err
 returns-in-Err g c = record {
   search = Err c.in-Err.fault;
   told = tt;
-  shown = (c.stopped.ensures, refl, c.into_stores.ensures, refl);
+  shown = (c.fault_ending.ensures, refl, c.into_stores.ensures, refl);
 }

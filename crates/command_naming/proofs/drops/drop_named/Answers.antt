@@ -10,9 +10,9 @@ returns-in-Ok-drop_item g c = record {
   read = c.found_item.new.world;
   untouched = c.in-Ok.ensures.read;
   told = λ clean w stands. c.in-Ok.ensures.told clean w stands;
-  made = dropped_so g.S.Store c.args.dropping.now c.in-Ok.found c.in-Ok-named.id c.found_item.new.world
+  made = dropped_so g.S.Store c.args.dropping.now c.in-Ok.found c.in-Ok-pick_one.id c.found_item.new.world
       c.drop_item.new.world c.in-Ok-drop_item.outcome _ _
-      (sym c.in-Ok-named.ensures) c.in-Ok-drop_item.ensures;
+      (sym c.in-Ok-pick_one.ensures) c.in-Ok-drop_item.ensures;
 }
 
 pub returns-in-Err-drop_item : goal.returns-in-Err-drop_item

@@ -16,7 +16,7 @@ returns-in-Ok-None g c =
     inr (inl (record { none = none; same = refl; told = c.tell_fault.ensures; unhinted = refl }))
 
 pub returns-in-Err : goal.returns-in-Err
-returns-in-Err g c = inr (inr (c.in-Err.fault, c.stopped.ensures, refl, refl, refl))
+returns-in-Err g c = inr (inr (c.in-Err.fault, c.fault_ending.ensures, refl, refl, refl))
 
 pub returns-in-Ok-Some : goal.returns-in-Ok-Some
 returns-in-Ok-Some g c =

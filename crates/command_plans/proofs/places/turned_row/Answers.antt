@@ -12,8 +12,8 @@ axes_at-requires-clause-level c =
     let has = simp to_z-of_z at c.has_place.ensures in
     simp to_z-of_z (placed c.args.frame.now c.args.zoom c.args.row (sym has ∙ c.if-not-has_place.false)).level
 
-pub turned-requires : goal.turned-requires
-turned-requires c =
+pub mirror_row-requires : goal.mirror_row-requires
+mirror_row-requires c =
     let zoom = c.ranges.zoom in
     let row = c.ranges.row in
     let rows : FitsSigned w64 c.axes_at.result.down.tiles = search rules in
@@ -28,7 +28,7 @@ returns-clause-some c =
     let zoom = c.ranges.zoom in
     let row = c.ranges.row in
     let rows : FitsSigned w64 c.axes_at.result.down.tiles = search rules in
-    let other : FitsSigned w64 c.turned.result = search rules in
+    let other : FitsSigned w64 c.mirror_row.result = search rules in
     let axes = simp to_z-of_z at c.axes_at.ensures.axes in
-    let turned = simp to_z-of_z at c.turned.ensures in
+    let turned = simp to_z-of_z at c.mirror_row.ensures in
     simp to_z-of_z (turned ∙ ap (λ (a : Axes). a.down.tiles) axes)

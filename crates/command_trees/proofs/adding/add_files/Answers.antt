@@ -15,9 +15,9 @@ loop-file-preserved g c =
         added_next g.S.Store c.args.target.now c.args.items.now c.args.files.now c.loop-file.file-index _ so_far.0
             c.args.world.now c.loop-file.world c.add_file.new.world c.in-Ok.is_new
             c.loop-file-test.true so_far.1 c.in-Ok.ensures,
-        c.counted-counts.ensures.each so_far.0 so_far.2,
+        c.count_file-counts.ensures.each so_far.0 so_far.2,
       );
-      all = omega (arith, c.counted-counts.ensures.one);
+      all = omega (arith, c.count_file-counts.ensures.one);
     }
 
 pub returns : goal.returns

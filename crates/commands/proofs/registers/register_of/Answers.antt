@@ -13,7 +13,7 @@ returns g c =
     joined g.S.Store (λ w l. l.items ≡ map (λ p. p.uuid) w.packages) (λ w r. r.items ≡ receipts_of w) IsRegisterOf
     (λ m. m.live) (λ m. m.receipts)
     c.args.world c.receipts_of-receipts.new.stores.items c.live_of-live.result c.receipts_of-receipts.result
-    c.joined.result
+    c.join_register.result
     (λ w m live receipts. record { receipts = receipts; live = live }) c.live_of-live.ensures
     (looks_into g.S.Store _ c.args.world c.receipts_of-receipts.new.stores.items c.receipts_of-receipts.result
     (kept_counted (λ n. (w : World) → StandsFor g.S.Store c.args.world w → n ≡ length w.packages)
@@ -24,4 +24,4 @@ returns g c =
     c.live_of-live.ensures))
     (λ w found stands given. given)
     (rw c.into_stores-stores.ensures at c.receipts_of-receipts.ensures.asked))
-    c.joined.ensures
+    c.join_register.ensures

@@ -22,11 +22,11 @@ returns-then-is_empty g c =
 
 pub returns-in_err-gathered : goal.returns-in_err-gathered
 returns-in_err-gathered g c = fails c.from_residual-in_err-gathered.result c.from_residual-in_err-gathered.ensures.0
-    (asked_then (stayed c.start.ensures) (stayed c.gathered.ensures.asks))
+    (asked_then (stayed c.start.ensures) (stayed c.gather.ensures.asks))
 
 pub returns-in_err-selection : goal.returns-in_err-selection
 returns-in_err-selection g c = fails c.from_residual-in_err-selection.result
-    c.from_residual-in_err-selection.ensures.0 (asked_then (stayed c.start.ensures) (stayed c.gathered.ensures.asks))
+    c.from_residual-in_err-selection.ensures.0 (asked_then (stayed c.start.ensures) (stayed c.gather.ensures.asks))
 
 pub returns-in-Some : goal.returns-in-Some
 returns-in-Some g c =
@@ -40,7 +40,7 @@ returns-in-Some g c =
     answers (asked_then (asked (λ p found. IsInOrder f p → AreSame found.items (identities (start f r p)))
     c.in_ok-start.was c.start.ensures)
     (asked (λ p g'. HasStart p c.deref.result.now → Gathers p (brought_along p mode c.deref.result.now) g')
-    c.in_ok-gathered.was c.gathered.ensures.asks))
+    c.in_ok-gathered.was c.gather.ensures.asks))
     (λ p both order.
     let same : AreSame ids (identities (start f r p)) = both.0 order in
     let gathers : Gathers p (brought_along p mode ids) found =
@@ -61,7 +61,7 @@ returns g c =
     answers (asked_then (asked (λ p found. IsInOrder f p → AreSame found.items (identities (start f r p)))
     c.in_ok-start.was c.start.ensures)
     (asked (λ p g'. HasStart p c.deref.result.now → Gathers p (brought_along p mode c.deref.result.now) g')
-    c.in_ok-gathered.was c.gathered.ensures.asks))
+    c.in_ok-gathered.was c.gather.ensures.asks))
     (λ p both order.
     let same : AreSame ids (identities (start f r p)) = both.0 order in
     let gathers : Gathers p (brought_along p mode ids) found =

@@ -33,56 +33,56 @@ returns-then-not-is_of_all-clause-fault g c = record {
   fault = λ clean. inl (inr refl);
 }
 
-pub returns-in-Err-brought-clause-fault : goal.returns-in-Err-brought-clause-fault
-returns-in-Err-brought-clause-fault g c = record {
+pub returns-in-Err-bring_stores-clause-fault : goal.returns-in-Err-bring_stores-clause-fault
+returns-in-Err-bring_stores-clause-fault g c = record {
   brought = inr (some_may g.S.Store g.met.S.Store.shut_if_dirty g.met.S.Store.settled c.deref.result.now
-      c.args.stores.items c.judge_stores.new.stores.items c.brought.new.stores.items c.requires.rests
-      c.judge_stores.ensures.read c.in-Ok.ensures.opens c.in-Err-brought.ensures.failed);
-  only_read = inl c.in-Err-brought.ensures.fault;
+      c.args.stores.items c.judge_stores.new.stores.items c.bring_stores.new.stores.items c.requires.rests
+      c.judge_stores.ensures.read c.in-Ok.ensures.opens c.in-Err-bring_stores.ensures.failed);
+  only_read = inl c.in-Err-bring_stores.ensures.fault;
   others_read = λ clean.
       let turned : SomeAreTurned g.S.Store c.in-Ok.judged.verdict.kept.items c.judge_stores.new.stores.items
-      c.brought.new.stores.items =
-      subst (λ k. SomeAreTurned g.S.Store k c.judge_stores.new.stores.items c.brought.new.stores.items)
-      c.deref.ensures.value c.in-Err-brought.ensures.failed in
-      some_still g.S.Store c.args.stores.items c.judge_stores.new.stores.items c.brought.new.stores.items
+      c.bring_stores.new.stores.items =
+      subst (λ k. SomeAreTurned g.S.Store k c.judge_stores.new.stores.items c.bring_stores.new.stores.items)
+      c.deref.ensures.value c.in-Err-bring_stores.ensures.failed in
+      some_still g.S.Store c.args.stores.items c.judge_stores.new.stores.items c.bring_stores.new.stores.items
       c.in-Ok.judged.frame c.in-Ok.judged.verdict c.in-Ok.judged.known c.judge_stores.ensures.read
       (c.in-Ok.ensures.judged (some_clean_before g.S.Store c.in-Ok.judged.verdict.kept.items
-      c.judge_stores.new.stores.items c.brought.new.stores.items turned clean)) turned;
-  fault = λ clean. inl c.in-Err-brought.ensures.fault;
+      c.judge_stores.new.stores.items c.bring_stores.new.stores.items turned clean)) turned;
+  fault = λ clean. inl c.in-Err-bring_stores.ensures.fault;
 }
 
-pub opened-requires-clause-long : goal.opened-requires-clause-long
-opened-requires-clause-long g c =
+pub open_world-requires-clause-long : goal.open_world-requires-clause-long
+open_world-requires-clause-long g c =
     let turned : AreAllTurned g.S.Store c.in-Ok.judged.verdict.kept.items c.judge_stores.new.stores.items
-    c.brought.new.stores.items =
-    subst (λ k. AreAllTurned g.S.Store k c.judge_stores.new.stores.items c.brought.new.stores.items)
-    c.deref.ensures.value c.in-Ok-brought.ensures.brought in
-    as_long _ c.in-Ok.judged.verdict.kept.items c.judge_stores.new.stores.items c.brought.new.stores.items turned
+    c.bring_stores.new.stores.items =
+    subst (λ k. AreAllTurned g.S.Store k c.judge_stores.new.stores.items c.bring_stores.new.stores.items)
+    c.deref.ensures.value c.in-Ok-bring_stores.ensures.brought in
+    as_long _ c.in-Ok.judged.verdict.kept.items c.judge_stores.new.stores.items c.bring_stores.new.stores.items turned
 
-pub opened-requires-clause-stands : goal.opened-requires-clause-stands
-opened-requires-clause-stands g c =
+pub open_world-requires-clause-stands : goal.open_world-requires-clause-stands
+open_world-requires-clause-stands g c =
     let turned : AreAllTurned g.S.Store c.in-Ok.judged.verdict.kept.items c.judge_stores.new.stores.items
-    c.brought.new.stores.items =
-    subst (λ k. AreAllTurned g.S.Store k c.judge_stores.new.stores.items c.brought.new.stores.items)
-    c.deref.ensures.value c.in-Ok-brought.ensures.brought in
-    stands g.S.Store c.judge_stores.new.stores.items c.brought.new.stores.items c.in-Ok.judged.frame
+    c.bring_stores.new.stores.items =
+    subst (λ k. AreAllTurned g.S.Store k c.judge_stores.new.stores.items c.bring_stores.new.stores.items)
+    c.deref.ensures.value c.in-Ok-bring_stores.ensures.brought in
+    stands g.S.Store c.judge_stores.new.stores.items c.bring_stores.new.stores.items c.in-Ok.judged.frame
     c.in-Ok.judged.verdict c.in-Ok.judged.known c.in-Ok.ensures.judged turned
 
 pub returns-clause-stands : goal.returns-clause-stands
 returns-clause-stands g c =
     let turned : AreAllTurned g.S.Store c.in-Ok.judged.verdict.kept.items c.judge_stores.new.stores.items
-    c.brought.new.stores.items =
-    subst (λ k. AreAllTurned g.S.Store k c.judge_stores.new.stores.items c.brought.new.stores.items)
-    c.deref.ensures.value c.in-Ok-brought.ensures.brought in
-    recovered g.S.Store c.judge_stores.new.stores.items c.brought.new.stores.items c.in-Ok.judged.frame
-    c.in-Ok.judged.verdict c.in-Ok.judged.known c.in-Ok.ensures.judged turned c.args.stores.items c.opened.result
-    c.judge_stores.ensures.read c.opened.ensures.world c.opened.ensures.strays
+    c.bring_stores.new.stores.items =
+    subst (λ k. AreAllTurned g.S.Store k c.judge_stores.new.stores.items c.bring_stores.new.stores.items)
+    c.deref.ensures.value c.in-Ok-bring_stores.ensures.brought in
+    recovered g.S.Store c.judge_stores.new.stores.items c.bring_stores.new.stores.items c.in-Ok.judged.frame
+    c.in-Ok.judged.verdict c.in-Ok.judged.known c.in-Ok.ensures.judged turned c.args.stores.items c.open_world.result
+    c.judge_stores.ensures.read c.open_world.ensures.world c.open_world.ensures.strays
     g.met.S.Store.shut_if_dirty g.met.S.Store.settled c.requires.rests c.in-Ok.ensures.opens
-    (as_long _ c.in-Ok.judged.verdict.kept.items c.judge_stores.new.stores.items c.brought.new.stores.items
-    turned) c.brought.ensures.rests
+    (as_long _ c.in-Ok.judged.verdict.kept.items c.judge_stores.new.stores.items c.bring_stores.new.stores.items
+    turned) c.bring_stores.ensures.rests
 
-pub brought-requires-clause-long : goal.brought-requires-clause-long
-brought-requires-clause-long g c =
+pub bring_stores-requires-clause-long : goal.bring_stores-requires-clause-long
+bring_stores-requires-clause-long g c =
     let of_all : length c.in-Ok.judged.verdict.kept.items ≡ c.len.result = c.if-not-is_of_all.ensures refl in
     let whole : vec_len c.judge_stores.new.stores ≡ length c.judge_stores.new.stores.items =
     omega (arith, c.judge_stores.new.stores.ok.0) in

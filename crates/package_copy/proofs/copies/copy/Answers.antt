@@ -11,5 +11,5 @@ returns-clause-copied c =
     is_copy c.args.frame.now (head_of i.package i.parent i.depth i.loan i.created.now) c.args.rows.now _ _ _ made.0
     done.0 c.in_ok-package.ensures.same c.in_ok-package.ensures.keyed
 
-pub reopened-requires : goal.reopened-requires
-reopened-requires c = (c.in_ok-fill.ensures.turns.done clean).1
+pub reopen-requires : goal.reopen-requires
+reopen-requires c = (c.in_ok-fill.ensures.turns.done clean).1

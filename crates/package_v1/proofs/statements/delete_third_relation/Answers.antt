@@ -19,6 +19,6 @@ returns-clause-steps g c =
     makes_steps DropsThirdRelation
     (λ clean begun. leaves relations_listed (λ r. is_same (column r 0) (Int (pos 3))) (λ x. int_eq x.id (pos 3))
     (λ v x. same_number x.id (pos 3)) delete_text delete_plan _ refl (λ spelling. refl) old new c.execute.result _
-    c.settled.ensures
+    c.drop_count.ensures
     (rw (c.params-to_sql.ensures) at (c.execute.ensures.runs clean begun)))
     c.execute.ensures.survives

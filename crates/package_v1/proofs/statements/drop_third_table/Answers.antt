@@ -12,6 +12,6 @@ pub returns-clause-steps : goal.returns-clause-steps
 returns-clause-steps g c =
     let old = state g.S.Store c.args.tx.now.conn.now in
     let new = state g.S.Store c.execute.new.self.conn.now in
-    settled_steps _ c.settled.ensures
+    settled_steps _ c.drop_count.ensures
     (write_steps DropsThird old new c.execute.result (λ clean begun. writes_inside DropsThird drop_text [] old new
     (third_dropped old new) c.execute.result (c.execute.ensures.runs clean begun)) c.execute.ensures.survives)

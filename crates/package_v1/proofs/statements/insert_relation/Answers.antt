@@ -24,7 +24,7 @@ returns-clause-steps g c =
       relation_name = a.name.now;
       mapping_table_name = a.mapping.now;
     } in
-    settled_steps _ c.settled.ensures
+    settled_steps _ c.drop_count.ensures
     (write_steps (AddsRelation row) old new c.execute.result
     (λ clean begun. writes_inside (AddsRelation row) insert_text (params_of row) old new (relation_added row old new)
     c.execute.result

@@ -13,7 +13,7 @@ returns-clause-steps g c =
     let old = state g.S.Store c.args.tx.now.conn.now in
     let new = state g.S.Store c.execute.new.self.conn.now in
     let version = c.args.version in
-    settled_steps _ c.settled.ensures
+    settled_steps _ c.drop_count.ensures
     (write_steps (SetsVersion version) old new c.execute.result
     (λ clean begun. writes_inside (SetsVersion version) (codes "UPDATE sheet_package SET version = ?1")
     (Int version ∷ []) old new (version_set version old new) c.execute.result

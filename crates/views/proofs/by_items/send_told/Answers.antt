@@ -53,7 +53,7 @@ returns-in_err-send-clause-err g c =
     let item = c.in_ok-item.item in
     let counts = c.loop-moved.counts in
     let number : c.of_kind.result ≡ next_number counts item.content =
-    c.of_kind.ensures ∙ ap (λ k. count_of k item.content) c.counted-counts.ensures in
+    c.of_kind.ensures ∙ ap (λ k. count_of k item.content) c.count_content-counts.ensures in
     let made : c.as_bytes.result.now ≡ item_rows f c.of_kind.result item =
     c.as_bytes.ensures.value ∙ c.in_ok-rows.ensures in
     on_err {P = OfTold g.S.Store c.args.package c.args.told.now c.args.world.now c.item_in.new.world
@@ -75,7 +75,7 @@ loop-moved-preserved g c =
     let item = c.in_ok-item.item in
     let counts = c.loop-moved.counts in
     let inv = c.loop-moved.invariant in
-    let made_of = c.counted-counts.ensures in
+    let made_of = c.count_content-counts.ensures in
     let within = counted_within counts item.content i inv.tiles inv.media inv.rows in
     let number : c.of_kind.result ≡ next_number counts item.content =
     c.of_kind.ensures ∙ ap (λ k. count_of k item.content) made_of in

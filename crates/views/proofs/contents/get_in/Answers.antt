@@ -18,5 +18,5 @@ returns-in-Err g c = record {
   found = Err c.in-Err.fault;
   told = λ clean. tt;
   read = c.in-Err.ensures.read;
-  shown = (c.stopped.ensures, refl);
+  shown = (c.fault_ending.ensures, refl);
 }

@@ -11,4 +11,4 @@ returns-in-Ok g c = inr (
 )
 
 pub returns-in-Err : goal.returns-in-Err
-returns-in-Err g c = inl (c.in-Err.fault, c.unopened.ensures, refl)
+returns-in-Err g c = inl (c.in-Err.fault, c.look_ending.ensures, refl)

@@ -21,7 +21,7 @@ returns-in_err-send-clause-err g c =
     let item = c.item-item.result in
     let counts = c.loop-item.counts in
     let number : c.of_kind.result ≡ next_number counts item.content =
-    c.of_kind.ensures ∙ ap (λ k. count_of k item.content) c.counted-counts.ensures in
+    c.of_kind.ensures ∙ ap (λ k. count_of k item.content) c.count_content-counts.ensures in
     let made : c.as_bytes.result.now ≡ item_rows f c.of_kind.result item =
     c.as_bytes.ensures.value ∙ c.in_ok-rows.ensures in
     on_err _ (began_within _ _ _ _ _ _ _ _ (items_left f items (i + 1)) (made ∙ ap (λ n. item_rows f n item) number)
@@ -37,7 +37,7 @@ loop-item-preserved g c =
     let item = c.item-item.result in
     let counts = c.loop-item.counts in
     let so_far = c.loop-item.invariant in
-    let here = c.counted-counts.ensures in
+    let here = c.count_content-counts.ensures in
     let within = counted_within counts item.content i so_far.tiles so_far.media so_far.rows in
     let number : c.of_kind.result ≡ next_number counts item.content =
     c.of_kind.ensures ∙ ap (λ k. count_of k item.content) here in

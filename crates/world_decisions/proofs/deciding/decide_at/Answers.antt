@@ -12,8 +12,8 @@ returns-in-Some-clause-asks g c =
     c.in-Some.why placed (sym (told knows (record { frame = placed.asked.frame; place = placed.place }))))
     c.refused_before.ensures
 
-pub prepared-requires-clause-within : goal.prepared-requires-clause-within
-prepared-requires-clause-within g c = subst (λ n. c.args.at < n)
+pub decide_by_receipt-requires-clause-within : goal.decide_by_receipt-requires-clause-within
+decide_by_receipt-requires-clause-within g c = subst (λ n. c.args.at < n)
     (stay_length g.S.Store _ _ c.refused_before.ensures.stay) c.requires.within
 
 pub returns-clause-asks : goal.returns-clause-asks
@@ -22,4 +22,4 @@ returns-clause-asks g c =
     (of_own_frame c.args.frame.now c.args.count c.args.at c.args.request.now w placed)
     (sym (told.0 knows (record { frame = placed.asked.frame; place = placed.place }))))
     (asks_then g.S.Store {x = None} _ (c.in_ok-why.was ∙ ap Ok c.in_default.is) c.refused_before.ensures
-    c.prepared.ensures.asks)
+    c.decide_by_receipt.ensures.asks)

@@ -15,6 +15,6 @@ returns-clause-decides g c = λ w are is nothing items_are links_are.
     c.in_ok-selection.selection) items_are
     (subst (λ (ls : List Relation). IsSelectionOf (record { items = c.args.items.now; links = ls })
     c.in_ok-selection.selection) links_are c.in_ok-selection.ensures) in
-    c.weighed.ensures.decides w c.args.request.now are is nothing
+    c.decide_by_sums.ensures.decides w c.args.request.now are is nothing
     (receipt_made c.args.count c.args.from c.args.at c.args.request.now w is c.args.items.now c.deref.result.now _
     c.in_ok-receipt.receipt items_are (c.deref.ensures.value ∙ links_are) refl c.in_ok-receipt.ensures) selected

@@ -42,14 +42,14 @@ returns-in-Err-clause-asks g c =
     (asks_then g.S.Store {x = None} _ (c.in_ok-why.was ∙ ap Ok c.in_default.is) c.refused_before_cut.ensures.asks
     c.cut_at.ensures)
 
-pub prepared-requires-clause-within : goal.prepared-requires-clause-within
-prepared-requires-clause-within g c =
+pub decide_selected-requires-clause-within : goal.decide_selected-requires-clause-within
+decide_selected-requires-clause-within g c =
     subst (λ at. at < length c.cut_at.new.members.items) (sym c.lender_at-lender.ensures.at)
     (subst (λ n. c.args.at < n) (stay_length g.S.Store _ _ c.refused_before_cut.ensures.asks.stay
     ∙ stay_length g.S.Store _ _ c.cut_at.ensures.stay) c.requires.within)
 
-pub prepared-requires-clause-shallow : goal.prepared-requires-clause-shallow
-prepared-requires-clause-shallow g c = c.in_ok-why.ensures.shallow c.in_default.is
+pub decide_selected-requires-clause-shallow : goal.decide_selected-requires-clause-shallow
+decide_selected-requires-clause-shallow g c = c.in_ok-why.ensures.shallow c.in_default.is
 
 pub returns-in-Ok-clause-asks : goal.returns-in-Ok-clause-asks
 returns-in-Ok-clause-asks g c =
@@ -74,4 +74,4 @@ returns-in-Ok-clause-asks g c =
     }))
     (asks_then g.S.Store {x = None} _ (c.in_ok-why.was ∙ ap Ok c.in_default.is) c.refused_before_cut.ensures.asks
     (asks_then g.S.Store {x = Ok c.in-Ok.selection} _ (c.in_ok-why-2.was ∙ ap Ok c.in-Ok.is) c.cut_at.ensures
-    c.prepared.ensures.asks))
+    c.decide_selected.ensures.asks))

@@ -11,9 +11,9 @@ returns g c =
       looked = record {
         was = c.index_mut-member.result.now;
         place = place;
-        last = c.kept.new.conn;
+        last = c.find_receipt.new.conn;
         others =
             refl;
-        turned = c.kept.ensures;
+        turned = c.find_receipt.ensures;
       };
     }

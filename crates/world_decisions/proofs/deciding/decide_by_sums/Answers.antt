@@ -1,0 +1,33 @@
+-- The members tell whether it leaves too many, as the sums after it are counted or not.
+use Rattle.std.proofs.Common.{◌≡◌, ◌∙◌, refl, sym, ap, Some, slice_get}
+use Rattle.std.proofs.lemmas.Option.{slice_get_read}
+use Rattle.world_members.specs.Steps.{sums_moved}
+use Rattle.world_members.specs.declared.members.Member.{Member}
+use Rattle.world_decisions.proofs.Decided.{limited_over, limited_due, one_more_within}
+use Rattle.world_decisions.proofs.deciding.decide_by_sums.Goals as goal
+
+pub returns-in-None-clause-decides : goal.returns-in-None-clause-decides
+returns-in-None-clause-decides g c = λ w are placed before made.
+    let place : slice_get c.args.members.now c.args.at ≡ Some c.index-members-at.result =
+    slice_get_read _ _ _ _ refl c.requires.within c.index-members-at.is in
+    limited_over g.S.Store c.args.members.now c.args.count c.args.at c.args.request.now w c.index-members-at.result
+    are placed place c.fits.ensures (c.has_types.ensures placed.asked.one) before _ _
+    (c.sums_moved-moved.ensures ∙ ap sums_moved made) (ap (λ (m : Member g.row.S.Denot). m.sums)
+    (sym c.index-members-at.is)) c.in-None.ensures
+
+pub returns-in-Some-clause-decides : goal.returns-in-Some-clause-decides
+returns-in-Some-clause-decides g c = λ w are placed before made.
+    let place : slice_get c.args.members.now c.args.at ≡ Some c.index-members-at.result =
+    slice_get_read _ _ _ _ refl c.requires.within c.index-members-at.is in
+    limited_due g.S.Store c.args.members.now c.args.count c.args.at c.args.request.now w c.index-members-at.result are
+    placed place c.fits.ensures (c.has_types.ensures placed.asked.one) before _ _ c.in-Some.sums c.args.receipt
+    (c.sums_moved-moved.ensures ∙ ap sums_moved made) (ap (λ (m : Member g.row.S.Denot). m.sums)
+    (sym c.index-members-at.is)) c.in-Some.ensures.1 c.in-Some.ensures.0.1 made
+
+pub returns-in-Some-clause-place : goal.returns-in-Some-clause-place
+returns-in-Some-clause-place g c = (
+  c.requires.within,
+  c.requires.number,
+  one_more_within c.args.members.now c.args.at
+      _ c.args.count c.in-Some.ensures.0.1,
+)
