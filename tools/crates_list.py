@@ -21,6 +21,7 @@ FLOORS = [
     ("request, desk: bytes to requests, answers to bytes", ["request_", "manifest_csv", "desk_"]),
     ("field: a file that another program edited", ["field_"]),
     ("command, view: subcommands that change, and that look", ["command_", "commands", "view_", "views", "cli"]),
+    ("program: words come in, lines and a status go out; beside a desk, by one, and at one", ["program_"]),
     ("promises: what the whole keeps, as closed statements", ["promises"]),
     ("test: nothing but tests", ["test_"]),
     ("the program", ["sheetdesk"]),

@@ -18,7 +18,7 @@ ROOT = os.path.dirname(os.path.dirname(os.path.abspath(__file__)))
 TEST_VALUES = ["test_values", "test_worlds"]
 # The crates that a line of a session goes through (crates/sheetdesk), from the words of the program on.
 OF_SESSIONS = [
-    "sheetdesk", "command_words", "command_verbs", "command_requests", "command_replies", "commands", "command_folder", "manifest_csv", "views", "view_world", "view_text", "view_map", "cli",
+    "sheetdesk", "program_verbs", "program_looks", "program_serving", "program_orders", "program_words", "program_output", "command_words", "command_verbs", "command_requests", "command_replies", "commands", "command_folder", "manifest_csv", "views", "view_world", "view_text", "view_map", "cli",
     "view_page", "view_report", "view_loan", "view_fault", "view_names", "world", "world_decisions", "world_loans", "world_changes", "world_queries", "register_lending",
 ]
 CONST = re.compile(r"^(?:pub(?:\(crate\))? )?const (?P<name>\w+): .*?;$", re.M | re.S)

@@ -3,7 +3,7 @@ ghost use Rattle.desk_http.specs.Connections.{IsServedBy};
 ghost use Rattle.command_desk.specs.Deeds.{IsDone, IsLooked, IsNamedLooked, IsPackageLooked};
 
 use crate::carrying::{Report, carry_in};
-use crate::turning::tell_frame;
+use crate::frame_texts::tell_frame;
 use command_folder::endings::Ending as CommandEnding;
 use command_named::items::tell_item;
 use command_named::looking::NamedLook;

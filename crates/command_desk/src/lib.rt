@@ -5,7 +5,7 @@
 pub mod carrying;
 pub mod changing;
 pub mod deeds;
+mod frame_texts;
 pub mod frames;
 pub mod pages;
-pub mod turning;
 pub mod words;

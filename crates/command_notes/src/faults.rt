@@ -43,10 +43,19 @@ pub fn list_note(
     Ok(Some(note))
 }
 
+/// Whether a file can be read twice: of a pipe no byte comes again.
+pub fn is_read_twice(rt: &HostRuntime, path: &str) -> bool {
+    match fs::metadata(rt, path) {
+        Ok(found) => found.is_file(),
+        Err(_) => false,
+    }
+}
+
 /// The bytes of a file that can be read again: of a pipe there are none.
 pub fn bytes_again(rt: &HostRuntime, path: &str) -> Option<Vec<u8>> {
-    match fs::metadata(rt, path) {
-        Ok(found) if found.is_file() => fs::read(rt, path).ok(),
-        Ok(_) | Err(_) => None,
+    if is_read_twice(rt, path) {
+        fs::read(rt, path).ok()
+    } else {
+        None
     }
 }

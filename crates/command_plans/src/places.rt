@@ -6,6 +6,7 @@ ghost use Rattle.command_plans.specs.Places.{IsPlaceOf, has_row, is_tile, is_til
 
 use command_verbs::areas::Place;
 use matrix_rules::axis::axes_at;
+use matrix_rules::check::FrameRules;
 use matrix_rules::ground::has_place;
 use sheet_types::command::{Content, Item};
 use sheet_types::frame::Frame;
@@ -48,6 +49,18 @@ pub fn place_of(frame: &Frame, file: &Place, is_upward: bool) -> Option<Place>
         column: file.column,
         row,
     })
+}
+
+/// The place of the tile of a file whose rows run upwards; `None` where the frame has no such row, or is none of a
+/// register.
+pub fn upward_place(frame: &Frame, file: &Place) -> Option<Place>
+    ensures some { IfSome result (IsPlaceOf frame.now true file.now) }
+    ensures none { IfNone result (IsTrue (is_good_frame frame.now) → has_row frame.now file.now ≡ false) }
+{
+    match frame.check() {
+        Ok(()) => place_of(frame, file, true),
+        Err(_) => None,
+    }
 }
 
 /// Whether a content is a tile of these bytes at a place.

@@ -60,8 +60,8 @@ area_members r =
 
 abbrev pub loan_members : List ℕ → Mode → Rect → List ℕ
 loan_members child mode rect =
-    codes "\"other\":\"" ++ (uuid_text child ++ (codes "\",\"kind\":\"" ++ (mode_word mode ++ (codes "\","
-    ++ area_members rect))))
+    codes "\"other\":\"" ++ (uuid_text child ++ (codes "\",\"kind\":\""
+    ++ (mode_word mode ++ (codes "\"," ++ area_members rect))))
 
 -- of a command, but for its word and the package that it names first
 abbrev pub command_members : Command → List ℕ

@@ -4,6 +4,7 @@ ghost use Rattle.commands.specs.Subcommands.{EndsImport, EndsTwice, ImportsFile,
 ghost use Rattle.commands.specs.Subcommands.{twice_ending};
 
 use command_folder::endings::{DONE, Ending, FAILED, NO_MEMORY};
+use command_notes::faults::is_read_twice;
 use command_words::statuses::{Failure, Outcome};
 use manifest_csv::importing::{ImportFault, import as import_list};
 use manifest_csv::progress::Teller;
@@ -12,7 +13,7 @@ use request_csv::sources::Stream;
 use request_imports::twice::{TwiceFault, import_twice};
 use sqlite::Alter;
 use std::alloc::Global;
-use std::fs::{self, File};
+use std::fs::File;
 use std::io::{ErrorKind, Read, Write};
 use store_shelf::shelf::Shelf;
 use world::world::World;
@@ -115,14 +116,6 @@ fn import_twice_in<S: Alter + Drop, H: Shelf<S>, R: Read + Drop, W: Write, T: Te
             tell_changed(rt, fault);
             end_of_twice(fault)
         }
-    }
-}
-
-/// Whether a file can be read twice: of a pipe no byte comes again.
-fn is_read_twice(rt: &HostRuntime, file: &str) -> bool {
-    match fs::metadata(rt, file) {
-        Ok(found) => found.is_file(),
-        Err(_) => false,
     }
 }
 

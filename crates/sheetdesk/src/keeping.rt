@@ -1,17 +1,19 @@
 //! The folder that a session keeps open from line to line: a line over it is answered as a desk answers it, in this
 //! process.
-use crate::asking::{finish, input_for, output_for};
-use crate::desk_files::{desk_said, is_held};
-use crate::desks::words_before;
-use crate::ordering::is_verb;
-use crate::running::{carried_out, out_of_memory, output_failed, text_of};
-use crate::serving::{FolderClerk, is_served};
-use crate::streams::{Input, Output};
+use crate::running::carry_out;
 use clap::ArgMatches;
 use command_folder::folders::{OpenFolder, open_folder};
 use desk_asking::answers::{Answer, AnswerFault, copy_answer};
 use desk_asking::asking::body_of;
 use desk_http::clerks::Clerk;
+use program_asking::asking::{finish, input_for, output_for};
+use program_asking::desks::words_before;
+use program_output::desk_files::{desk_file_text, is_held};
+use program_output::options::text_of;
+use program_output::printing::{out_of_memory, output_failed};
+use program_output::streams::{Input, Output};
+use program_serving::serving::FolderClerk;
+use program_words::kinds::{is_served, is_verb};
 use std::alloc::AllocError;
 use std::convert::AsStr;
 use store_folder::opening::close_stores;
@@ -41,7 +43,7 @@ fn is_kept(name: &str, given: &ArgMatches<'_>) -> bool {
 
 /// Whether a desk of another process serves a folder. What a desk left that was killed is removed.
 fn is_desk_there(rt: &HostRuntime, folder: &str) -> bool {
-    desk_said(rt, folder).is_some() && is_held(rt, folder)
+    desk_file_text(rt, folder).is_some() && is_held(rt, folder)
 }
 
 /// A folder, opened; none where it does not open.
@@ -241,6 +243,6 @@ impl<'r> Keeper<'r> {
             }
         }
         self.close();
-        carried_out(self.rt, words, name, given, reader)
+        carry_out(self.rt, words, name, given, reader)
     }
 }

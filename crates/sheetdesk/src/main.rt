@@ -1,44 +1,14 @@
 //! The program `sheetdesk`: the words that it is called with, and the exit status.
 #![tactic(auto)]
 
-mod asking;
-mod boxes;
-mod bringing;
-mod called;
-mod clerk_input;
-mod clerk_pages;
-mod clerk_telling;
-mod clerk_words;
-mod clock;
-mod desk_drops;
-mod desk_files;
-mod desk_inputs;
-mod desk_lines;
-mod desk_lists;
-mod desk_trees;
-mod desks;
-mod dropping;
-mod field;
-mod founding;
 mod keeping;
-mod naming;
-mod notes;
-mod ordering;
-mod outputs;
-mod reporting;
-mod row_texts;
 mod running;
-mod serving;
 mod sessions;
-mod settling;
-mod showing;
-mod streams;
-mod tile_names;
-mod trees;
+mod working;
 
-use crate::running::out_of_memory;
 use crate::sessions::run;
-use crate::streams::Input;
+use program_output::printing::out_of_memory;
+use program_output::streams::Input;
 use std::io;
 use std::process::ExitCode;
 
@@ -49,7 +19,7 @@ fn words_given(rt: &HostRuntime) -> io::Result<Vec<String>> {
 
 /// The status where the words themselves could not be had: for want of memory, or since one is no
 /// UTF-8 and so is no word of any command.
-fn unread(rt: &HostRuntime, error: &io::Error) -> u8 {
+fn tell_unread(rt: &HostRuntime, error: &io::Error) -> u8 {
     if error.kind() == io::ErrorKind::OutOfMemory {
         return out_of_memory(rt);
     }
@@ -61,7 +31,7 @@ fn unread(rt: &HostRuntime, error: &io::Error) -> u8 {
 fn main(rt: HostRuntime) -> ExitCode {
     let status = match words_given(&rt) {
         Ok(words) => run(&rt, words.as_slice(), &mut Input::Standard(rt.reader())),
-        Err(error) => unread(&rt, &error),
+        Err(error) => tell_unread(&rt, &error),
     };
     ExitCode::from(status)
 }

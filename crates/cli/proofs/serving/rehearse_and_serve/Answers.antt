@@ -18,5 +18,6 @@ returns-clause-served g c = λ uuid moment frame port count asks desk.
     c.in-Ok.asked.1.count (omega arith) desk.1 c.in-Ok.ensures.desk.1 in
     same_served uuid c.in-Ok.asked.0.archive frame c.in-Ok.asked.0.frame count c.in-Ok.asked.1.count
     (g.R.Read.remaining c.args.reader) c.args.writer.now c.serve_rehearsal.new.writer
-    (g.W.Write.contents c.args.writer.now) (g.W.Write.contents c.serve_rehearsal.new.writer) c.serve_rehearsal.result same.0 same.1
+    (g.W.Write.contents c.args.writer.now) (g.W.Write.contents c.serve_rehearsal.new.writer)
+    c.serve_rehearsal.result same.0 same.1
     times c.serve_rehearsal.ensures
