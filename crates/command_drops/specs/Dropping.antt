@@ -9,8 +9,7 @@ use Rattle.command_drops.specs.declared.holding.Holding.{Holding}
 
 module _ {S : Type 0} (g : Ghosts S) where
   -- At this moment each of its links was asked to end, and then the item to be deleted, and these requests were
-  -- carried out
-  -- one after the other. The shelf had failed so often before and after.
+  -- carried out one after the other. The shelf had failed so often before and after.
   pub record IsDropped (at id : List ℕ) (h : Holding) (old new : Seen S) (dropped : Dropped) (before after : ℕ) :
       Type 0 where
     pub asked : AreRequestsFor at (drop_commands h.holder id h.links.items) dropped.requests.items

@@ -31,8 +31,8 @@ is_own_loan p head ledger live =
     option_map_or (λ parent. bytes_eq head.uuid p && is_known parent ledger live) head.parent false
 
 -- A store in the file of this package is one that the register can do without. It is a whole package, and says that
--- it is
--- this one, lent by one of the register; the package does not live; and each receipt in it stands in the ledger too.
+-- it is this one, lent by one of the register; the package does not live; and each receipt in it stands in the ledger
+-- too.
 abbrev pub is_spent : List ℕ → StoreSeen → List Receipt → List (List ℕ) → Bool
 is_spent p store ledger live =
     store.is_formed && store.is_tied && not (is_among p live)

@@ -27,8 +27,7 @@ module _ {S : Type 0} (g : Ghosts S) where
       × StandsFor g found.world w × AllOpen g found.world.members)
 
   -- Where none is opened, the fault that is told is the first that holds, or memory or a store gave out; and no store
-  -- was
-  -- changed but that one which reads as a package may have been brought to the second version.
+  -- was changed but that one which reads as a package may have been brought to the second version.
   abbrev pub RefusesWithCause : List (Held S) → Unopened S → Type 0
   RefusesWithCause stores refused = AreClean g refused.stores.items →
       IsFaultAt g stores refused.fault × AreStillOrPackages g stores refused.stores.items

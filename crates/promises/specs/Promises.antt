@@ -49,8 +49,7 @@ module _ {S : Type 0} (g : Ghosts S) {H : Type 0} (Asked : List ℕ → H → H 
 
   -- 4. A stop leaves a whole world. Where no request before told a fault, whatever a crash leaves after a request are
   -- the packages of the world that it made, if it got a receipt, or of the world before, if it was refused, or of one
-  -- of
-  -- the two, where a store failed; and each of the two is a register.
+  -- of the two, where a store failed; and each of the two is a register.
   abbrev pub StopsWhole : List ℕ → Frame → List Request → Request → H → H → Stopped S → Type 0
   StopsWhole archive frame first q before after stopped =
       WhereClean g (IsGivenFromNew Asked Taken archive (first ++ q ∷ []) before after) stopped.world (

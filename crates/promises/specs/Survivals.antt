@@ -18,8 +18,7 @@ use Rattle.promises.specs.declared.surviving.Survived.{Survived}
 
 module _ {S : Type 0} (g : Ghosts S) where
   -- Stores that are opened after a stop: each from what the crash left, and beside them whatever is a stray of the
-  -- world
-  -- before the request and of the one after it.
+  -- world before the request and of the one after it.
   pub record AreOpenedFrom (w : World) (q : Request) (contents : List Trees) (stores : List (Held S)) : Type 0 where
     pub again : List (Held S)
     pub opened : AreReopened g again contents

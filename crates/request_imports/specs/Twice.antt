@@ -24,8 +24,7 @@ as_import (Err (Changed n)) = Ok tt
 as_import (Err (Broken n fault)) = Ok tt
 
 -- a text that begins as a list of these requests, and is no list of so many: it ends with them, or goes on where they
--- are
--- so many
+-- are so many
 abbrev pub IsOther : ℕ → List Request → List ℕ → Type 0
 IsOther count requests text = ((length requests < count) × IsList text requests)
     ⊎ ((length requests ≡ count) × IsBegun text requests × ((more : Request) × IsBegun text (requests ++ more ∷ [])))
@@ -64,8 +63,7 @@ IsToldTwice text before after r = (WasUnread r × Tells before after [])
     ⊎ ((count : ℕ) × IsListOfSo count text × AreToldTwice count before after r)
 
 -- The shelf was used for the requests that were carried out, in turn, and for nothing else; by a list that was not
--- read it
--- was not used.
+-- read it was not used.
 abbrev pub UsesTwice : {S H : Type 0} → (List ℕ → H → H → Type 0) → (List ℕ → S → H → H → Type 0) → Option (List ℕ)
     → H → H
     → Result (Unit {0}) TwiceFault → Type 0
@@ -85,9 +83,8 @@ module _ {S : Type 0} (g : Ghosts S) where
       × IsImported g requests old new failed fails before after (as_import r)))
 
   -- What an import makes of a list that is the same at both readings: what one of a list that is held makes, or the
-  -- second
-  -- reading broke off, by a reader that failed or by want of memory, and so many of its first requests were carried
-  -- out.
+  -- second reading broke off, by a reader that failed or by want of memory, and so many of its first requests were
+  -- carried out.
   abbrev pub ImportsOnce : {W : Type 0} → Option (List ℕ) → Seen S → Seen S → ℕ → ℕ → W → W → Option (List ℕ)
       → Option (List ℕ)
       → Result (Unit {0}) TwiceFault → Type 0

@@ -84,8 +84,7 @@ abbrev pub ComesTo : World → List Request → World → Type 0
 ComesTo w qs next = (replies : List Reply) × Run w qs replies next
 
 -- A request that got a receipt among others, and comes again behind them, gets it again and acted once: the world is
--- that
--- of a list in which it stands once.
+-- that of a list in which it stands once.
 abbrev pub ActsOnce : Type 0
 ActsOnce = (w mid : World) (before : List Request) (q : Request) (r : Receipt) (given : World)
     (between : List Request) (replies : List Reply) (last : World) (again : Reply) (next : World) →
@@ -105,8 +104,7 @@ abbrev pub IsBeforeOrAfter : World → Request → World → Type 0
 IsBeforeOrAfter w q left = (left ≡ w) ⊎ (left ≡ (outcome w q).1)
 
 -- A request that was stopped, and comes again with others behind it, gets the reply that it would have got, and acts
--- once:
--- the world is that of a list in which it stands once.
+-- once: the world is that of a list in which it stands once.
 abbrev pub StoppedActsOnce : Type 0
 StoppedActsOnce = (w mid : World) (before : List Request) (q : Request) (left : World) (others : List Request)
     (replies : List Reply) (next : World) →

@@ -75,8 +75,7 @@ returns-clause-stands g c =
     subst (λ k. AreAllTurned g.S.Store k c.judge_stores.new.stores.items c.bring_stores.new.stores.items)
     c.deref.ensures.value c.in-Ok-bring_stores.ensures.brought in
     recovered g.S.Store c.judge_stores.new.stores.items c.bring_stores.new.stores.items c.in-Ok.judged.frame
-    c.in-Ok.judged.verdict c.in-Ok.judged.known c.in-Ok.ensures.judged turned c.args.stores.items
-    c.open_world.result
+    c.in-Ok.judged.verdict c.in-Ok.judged.known c.in-Ok.ensures.judged turned c.args.stores.items c.open_world.result
     c.judge_stores.ensures.read c.open_world.ensures.world c.open_world.ensures.strays
     g.met.S.Store.shut_if_dirty g.met.S.Store.settled c.requires.rests c.in-Ok.ensures.opens
     (as_long _ c.in-Ok.judged.verdict.kept.items c.judge_stores.new.stores.items c.bring_stores.new.stores.items
