@@ -237,13 +237,14 @@ alter $survey 'DROP TABLE rows_tiles'
 is_found NotAPackage "package $survey lacks a table of its form, or has a value out of its range"
 damaged
 cp "$work/copy/$survey.gpkg" "$work/copy/c0000000-0000-4000-8000-000000000000.gpkg"
-is_found TwoCopies "package $survey is there twice"
+split=$(sqlite3 "$work/copy/$archive.gpkg" "SELECT max(seq) FROM sheet_receipts WHERE target = '$survey' AND line LIKE 'split %'")
+is_found TwoCopies "package $survey of open split $split is there twice"
 damaged
 rm "$work/copy/$survey.gpkg"*
-is_found MissingPackage "package $survey is named by an open split and has no file"
+is_found MissingPackage "package $survey is named by open split $split and has no file"
 damaged
 alter $survey 'UPDATE sheet_package SET depth = 2'
-is_found ForeignFrame "package $survey has not the archive's frame, or is not one level below its lender"
+is_found ForeignFrame "package $survey of open split $split has not the archive's frame, or is not one level below its lender"
 damaged
 alter $archive 'DELETE FROM sheet_identity WHERE kind = 3 AND local_id = (SELECT min(local_id) FROM sheet_identity WHERE kind = 3)'
 is_found Dangling "package $archive has a row without identity, an identity without row, or a link without row"
@@ -256,7 +257,8 @@ is_found OutOfAccount 'the receipts do not add up to what the packages hold'
 damaged
 alter $survey 'UPDATE sheet_tiles SET tile_data = zeroblob(length(tile_data))'
 least=$(sqlite3 "$work/copy/$survey.gpkg" 'SELECT min(uuid) FROM sheet_identity WHERE kind = 1')
-is_found Altered "item $least has not the content that its receipt names"
+added=$(for one in "$archive" "$survey"; do sqlite3 "$work/copy/$one.gpkg" "SELECT seq FROM sheet_receipts WHERE line LIKE 'add % $least %'"; done)
+is_found Altered "item $least has not the content that its receipt $added names"
 damaged
 printf 'no database' >"$work/copy/$survey.gpkg"
 is_found StoreFault "$survey.gpkg cannot be opened, is no database, or too many files are open"

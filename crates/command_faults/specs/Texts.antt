@@ -42,6 +42,21 @@ fault_text (Altered uuid) =
 fault_text OutOfMemory = []
 fault_text StoreFault = []
 
+-- the same, where the receipt of this number names the package or the item
+abbrev pub of_split : List ℕ → ℕ → List ℕ → List ℕ
+of_split uuid n text = of_package uuid (codes " of open split " ++ (decimal n ++ text))
+
+abbrev pub fault_text_at : RecoverFault → ℕ → List ℕ
+fault_text_at (TwoCopies uuid) n = of_split uuid n (codes " is there twice")
+fault_text_at (MissingPackage uuid) n =
+    of_package uuid (codes " is named by open split " ++ (decimal n ++ codes " and has no file"))
+fault_text_at (ForeignFrame uuid) n =
+    of_split uuid n (codes " has not the archive's frame, or is not one level below its lender")
+fault_text_at (Altered uuid) n =
+    codes "item " ++ (uuid_text uuid ++ (codes " has not the content that its receipt "
+    ++ (decimal n ++ codes " names")))
+fault_text_at fault n = fault_text fault
+
 -- ---- lists
 
 abbrev pub list_text : ReadFault → List ℕ

@@ -1,7 +1,7 @@
 //! The texts, each without the end of a line.
 ghost use Rattle.std.specs.Prelude.{◌≡◌, IfOk, string_bytes};
-ghost use Rattle.command_faults.specs.Texts.{carried, cause_text, fault_text, list_text, more_text, record_text};
-ghost use Rattle.command_faults.specs.Texts.{refusal_text, want_text};
+ghost use Rattle.command_faults.specs.Texts.{carried, cause_text, fault_text, fault_text_at, list_text, more_text};
+ghost use Rattle.command_faults.specs.Texts.{record_text, refusal_text, want_text};
 
 use opening_faults::faults::RecoverFault;
 use request_csv::causes::{ListFault, RecordFault};
@@ -53,6 +53,35 @@ pub fn fault_text(alloc: Global, fault: RecoverFault) -> Result<String, AllocErr
             format!(in alloc; "item {id} has not the content that its receipt names")
         }
         RecoverFault::OutOfMemory | RecoverFault::StoreFault => Ok(String::new(alloc)),
+    }
+}
+
+/// The same where the receipt of this number names the package or the item: the open split that
+/// lent the package, or the addition of the item. Of a fault that no receipt names it is the text
+/// without the number.
+///
+/// # Errors
+///
+/// Want of memory.
+pub fn fault_text_at(alloc: Global, fault: RecoverFault, number: u64) -> Result<String, AllocError>
+    ensures { IfOk result (λ text. string_bytes text ≡ fault_text_at fault number) }
+{
+    match fault {
+        RecoverFault::TwoCopies(id) => {
+            format!(in alloc; "package {id} of open split {number} is there twice")
+        }
+        RecoverFault::MissingPackage(id) => {
+            format!(in alloc; "package {id} is named by open split {number} and has no file")
+        }
+        RecoverFault::ForeignFrame(id) => {
+            format!(in alloc;
+                "package {id} of open split {number} has not the archive's frame, or is not one level below its lender"
+            )
+        }
+        RecoverFault::Altered(id) => {
+            format!(in alloc; "item {id} has not the content that its receipt {number} names")
+        }
+        _ => fault_text(alloc, fault),
     }
 }
 

@@ -7,7 +7,7 @@ use Rattle.command_words.specs.declared.statuses.Failure.TheVariants as failure
 use Rattle.command_words.specs.declared.statuses.Outcome.TheVariants.{Done, Stopped}
 use Rattle.manifest_csv.specs.declared.package_manifests.ManifestFault.{ManifestFault}
 use Rattle.manifest_csv.specs.declared.package_manifests.ManifestFault.TheVariants as manifest
-use Rattle.command_faults.specs.Texts.{fault_text, list_text, record_text, refusal_text}
+use Rattle.command_faults.specs.Texts.{fault_text, fault_text_at, list_text, record_text, refusal_text}
 use Rattle.store_folder.specs.Faults.{cause_text}
 use Rattle.store_folder.specs.declared.fault.FolderFault.{FolderFault}
 use Rattle.store_folder.specs.declared.fault.FolderFault.TheVariants as folder
@@ -17,7 +17,7 @@ use Rattle.opening_faults.specs.declared.faults.RecoverFault.TheVariants.{TwoCop
 use Rattle.opening_faults.specs.declared.faults.RecoverFault.TheVariants.{Dangling, OutOfAccount, Altered}
 use Rattle.opening_faults.specs.declared.faults.RecoverFault.TheVariants.{OutOfMemory, StoreFault}
 use Rattle.command_folder.specs.declared.endings.OpenFault.{OpenFault}
-use Rattle.command_folder.specs.declared.endings.OpenFault.TheVariants.{Folder, Fault}
+use Rattle.command_folder.specs.declared.endings.OpenFault.TheVariants.{Folder, Fault, Numbered}
 use Rattle.command_folder.specs.declared.endings.Ending.{Ending}
 use Rattle.command_folder.specs.declared.endings.Ending.TheVariants.{Usual, BadBody, HoldsPackages, NoSuchPackage}
 use Rattle.command_folder.specs.declared.endings.Ending.TheVariants.{Declined, RecordDeclined, NoRequest, Unlisted}
@@ -73,6 +73,7 @@ told_folder fault = StoreFault
 abbrev pub told_as : OpenFault → RecoverFault
 told_as (Folder fault) = told_folder fault
 told_as (Fault fault) = fault
+told_as (Numbered fault number) = fault
 
 -- the name of a fault alone, and behind a word
 abbrev pub fault_line : RecoverFault → List ℕ
@@ -111,6 +112,7 @@ error_text (Faulted fault) = []
 abbrev pub open_note : OpenFault → List ℕ
 open_note (Folder fault) = cause_text fault
 open_note (Fault fault) = fault_text fault
+open_note (Numbered fault number) = fault_text_at fault number
 
 -- and of an ending, on standard error, behind the line there
 abbrev pub note_text : Ending → List ℕ

@@ -3,15 +3,14 @@ use Rattle.std.specs.Prelude.{◌≡◌, ◌⊎◌, ◌+◌, ℕ, List, length}
 use Rattle.sqlite.specs.Held.{Held}
 use Rattle.sqlite.specs.Store.{Ghosts}
 use Rattle.world.specs.Worlds.{Seen}
-use Rattle.opening_faults.specs.declared.faults.RecoverFault.{RecoverFault}
 use Rattle.opening.specs.Recovered.{IsRecovered, IsUnopened}
 use Rattle.opening.specs.declared.recovering.Recovered.{Recovered}
 use Rattle.opening.specs.declared.recovering.Unopened.{Unopened}
 use Rattle.command_folder.specs.Choosing.{AreJustOpened, IsChosen, IsGlanced}
+use Rattle.command_folder.specs.Numbering.{Tells}
 use Rattle.command_folder.specs.declared.choosing.Chosen.{Chosen}
 use Rattle.command_folder.specs.declared.endings.Ending.{Ending}
 use Rattle.command_folder.specs.declared.endings.OpenFault.{OpenFault}
-use Rattle.command_folder.specs.declared.endings.OpenFault.TheVariants.{Fault}
 
 module _ {S : Type 0} (g : Ghosts S) where
   -- This is the world that stores came to, each just opened, and so many of them are not of it.
@@ -21,11 +20,11 @@ module _ {S : Type 0} (g : Ghosts S) where
     pub same : found.world ≡ seen
     pub beside : length found.strays.items ≡ strays
 
-  -- This is the fault by which stores came to no world.
-  pub record IsFaultOfStores (stores : List (Held S)) (fault : RecoverFault) : Type 0 where
+  -- So a fault is told by which stores came to no world. A number is that of a receipt of the stores as they came back.
+  pub record IsFaultOfStores (stores : List (Held S)) (told : OpenFault) : Type 0 where
     pub refused : Unopened S
     pub is : IsUnopened g stores refused
-    pub same : refused.fault ≡ fault
+    pub tells : Tells g refused.stores.items refused.fault told
 
   -- the world of some stores that were just opened, one of each of these packages
   abbrev pub IsWorldAt : List (List ℕ) → ℕ → Seen S → Type 0

@@ -1,4 +1,5 @@
 pub mod Endings
 pub mod Choosing
+pub mod Numbering
 pub mod Folders
 pub mod Printing

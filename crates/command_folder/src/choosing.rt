@@ -41,7 +41,7 @@ pub(crate) trait Glances {
 }
 
 /// What a store says of itself; `None` where it fails.
-fn look_into<S: Alter>(
+pub(crate) fn look_into<S: Alter>(
     alloc: Global,
     conn: &mut Connection<S>,
 ) -> Result<Option<Sight>, FolderFault>
@@ -92,7 +92,7 @@ impl<'f> Glances for FolderGlances<'f> {
 }
 
 /// Puts one more behind a list.
-fn push(sights: &mut Vec<Sight>, sight: Sight) -> Result<(), FolderFault>
+pub(crate) fn push(sights: &mut Vec<Sight>, sight: Sight) -> Result<(), FolderFault>
     ensures { OnOk result (sights.new.items ≡ sights.old.items ++ sight ∷ []) }
 {
     match sights.push(sight) {

@@ -3,7 +3,7 @@ ghost use Rattle.std.specs.Prelude.{◌≡◌, IfOk, string_bytes};
 ghost use Rattle.command_folder.specs.Endings.{ending_status, error_text, fault_line, note_text, open_note};
 ghost use Rattle.command_folder.specs.Endings.{output_text, store_line, told_as, told_folder};
 
-use command_faults::texts::{fault_text, list_text, record_text, refusal_text};
+use command_faults::texts::{fault_text, fault_text_at, list_text, record_text, refusal_text};
 use command_words::statuses::{
     Failure, Outcome, error_of as outcome_error, output_of as outcome_output,
     status_of as outcome_status,
@@ -21,6 +21,8 @@ pub enum OpenFault {
     Folder(FolderFault),
     /// The stores stand for no world, or memory or a file gave out.
     Fault(RecoverFault),
+    /// The stores stand for no world, and the receipt of this number names the package or the item that is at fault.
+    Numbered(RecoverFault, u64),
 }
 
 impl From<FolderFault> for OpenFault {
@@ -100,7 +102,7 @@ fn told_fault(fault: OpenFault) -> RecoverFault
 {
     match fault {
         OpenFault::Folder(fault) => told_folder(fault),
-        OpenFault::Fault(fault) => fault,
+        OpenFault::Fault(fault) | OpenFault::Numbered(fault, _) => fault,
     }
 }
 
@@ -185,6 +187,7 @@ fn open_note(alloc: Global, fault: OpenFault) -> Result<String, AllocError>
     match fault {
         OpenFault::Folder(fault) => cause_text(alloc, fault),
         OpenFault::Fault(fault) => fault_text(alloc, fault),
+        OpenFault::Numbered(fault, number) => fault_text_at(alloc, fault, number),
     }
 }
 

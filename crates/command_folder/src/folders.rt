@@ -1,10 +1,11 @@
 //! A folder of packages, opened as the world that its stores stand for.
-ghost use Rattle.std.specs.Prelude.{IfOk};
+ghost use Rattle.std.specs.Prelude.{IfErr, IfOk};
 ghost use Rattle.command_folder.specs.Choosing.{AreJustOpened};
-ghost use Rattle.command_folder.specs.Folders.{IsFolderBeside, IsWorldAt, IsWorldOf};
+ghost use Rattle.command_folder.specs.Folders.{IsFaultOfStores, IsFolderBeside, IsWorldAt, IsWorldOf};
 
 use crate::choosing::{FolderGlances, choose};
 use crate::endings::OpenFault;
+use crate::numbering::with_number;
 use crate::watching::opening_line;
 use opening::recovering::{Recovered, Unopened, recover};
 use opening_stores::watching::Watcher;
@@ -20,21 +21,27 @@ use uuid::Uuid;
 use world::world::World;
 
 /// The world that these stores stand for, each just opened, and how many are not of it; or why there
-/// is none. The stores that are not of it are handed back. The watcher is told how many are read.
+/// is none. A fault that a receipt names is told with its number, where the stores can be looked at
+/// again. The stores that are not of the world are handed back. The watcher is told how many are
+/// read.
 fn world_of<S: Alter + Drop, W: Watcher>(
     alloc: Global,
     stores: Vec<Connection<S>>,
     watcher: &mut W,
 ) -> (Result<(World<S>, usize), OpenFault>, Vec<Connection<S>>)
     requires { AreJustOpened S.Store stores.items }
-    ensures { IfOk result.0 (λ found. IsWorldOf S.Store stores.items found.1 found.0) }
+    ensures world { IfOk result.0 (λ found. IsWorldOf S.Store stores.items found.1 found.0) }
+    ensures fault { IfErr result.0 (IsFaultOfStores S.Store stores.items) }
 {
     match recover(alloc, stores, watcher) {
         Ok(Recovered { world, strays }) => {
             let count = strays.len();
             (Ok((world, count)), strays)
         }
-        Err(Unopened { fault, stores }) => (Err(OpenFault::Fault(fault)), stores),
+        Err(Unopened { fault, stores }) => {
+            let (told, stores) = with_number(alloc, fault, stores);
+            (Err(told), stores)
+        }
     }
 }
 

@@ -4,4 +4,5 @@
 mod choosing;
 pub mod endings;
 pub mod folders;
+mod numbering;
 pub mod watching;

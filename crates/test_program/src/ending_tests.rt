@@ -54,6 +54,43 @@ fn of(fault: RecoverFault) -> Ending {
     Ending::Unopened(OpenFault::Fault(fault))
 }
 
+fn at(fault: RecoverFault, number: u64) -> OpenFault {
+    OpenFault::Numbered(fault, number)
+}
+
+// The same faults where a receipt names what they are of, and one that no receipt names.
+#[test]
+fn a_fault_is_told_with_its_number(rt: HostRuntime) {
+    let seven = Uuid::from_u128(7);
+    let cases = [
+        (
+            End::Command(Ending::Unopened(at(RecoverFault::MissingPackage(seven), 8))),
+            "3 |store: MissingPackage\n|package 00000000-0000-0000-0000-000000000007 is named by open split 8 and has no file",
+        ),
+        (
+            End::Command(Ending::Faulted(at(RecoverFault::MissingPackage(seven), 8))),
+            "3 MissingPackage\n||package 00000000-0000-0000-0000-000000000007 is named by open split 8 and has no file",
+        ),
+        (
+            End::Command(Ending::Unopened(at(RecoverFault::TwoCopies(seven), 1000000000))),
+            "3 |store: TwoCopies\n|package 00000000-0000-0000-0000-000000000007 of open split 1000000000 is there twice",
+        ),
+        (
+            End::Command(Ending::Unopened(at(RecoverFault::ForeignFrame(seven), 12))),
+            "3 |store: ForeignFrame\n|package 00000000-0000-0000-0000-000000000007 of open split 12 has not the archive's frame, or is not one level below its lender",
+        ),
+        (
+            End::Command(Ending::Unopened(at(RecoverFault::Altered(seven), 4))),
+            "3 |store: Altered\n|item 00000000-0000-0000-0000-000000000007 has not the content that its receipt 4 names",
+        ),
+        (
+            End::Command(Ending::Unopened(at(RecoverFault::OutOfAccount, 4))),
+            "3 |store: OutOfAccount\n|the receipts do not add up to what the packages hold",
+        ),
+    ];
+    passes(&rt, wrong(rt.alloc(), cases.as_slice()));
+}
+
 // Of a rehearsal, a command and a view.
 #[test]
 fn each_ending_has_its_status_and_its_lines(rt: HostRuntime) {

@@ -15,6 +15,7 @@ use opening_faults::reaching::reach;
 use opening_faults::sights::{Sight, StoreClaim, StoreHead};
 use opening_faults::splits::Reached;
 use opening_faults::unfit::least_unfit;
+use opening_numbers::numbers::{may_be_named, receipt_number};
 use opening_verdict::judging::judge_all;
 use opening_verdict::seen::StoreSeen;
 use opening_verdict::verdict::Verdict;
@@ -134,6 +135,29 @@ fn tell_reached(
     Ok(())
 }
 
+// The number of the receipt that names what a fault is of: the package that was lent, or the tile that was added.
+fn tell_number(
+    alloc: Global,
+    seen: &[Sight],
+    asks: &str,
+    told: &mut Told,
+) -> Result<(), OutOfMemory> {
+    let (loan, tile) = (uuid(LOAN, 0), uuid(0, 1));
+    let fault = match asks {
+        "number_missing" => RecoverFault::MissingPackage(loan),
+        "number_copied" => RecoverFault::TwoCopies(loan),
+        "number_foreign" => RecoverFault::ForeignFrame(loan),
+        "number_altered" => RecoverFault::Altered(tile),
+        _ => RecoverFault::Dangling(loan),
+    };
+    if !may_be_named(fault) {
+        told.word("no receipt");
+        return Ok(());
+    }
+    told.some(&receipt_number(alloc, seen, fault)?);
+    Ok(())
+}
+
 // Of two live stores, or of a first that alone is, the least that is not fit, where the first is
 // fit and the second is not.
 fn tell_claims(
@@ -152,6 +176,9 @@ fn tell_claims(
             let reached = reach(alloc, seen)?;
             return tell_reached(alloc, seen, &reached, asks, told);
         }
+        "number_missing" | "number_copied" | "number_foreign" | "number_altered" | "number_dangling" => {
+            return tell_number(alloc, seen, asks, told);
+        }
         asks => told.unread(asks),
     }
     Ok(())
@@ -164,7 +191,7 @@ pub(crate) fn claims_of(alloc: Global, question: &str, told: &mut Told) -> Resul
 }
 
 const CLAIMS: Table = Table(
-    16,
+    26,
     "live loan lender => [++]
 splits loan lender => [1]
 missing loan lender => [-]
@@ -181,6 +208,16 @@ has_no_archive loan => [yes]
 has_two_archives loan lender lender => [yes]
 unfit lender loan => [b]
 unfit_of_one lender loan => [-]
+number_missing lender => [2]
+number_missing lender loan => [-]
+number_missing returned => [-]
+number_copied lender loan loan => [2]
+number_copied lender loan => [-]
+number_foreign lender deep => [2]
+number_foreign lender => [-]
+number_altered loan lender => [1]
+number_altered loan => [-]
+number_dangling lender loan => [no receipt]
 ",
 );
 

@@ -12,7 +12,7 @@ use Rattle.command_folder.specs.Printing.{Prints}
 use Rattle.command_folder.specs.declared.endings.Ending.{Ending}
 use Rattle.command_folder.specs.declared.endings.Ending.TheVariants.{NoSuchPackage, Unopened, Usual}
 use Rattle.command_folder.specs.declared.endings.OpenFault.{OpenFault}
-use Rattle.command_folder.specs.declared.endings.OpenFault.TheVariants.{Folder, Fault as Fault-of-stores}
+use Rattle.command_folder.specs.declared.endings.OpenFault.TheVariants.{Folder, Fault as Fault-of-stores, Numbered}
 use Rattle.command_words.specs.declared.statuses.Failure.TheVariants.{OutOfMemory}
 use Rattle.view_drawing.specs.Drawings.{drawing_text}
 use Rattle.view_fault.specs.Pages.{fault_page}
@@ -55,6 +55,7 @@ ShowsText (Err fault) writer writer' before after ending = (ending ≡ Usual (St
 abbrev pub text_of_fault : OpenFault → Option (List ℕ)
 text_of_fault (Folder met) = None
 text_of_fault (Fault-of-stores met) = fault_page met
+text_of_fault (Numbered met number) = fault_page met
 
 -- where a page was asked for; there is no map of such a folder
 abbrev pub page_of_fault : Paper → OpenFault → Option (List ℕ)

@@ -160,7 +160,7 @@ fn text_of_fault(alloc: Global, fault: &OpenFault) -> Result<Option<String>, All
 {
     match fault {
         OpenFault::Folder(_) => Ok(None),
-        OpenFault::Fault(fault) => fault_page(alloc, *fault),
+        OpenFault::Fault(fault) | OpenFault::Numbered(fault, _) => fault_page(alloc, *fault),
     }
 }
 

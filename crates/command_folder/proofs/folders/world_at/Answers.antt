@@ -10,4 +10,4 @@ pub returns : goal.returns
 returns c =
     let opened = c.in_ok-stores in
     ok_so _ _ c.world_of-found.result.0
-    (λ found is. (opened.stores.items, opened.ensures.opened, opened.ensures.each, is)) c.world_of-found.ensures
+    (λ found is. (opened.stores.items, opened.ensures.opened, opened.ensures.each, is)) c.world_of-found.ensures.world
