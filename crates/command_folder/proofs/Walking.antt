@@ -1,5 +1,6 @@
 -- Stores that are looked at one after the other, and what was seen of the first ones.
-use Rattle.std.specs.Prelude.{◌≡◌, ℕ, zero, suc, ◌+◌, ◌<◌, ◌≤◌, List, [], ◌∷◌, ◌++◌, length, refl, Some, slice_get, slice_set}
+use Rattle.std.specs.Prelude.{◌≡◌, ℕ, zero, suc, ◌+◌, ◌<◌, ◌≤◌, List, [], ◌∷◌, ◌++◌, length, refl, Some, slice_get}
+use Rattle.std.specs.Prelude.{slice_set}
 use Rattle.std.specs.List.{AllZip}
 use Rattle.std.proofs.Common.{sym, ap, subst, ◌∙◌, arith, drop, take, get_or}
 use Rattle.std.proofs.Math.Seq.{drop-cons, set-append_seam}
@@ -57,10 +58,12 @@ module _ {H X : Type 0} (P : H → X → Type 0) where
           new_so ∙ sym (joined it.done last (drop (suc n) old))
           ∙ ap (λ k. (it.done ++ last ∷ []) ++ drop k old) (let e : suc n ≡ n + 1 = omega arith in e);
       seen_of =
-          subst (λ l. AllZip P l (seen ++ x ∷ [])) (sym (take_more old n was within ∙ ap (λ y. take n old ++ y ∷ []) (sym was_is)))
+          subst (λ l. AllZip P l (seen ++ x ∷ [])) (sym (take_more old n was within
+          ∙ ap (λ y. take n old ++ y ∷ []) (sym was_is)))
           (zip_push P (take n old) seen was x it.seen_of p);
     }
 
   -- all were
-  pub walked_all : (old now : List H) (n : ℕ) (seen : List X) → length old ≤ n → Walked old now n seen → AllZip P old seen
+  pub walked_all : (old now : List H) (n : ℕ) (seen : List X) → length old ≤ n → Walked old now n seen
+      → AllZip P old seen
   walked_all old now n seen past it = subst (λ l. AllZip P l seen) (take_all n old past) it.seen_of

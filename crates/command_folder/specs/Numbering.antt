@@ -1,4 +1,5 @@
--- How a fault of stores is told: with the number of the receipt that names what is at fault, where it is known. Profile.
+-- How a fault of stores is told: with the number of the receipt that names what is at fault, where it is known.
+-- Profile.
 use Rattle.std.specs.Prelude.{◌≡◌, ℕ, List, Some, slice_get, slice_set}
 use Rattle.std.specs.List.{AllZip}
 use Rattle.sqlite.specs.Held.{Held}

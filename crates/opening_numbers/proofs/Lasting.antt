@@ -38,7 +38,11 @@ last_of_two P Q R one two fro a b left right = (met, least)
     from_right is = elim right.0 [ inl e ↦ inl (is ∙ e) | inr q ↦ inr (subst R (sym is) (two b q)) ]
 
     met : (max a b ≡ 0) ⊎ R (max a b)
-    met = elim (cases_lt a b) [ inl lt ↦ from_right (max-eq_right (omega (arith, lt))) | inr le ↦ from_left (max-eq_left le) ]
+    met = elim (cases_lt a b) [
+      | inl lt ↦ from_right (max-eq_right (omega (arith, lt)))
+      | inr le
+          ↦ from_left (max-eq_left le)
+    ]
 
 -- none so far
 pub among_none : {X : Type 0} (P : X → ℕ → Type 0) → IsLast (Among P []) 0

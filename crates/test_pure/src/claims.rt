@@ -176,7 +176,11 @@ fn tell_claims(
             let reached = reach(alloc, seen)?;
             return tell_reached(alloc, seen, &reached, asks, told);
         }
-        "number_missing" | "number_copied" | "number_foreign" | "number_altered" | "number_dangling" => {
+        "number_missing"
+        | "number_copied"
+        | "number_foreign"
+        | "number_altered"
+        | "number_dangling" => {
             return tell_number(alloc, seen, asks, told);
         }
         asks => told.unread(asks),

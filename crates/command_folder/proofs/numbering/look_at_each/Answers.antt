@@ -22,6 +22,7 @@ loop-at-preserved g c =
 
 pub returns : goal.returns
 returns g c =
-    let past : length c.args.stores.now.items ≤ c.loop-at.at = omega (arith, c.loop-at-test.false, c.len-count.ensures) in
+    let past : length c.args.stores.now.items ≤ c.loop-at.at =
+    omega (arith, c.loop-at-test.false, c.len-count.ensures) in
     walked_all (IsSeenOf g.S.Store) c.args.stores.now.items c.loop-at.stores.items c.loop-at.at c.loop-at.sights.items
     past c.loop-at.invariant.walked

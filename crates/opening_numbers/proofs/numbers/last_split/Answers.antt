@@ -17,7 +17,8 @@ loop-split-preserved c =
     subst (λ copies. IsLast (IsOfSplit c.args.id c.args.loans copies s) c.split_number.result) c.in_ok-copies.ensures
     c.split_number.ensures in
     let top : c.max-last.result ≡ max c.loop-split.last c.split_number.result = search rules in
-    subst (IsLast (Among (λ split. IsOfSplit c.args.id c.args.loans (copies_of c.args.counts.now split) split) (take (i + 1) splits))) (sym top)
+    subst (IsLast (Among (λ split. IsOfSplit c.args.id c.args.loans (copies_of c.args.counts.now split) split)
+    (take (i + 1) splits))) (sym top)
     (among_more (λ split. IsOfSplit c.args.id c.args.loans (copies_of c.args.counts.now split) split) (take i splits)
     (take (i + 1) splits) s
     (one_more splits i s c.loop-split-test.true c.split-item.is) c.loop-split.last c.split_number.result

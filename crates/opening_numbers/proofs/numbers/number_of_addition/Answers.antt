@@ -24,7 +24,8 @@ loop-place-preserved c =
     let top : c.max-last.result ≡ max c.loop-place.last c.store_number.result = search rules in
     subst (IsLast (Among (λ x. IsOfStore c.args.id (is_live_store sights x) x) (take (i + 1) sights))) (sym top)
     (among_more (λ x. IsOfStore c.args.id (is_live_store sights x) x) (take i sights) (take (i + 1) sights) s
-    (one_more sights i s lt c.index-sights-place.is) c.loop-place.last c.store_number.result c.loop-place.invariant here)
+    (one_more sights i s lt c.index-sights-place.is) c.loop-place.last c.store_number.result c.loop-place.invariant
+    here)
 
 pub returns : goal.returns
 returns c =
