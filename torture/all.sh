@@ -28,6 +28,7 @@ each foreign_page chromium "$torture/foreign_page.py"
 each hostile_clients - "$torture/hostile_clients.py" $((quick ? 500 : 10000))
 each stock_package - "$torture/stock_sqlite3.sh" --init "$program"
 each many_loans - "$torture/many_loans.py" $((quick ? 30 : 400))
+each list_memory - "$torture/list_memory.py" $((quick ? 20000 : 1000000))
 each stock_folder sqlite3 "$torture/stock_folder.sh"
 each first_version - "$torture/first_version_folder.sh" "$program"
 each export 'sqlite3 ogrinfo gdalinfo gdal_translate' "$torture/export_files.sh"
