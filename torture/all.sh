@@ -20,6 +20,7 @@ each list_faults - "$torture/list_faults.py" --program "$program"
 
 # A folder and a desk, beside other programs.
 each session 'curl sqlite3' "$torture/folder_session.sh"
+each operations sqlite3 "$torture/operations.sh"
 each desk 'curl jq' "$torture/desk_curl.sh"
 each desk_client - "$torture/desk_client.py"
 each served_folder - "$torture/served_folder.py" $((quick ? 50 : 1000))
