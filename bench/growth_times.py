@@ -6,7 +6,7 @@ Usage: growth_times.py [--folder FOLDER] [--case NAME].. [--program PROGRAM] [CO
 (10000 and 100000; 1000000 reaches the limit of a kind, and takes some ten minutes and gigabytes of memory. FOLDER is where the files are:
 /dev/shm unless said, so that no disk is measured. All cases unless some are named.)
 
-- rows: an import of COUNT survey marks into one archive, with a commit each; then an audit of it, and one mark more.
+- rows: an import of COUNT survey marks into one archive, with a commit each; then an audit and a manifest of it, and one mark more.
 - split: all of COUNT tiles lent in one loan, which comes home.
 - loans: COUNT/10 loans of one mark, each lent and brought home before the next; one package file has to be left.
 - live: as many loans of one mark as may live (255) beside COUNT marks; then `status`.
@@ -50,6 +50,7 @@ def of_rows(place, count):
         made.spread_row(number)
     yield "additions", count, carry_out(place, folder, made)
     yield "audit", count, run("sheetdesk", ["audit", folder])
+    yield "manifest", count, run("sheetdesk", ["manifest", folder, ARCHIVE])
     made.lines.clear()
     made.row(count, 5, 5)
     yield "one mark more", count, carry_out(place, folder, made)
