@@ -43,7 +43,7 @@ same 'the copy' 'good 3' "$desk" audit backup
 cp -al maps linked
 told 'a linked copy' 'has a second name' "$desk" audit linked
 rm -rf maps.mended; cp -al maps maps.mended
-for file in maps.mended/*.gpkg; do cp -p "$file" "$file.tmp" && mv "$file.tmp" "$file"; done
+for file in maps.mended/*.gpkg*; do cp -p "$file" "$file.tmp" && mv "$file.tmp" "$file"; done
 rm -rf linked
 same 'a mended copy' 'good 3' "$desk" audit maps.mended
 rm -rf maps.mended
