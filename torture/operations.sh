@@ -93,7 +93,7 @@ mv bad/$archive.gpkg.old bad/$archive.gpkg
 cp bad/$loan.gpkg bad/c0000000-0000-4000-8000-000000000001.gpkg
 told 'two copies' "package $loan of open split $split is there twice" "$desk" status bad
 rm bad/c0000000-0000-4000-8000-000000000001.gpkg*
-sqlite3 bad/$archive.gpkg "UPDATE sheet_media SET data = x'00'"
+sqlite3 bad/$archive.gpkg "UPDATE sheet_media SET data = x'89504e48'"
 medium=00000000-0000-4000-8000-000000000003
 number=$(sqlite3 -readonly bad/$archive.gpkg "SELECT seq FROM sheet_receipts WHERE line LIKE 'add % $medium %'")
 told 'altered bytes' "item $medium has not the content that its receipt $number names" "$desk" status bad
