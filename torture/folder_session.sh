@@ -180,9 +180,8 @@ printf '%s' "$(cat "$work/reply.3")" >"$work/reply.3.body"
 second --packages "$work/long.csv" | tr -d '\n' >"$work/packages"
 open_desk 5
 came "$work/packages" "http://127.0.0.1:$port/packages"
-# While the desk has the folder, commands ask it, and those that it does not carry out are kept out.
+# While the desk has the folder, commands ask it.
 expect 0 "good $((receipts + 2))$nl" '' audit "$maps" </dev/null
-expect 3 '' "store: StoreFault${nl}another process may hold the folder$nl" import "$maps" "$sample" </dev/null
 expect 0 "@$work/reply.3" '' apply "$maps" <"$work/request.3"
 came "$work/reply.3.body" --data-binary "@$work/request.3" "http://127.0.0.1:$port/requests"
 { cat "$work/twice.csv"; head -n 3 "$work/more"; } >"$work/long.csv"
