@@ -8,6 +8,7 @@ Usage: field_times.py [--folder FOLDER] [--tiles COUNT] [--bytes SIZE] [--change
 The program makes an archive with the tiles, and exports it; stock sqlite3 makes the file, and changes some tiles by SQL. Then, in turns:
 
 - sheetdesk: `holds | sqlite3 crew.gpkg > holds.csv`, and then `bring --dry-run --summary < holds.csv`; the last round brings in earnest.
+- audit: the folder opened, and nothing asked of it: what each command without a desk takes first.
 - Python: opens the file by its sqlite3, reads each tile, and compares its SHA-256 with a dictionary of those before; tells which differ.
   It opens no register, keeps no list and checks nothing else.
 
@@ -96,6 +97,15 @@ def by_program(sheetdesk, folder, path, held, *options):
     return listed - start, time.perf_counter() - listed, printed, used.ru_maxrss
 
 
+def audited(sheetdesk, folder, count):
+    """How long the folder takes to open."""
+    start = time.perf_counter()
+    said = subprocess.run([sheetdesk, "audit", folder], check=True, stdout=subprocess.PIPE).stdout
+    took = time.perf_counter() - start
+    assert said.decode() == f"good {count}\n", said
+    return took
+
+
 def shown(times):
     return f"{statistics.median(times):.2f} s ({min(times):.2f} to {max(times):.2f})"
 
@@ -112,11 +122,12 @@ def main():
     try:
         folder, path, digests = made(sheetdesk, room, given.tiles, given.bytes)
         change(path, given.tiles, given.changed)
-        held, plain, lists, brings, memory = os.path.join(room, "holds.csv"), [], [], [], 0
+        held, plain, opened, lists, brings, memory = os.path.join(room, "holds.csv"), [], [], [], [], 0
         for number in range(given.rounds):
             took, differ = by_python(path, digests)
             assert differ == given.changed, differ
             plain.append(took)
+            opened.append(audited(sheetdesk, folder, given.tiles))
             options = ["--dry-run", "--summary"] if number < given.rounds - 1 else []
             listed, brought, printed, used = by_program(sheetdesk, folder, path, held, *options)
             right = f"0 unlinks, {given.changed} deletes, {given.changed} adds, 0 links\n" if options else None
@@ -129,6 +140,7 @@ def main():
         print(f"holds and sqlite3   {shown(lists)}")
         print(f"bring               {shown(brings)}, {memory / 1024:.0f} MB")
         print(f"both                {shown(whole)}")
+        print(f"audit               {shown(opened)}")
         print(f"Python, SHA-256     {shown(plain)}")
         print(f"{statistics.median(whole) / statistics.median(plain):.1f} times as long as Python")
     finally:

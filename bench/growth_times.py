@@ -1,7 +1,7 @@
 #!/usr/bin/env python3
 """How time and memory of the program grow with a register: each work over more and more, and the exponent from the size before.
 
-Usage: growth_times.py [--folder FOLDER] [--case NAME].. [--program PROGRAM] [COUNT..]
+Usage: growth_times.py [--folder FOLDER] [--case NAME].. [--program PROGRAM] [--hold] [COUNT..]
 
 (10000 and 100000; 1000000 reaches the limit of a kind, and takes some ten minutes and gigabytes of memory. FOLDER is where the files are:
 /dev/shm unless said, so that no disk is measured. All cases unless some are named.)
@@ -12,6 +12,7 @@ Usage: growth_times.py [--folder FOLDER] [--case NAME].. [--program PROGRAM] [CO
 - live: as many loans of one mark as may live (255) beside COUNT marks; then `status`.
 
 Each work is a process of its own. Times are by the clock, of one run; memory is the greatest resident memory. No request may be refused.
+With --hold the status is 1 where loans grow by an exponent of more than 1.1, or a manifest takes more than 60 MB beside an audit.
 """
 
 import argparse
@@ -27,6 +28,7 @@ from program import program
 from timed_lists import ARCHIVE, HEADER, List
 
 LIVE = 255
+MOST_EXPONENT, MOST_BESIDE = 1.1, 60 * 1000 * 1000
 
 
 def kept(place, made):
@@ -106,29 +108,46 @@ CASES = {"rows": of_rows, "split": of_split, "loans": of_loans, "live": of_live}
 def grown(before, took, count):
     """The exponent with which the time grew, where the work was done before over less."""
     if before is None:
-        return ""
-    fewer, clock = before
-    return f"{math.log(took.clock / clock) / math.log(count / fewer):.2f}"
+        return None
+    fewer, earlier = before
+    return math.log(took.clock / earlier.clock) / math.log(count / fewer)
+
+
+def broken(work, took, exponent, audit):
+    """What does not hold of a work; nothing where all does."""
+    if work == "loans" and exponent is not None and exponent > MOST_EXPONENT:
+        return f"loans grow by an exponent of {exponent:.2f}"
+    # memory is in KiB
+    if work == "manifest" and (took.memory - audit.memory) * 1024 > MOST_BESIDE:
+        return f"a manifest takes {(took.memory - audit.memory) / 1024:.0f} MiB beside an audit"
+    return None
 
 
 def main():
     words = argparse.ArgumentParser(description=__doc__, formatter_class=argparse.RawDescriptionHelpFormatter)
     words.add_argument("--folder", default=folder_times.MEMORY)
     words.add_argument("--program")
+    words.add_argument("--hold", action="store_true")
     words.add_argument("--case", action="append", choices=CASES, dest="cases")
     words.add_argument("counts", type=int, nargs="*")
     said = words.parse_args()
     folder_times.SIDES["sheetdesk"] = [said.program or program()]
     print(f"{'work':14} {'things':>8} {'seconds':>9} {'MiB':>7}  exponent   (load {os.getloadavg()[0]:.1f})")
+    faults = []
     for name in said.cases or CASES:
         before = {}
         for count in said.counts or [10000, 100000]:
             with tempfile.TemporaryDirectory(dir=said.folder) as place:
                 for work, things, took in CASES[name](place, count):
-                    print(f"{work:14} {things:8} {took.clock:9.2f} {took.memory / 1024:7.0f}  {grown(before.get(work), took, things)}", flush=True)
-                    before[work] = things, took.clock
-    print("no request was refused")
+                    exponent = grown(before.get(work), took, things)
+                    told = "" if exponent is None else f"{exponent:.2f}"
+                    print(f"{work:14} {things:8} {took.clock:9.2f} {took.memory / 1024:7.0f}  {told}", flush=True)
+                    before[work] = things, took
+                    fault = broken(work, took, exponent, before.get("audit", (0, took))[1])
+                    faults += [fault] if fault else []
+    print("; ".join(["no request was refused", *faults]))
+    return 1 if said.hold and faults else 0
 
 
 if __name__ == "__main__":
-    main()
+    sys.exit(main())

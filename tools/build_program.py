@@ -247,7 +247,7 @@ def open_log(at):
 
 def remove_oldest(at):
     """Removes the programs that were not asked for the longest time."""
-    found = [it for it in os.scandir(at) if re.fullmatch("(unproved-)?[0-9a-f]{64}", it.name)]
+    found = [it for it in os.scandir(at) if re.fullmatch("((unproved|fast)-)?[0-9a-f]{64}", it.name)]
     for it in sorted(found, key=lambda it: it.stat().st_mtime)[:-MOST]:
         shutil.rmtree(it.path, ignore_errors=True)
 

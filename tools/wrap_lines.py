@@ -1,10 +1,11 @@
 #!/usr/bin/env python3
-"""Wraps lines that have more than 120 columns: of specs and proofs, and comments of sources.
+"""Wraps lines that have more than 120 bytes: of specs and proofs, and comments of sources.
 
     wrap_lines.py FILE..        in place; files .antt and .rt
 
-A line is broken at a space, at the least depth of brackets that gives a first part of at most 116 columns, before an arrow or an
-operator where there is one. What follows is indented by four more than the line. Only spaces and ends of lines change.
+A line is broken at a space, at the least depth of brackets that gives a first part of at most 118 bytes,
+before an arrow or an operator where there is one. What follows is indented by four more than the line.
+A field of a record that was broken behind its `=` is joined where it fits. Only spaces and ends of lines change.
 """
 import re
 import sys
@@ -12,6 +13,11 @@ import sys
 MOST = 118
 OPENING, CLOSING = "([{⟦", ")]}⟧"
 BEFORE = ("→", "×", "⊎", "≡", "++", "|", "∙", "∷", "↦", "⟶")
+
+
+def size(text):
+    """The bytes of a text: an arrow or a Greek letter has two or three."""
+    return len(text.encode("utf-8"))
 
 
 def breaks(line, start):
@@ -37,7 +43,8 @@ def breaks(line, start):
             if re.search(r"λ [^.]*$", line[:at]) and "." not in line[line[:at].rfind("λ"):at]:
                 # (the names that a λ binds stay together)
                 continue
-            good = 2 if before in ("=", ":") or word in BEFORE[:3] else 1 if word in BEFORE else 0
+            # (between the fields of a record; behind `=` or before an arrow; before an operator)
+            good = 3 if before.endswith(";") else 2 if before in ("=", ":") or word in BEFORE[:3] else 1 if word in BEFORE else 0
             found.append((at, depth, good))
     return found
 
@@ -51,9 +58,9 @@ def wrapped(line):
     if lead.startswith("--"):
         return wrapped_comment(line, indent)
     deeper = indent + (8 if lead.startswith("let ") else 4)
-    while len(line) > MOST:
+    while size(line) > MOST:
         start = len(line) - len(line.lstrip(" ")) + 8
-        may = [it for it in breaks(line, start) if it[0] <= MOST]
+        may = [it for it in breaks(line, start) if size(line[:it[0]]) <= MOST]
         if not may:
             return None
         # (a first part that is not short, at the least depth, before an operator)
@@ -67,10 +74,22 @@ def wrapped(line):
     return [*out, line]
 
 
+def joined(lines):
+    """The same with each field of a record on one line, where it was broken behind its `=` and fits."""
+    out = []
+    for line in lines:
+        field = out and re.fullmatch(r" +«?[\w-]+»? =", out[-1])
+        if field and re.fullmatch(r" +[^ ].*;", line) and size(out[-1]) + 1 + size(line.strip()) <= MOST - 18:
+            out[-1] += " " + line.strip()
+        else:
+            out.append(line)
+    return out
+
+
 def wrapped_comment(line, indent):
     words, out, now = line.strip()[2:].split(), [], " " * indent + "--"
     for word in words:
-        if len(now) + 1 + len(word) > MOST:
+        if size(now) + 1 + size(word) > MOST:
             out.append(now)
             now = " " * indent + "--"
         now += " " + word
@@ -110,7 +129,7 @@ def wrapped_use(line):
         return None
     names, out, now = [it.strip() for it in met[2].split(",")], [], []
     for name in names:
-        if now and len(f"{met[1]}{{{', '.join([*now, name])}}}") > MOST:
+        if now and size(f"{met[1]}{{{', '.join([*now, name])}}}") > MOST:
             out.append(f"{met[1]}{{{', '.join(now)}}}")
             now = []
         now.append(name)
@@ -125,12 +144,13 @@ def main():
         out = []
         for line in lines:
             how = wrapped_source if file.endswith(".rt") else wrapped
-            new = how(line) if len(line) > 120 else [line]
+            new = how(line) if size(line) > 120 else [line]
             if new is None:
                 left += 1
                 print(f"{file}: not wrapped: {line[:100]}")
                 new = [line]
             out += new
+        out = joined(out)
         squeezed = lambda text: re.sub(r"\s+", "", re.sub(r"--|//[/!]?", "", "".join(text)))
         names = lambda some: [it for it in some if not it.lstrip().startswith(("use ", "pub use ", "ghost use "))]
         if squeezed(names(lines)) != squeezed(names(out)):

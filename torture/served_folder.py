@@ -421,7 +421,7 @@ def words_of_lists(desk, room):
     for _ in range(2):
         assert desk.ask(["row", "7"], request(961, "add", **add)) == (line, b"", 0)
     refused = desk.ask(["row", "8"], request(962, "add", **add))
-    assert refused == (f"8,{new_id(962)},0,6\n".encode(), b"", 0), refused
+    assert refused == (f"8,{new_id(962)},0,6\n".encode(), b"record 8: refusal 6 IdentityUsed\n", 0), refused
     told = desk.ask(["outcome"], request(963, "delete", identity=new_id(961)))
     assert told[0].startswith(f"deleted {new_id(961)}\nreceipt {number + 1}: ".encode()) and told[1:] == (b"", 0), told
     out, error, status = desk.ask(["outcome"], request(964, "delete", identity=new_id(961)))

@@ -1,5 +1,6 @@
 -- What is written of packages, one after the other.
-use Rattle.std.proofs.Common.{◌≡◌, ◌∙◌, refl, sym, ap, subst, ℕ, ◌+◌, ◌<◌, List, [], ◌∷◌, ◌++◌, append-nil, codes}
+use Rattle.std.proofs.Common.{◌≡◌, ◌∙◌, refl, sym, ap, subst, ℕ, ◌+◌, ◌<◌, List, [], ◌∷◌}
+use Rattle.std.proofs.Common.{◌++◌, append-nil, codes}
 use Rattle.std.proofs.Common.{count_by, map, take, drop, take-append-drop, length, get_or, Option, Result, Ok, Err}
 use Rattle.std.proofs.Common.{MatchResult, IsErr, arith}
 use Rattle.std.specs.Io.KnownBytes.{Appends}
@@ -85,7 +86,8 @@ listed_append w xs ys =
 
 listed_more : (w : World) (xs : List PackageSight) (x : PackageSight)
     → listed_text w (xs ++ x ∷ []) ≡ listed_text w xs ++ package_text w x.uuid
-listed_more w xs x = listed_append w xs (x ∷ []) ∙ ap (λ t. listed_text w xs ++ t) (append-nil (package_text w x.uuid))
+listed_more w xs x = listed_append w xs (x ∷ []) ∙ ap (λ t. listed_text w xs ++ t)
+    (append-nil (package_text w x.uuid))
 
 -- the list of a world's packages tells all of them
 pub all_listed : (w : World) (sights : List PackageSight) → map sight_of sights ≡ package_sights w

@@ -1,5 +1,6 @@
 -- A rehearsal, by what its import and its packages come to.
-use Rattle.std.proofs.Common.{◌≡◌, ◌≢◌, ◌∙◌, refl, sym, subst, ℕ, List, Option, IfSome, Result, Ok, Err, MatchResult}
+use Rattle.std.proofs.Common.{◌≡◌, ◌≢◌, ◌∙◌, refl, sym, subst, ℕ, List, Option, IfSome, Result}
+use Rattle.std.proofs.Common.{Ok, Err, MatchResult}
 use Rattle.std.proofs.Common.{inl, inr, take, length, slice_index_or}
 use Rattle.std.specs.Io.KnownBytes.{Appends}
 use Rattle.std.proofs.KnownBytes.{Appends-trans}
@@ -67,7 +68,8 @@ module _ {S W : Type 0} (g : Ghosts S) (clean : IsInMemory g) (contents : W → 
   module _ (failed fails : ℕ) (before after : Option (List ℕ)) (r : Result (Unit {0}) ImportFault)
       (requests : List Request) (list : IfSome text (λ t. IsList t requests))
       (it : IsImported g requests old new failed fails before after r) where
-    abbrev ran_next : (next : World) × Run w (take (length it.replies) requests) it.replies next × StandsFor g new next
+    abbrev ran_next : (next : World) × Run w (take (length it.replies) requests) it.replies next
+        × StandsFor g new next
     ran_next = it.ran.run (all_clean new) (are_clean it.ran.gone) w stands
 
     abbrev ran : Ran w text
@@ -77,8 +79,7 @@ module _ {S W : Type 0} (g : Ghosts S) (clean : IsInMemory g) (contents : W → 
       replies = it.replies;
       next = ran_next.0;
       some = it.some;
-      run =
-          ran_next.1;
+      run = ran_next.1;
     }
 
   -- an import that did not go through
@@ -150,7 +151,8 @@ due_same g due other old new before after r same it = λ clean w stands. subst
 
 -- ---- the words
 
-module _ (archive at frame uuid moment : List ℕ) (asked : Frame) (asks : Asks archive at frame uuid moment asked) where
+module _ (archive at frame uuid moment : List ℕ) (asked : Frame)
+    (asks : Asks archive at frame uuid moment asked) where
   -- words of which one cannot be read ask for nothing
   pub asks_read : (what : What) → IsFirstUnread archive at frame what → ⊥
   asks_read BadUuid unread = let none = unread in let named = asks.named in cc

@@ -1,5 +1,6 @@
 -- What a rehearsal hands on, and what connections then make of it.
-use Rattle.std.proofs.Common.{◌≡◌, ◌≤◌, ◌∙◌, ℕ, List, Option, Result, Ok, sym, subst, slice_index_or, arith}
+use Rattle.std.proofs.Common.{◌≡◌, ◌≤◌, ◌∙◌, ℕ, List, Option, Result, Ok, sym, subst}
+use Rattle.std.proofs.Common.{slice_index_or, arith}
 use Rattle.std.proofs.lemmas.Fmt.{decimal_injective}
 use Rattle.sqlite.specs.Held.{Held, state}
 use Rattle.sqlite.specs.State.{HasCleanDisk}
@@ -30,8 +31,7 @@ module _ {S W : Type 0} (g : Ghosts S) (clean : (h : Held S) → HasCleanDisk (s
           few = it.few;
           replies = it.replies;
           next = ran.0;
-          run =
-              ran.1;
+          run = ran.1;
           stands = ran.2;
         },
       )
@@ -61,7 +61,8 @@ one_number least most text m n small one other =
     decimal_injective m n (omega (arith, small, high)) (omega (arith, small, high')) (sym one.0 ∙ other.0)
 
 -- what the words ask for, in the words of another reading of them
-pub same_served : {W : Type 0} (u v : List ℕ) (f e : Frame) (m n : ℕ) (text : Option (List ℕ)) (writer writer' : W)
+pub same_served : {W : Type 0} (u v : List ℕ) (f e : Frame) (m n : ℕ) (text : Option (List ℕ))
+    (writer writer' : W)
     (before after : Option (List ℕ)) (r : Result LeftWorld Outcome)
     → u ≡ v → f ≡ e → m ≡ n → Leaves (new_world v e) n text writer writer' before after r
     → Leaves (new_world u f) m text writer writer' before after r

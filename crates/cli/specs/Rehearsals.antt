@@ -1,5 +1,6 @@
 -- What a rehearsal comes to, and what it prints. Profile.
-use Rattle.std.specs.Prelude.{◌≡◌, ◌≢◌, ◌⊎◌, ◌≤◌, ℕ, List, ◌++◌, codes, flat_map, length, map, take, Option, Result}
+use Rattle.std.specs.Prelude.{◌≡◌, ◌≢◌, ◌⊎◌, ◌≤◌, ℕ, List, ◌++◌, codes, flat_map}
+use Rattle.std.specs.Prelude.{length, map, take, Option, Result}
 use Rattle.std.specs.Prelude.{IfSome, MatchResult}
 use Rattle.std.specs.List.{AllByRecursion}
 use Rattle.std.specs.Io.KnownBytes.{Appends}
@@ -90,19 +91,22 @@ printed ran = report ran ++ live_text ran.next
 
 -- A rehearsal that stopped: before it wrote anything; at a request, whose line is then the last; in the report, which
 -- the writer did not take; or among the packages, after the whole report.
-abbrev pub Stops : {W : Type 0} → World → Option (List ℕ) → W → W → Option (List ℕ) → Option (List ℕ) → Failure → Type 0
+abbrev pub Stops : {W : Type 0} → World → Option (List ℕ) → W → W → Option (List ℕ)
+    → Option (List ℕ) → Failure → Type 0
 Stops w text writer writer' before after failure =
     (writer' ≡ writer)
     ⊎ ((ran : Ran w text) × (fault : Fault) × AreStopped ran.replies fault × (failure ≡ of_fault fault)
     × Appends before after (report ran))
-    ⊎ ((ran : Ran w text) × (failure ≡ StoreFault) × WentOutPast (report_before ran.requests ran.replies) before after
+    ⊎ ((ran : Ran w text) × (failure ≡ StoreFault) × WentOutPast (report_before ran.requests ran.replies) before
+    after
     (report ran))
     ⊎ ((ran : Ran w text) × IsComplete ran × WentOutPast (report ran) before after (printed ran))
 
 -- A rehearsal over a new world w, of the text that a reader tells, with what a writer held before and holds after.
 -- Where it is done, the list was carried out whole, and the report and all live packages, in the order of their
 -- UUIDs, were written. Where the list is refused, nothing is written, and it is told why it was not read.
-abbrev pub Rehearses : {W : Type 0} → World → Option (List ℕ) → W → W → Option (List ℕ) → Option (List ℕ) → Outcome
+abbrev pub Rehearses : {W : Type 0} → World → Option (List ℕ) → W → W → Option (List ℕ)
+    → Option (List ℕ) → Outcome
     → Type 0
 Rehearses w text writer writer' before after Done = (ran : Ran w text) × IsComplete ran × AreInOrder ran.next
     × Appends before after (printed ran)

@@ -17,7 +17,8 @@ use Rattle.command_words.specs.declared.statuses.Outcome.TheVariants.{Done}
 module _ {S : Type 0} (g : Ghosts S) where
   -- A rehearsal that hands on its world: it was done, and the value stands for the world that its list led to; or it
   -- ended otherwise.
-  abbrev pub HandsOn : {W : Type 0} → World → Option (List ℕ) → W → W → Option (List ℕ) → Option (List ℕ)
+  abbrev pub HandsOn : {W : Type 0} → World → Option (List ℕ) → W → W → Option (List ℕ)
+      → Option (List ℕ)
       → Result (Seen S) Outcome → Type 0
   HandsOn w text writer writer' before after (Ok seen) = (done : Rehearses w text writer writer' before after Done)
       × StandsFor g seen done.0.next
@@ -44,7 +45,8 @@ module _ {S : Type 0} (g : Ghosts S) where
       × Rehearses w text writer writer' before after outcome
 
 -- The same, of a world whose stores are of one kind or of the other.
-abbrev pub Leaves : {W : Type 0} → World → ℕ → Option (List ℕ) → W → W → Option (List ℕ) → Option (List ℕ)
+abbrev pub Leaves : {W : Type 0} → World → ℕ → Option (List ℕ) → W → W → Option (List ℕ)
+    → Option (List ℕ)
     → Result LeftWorld Outcome → Type 0
 Leaves w most text writer writer' before after (Ok (Arrays seen)) =
     RehearsesAndServes over_memory w most text writer writer' before after (Ok seen)

@@ -135,8 +135,8 @@ fn write_packages<S: Alter + Drop, W: Write>(
 }
 
 // How many requests a world in the engine's arrays is asked for at most. A request costs less there
-// than in files up to some ten thousand
-// items, and more beyond: what comes into the middle of an index moves all behind it.
+// than in files up to some ten thousand items, and more beyond: what comes into the middle of an
+// index moves all behind it.
 const FEW: u64 = 4096;
 
 // How many where some of them take something out: for each thing that goes an array goes through

@@ -1,5 +1,6 @@
 -- What covers a box, from its stretches along both axes.
-use Rattle.std.specs.Prelude.{◌≡◌, ◌&&◌, Bool, true, false, refl, ℤ, pos, ◌+ℤ◌, ◌-ℤ◌, ◌*ℤ◌, ◌≤ℤ◌, ◌<ℤ◌, int_le, int_lt}
+use Rattle.std.specs.Prelude.{◌≡◌, ◌&&◌, Bool, true, false, refl, ℤ, pos, ◌+ℤ◌, ◌-ℤ◌}
+use Rattle.std.specs.Prelude.{◌*ℤ◌, ◌≤ℤ◌, ◌<ℤ◌, int_le, int_lt}
 use Rattle.std.proofs.Common.{arith, sym, subst, ◌∙◌, FitsSigned, w64}
 use Rattle.std.proofs.lemmas.Bool.{and_parts, and_from}
 use Rattle.std.proofs.lemmas.Int.{ints}
@@ -106,7 +107,8 @@ is_place f zoom column row level west east north south =
     let d : true ≡ int_lt row (height_at f (level_of f zoom)) = omega (arith, ints, south) in
     and_from _ _ (and_from _ _ (and_from _ _ (and_from _ _ level (sym a)) (sym b)) (sym c)) (sym d)
 
-placed : (f : Frame) (zoom column row : ℤ) → has_place f zoom column row ≡ true → (pos 0 ≤ℤ column) × (pos 0 ≤ℤ row)
+placed : (f : Frame) (zoom column row : ℤ) → has_place f zoom column row ≡ true → (pos 0 ≤ℤ column)
+    × (pos 0 ≤ℤ row)
 placed f zoom column row h =
     let last = three (has_level f zoom && int_le (pos 0) column && int_lt column (width_at f (level_of f zoom)))
     (int_le (pos 0) row) (int_lt row (height_at f (level_of f zoom))) h in
@@ -115,7 +117,8 @@ placed f zoom column row h =
     (omega (arith, ints, first.1), omega (arith, ints, last.1))
 
 -- the last column and the last row of a good rectangle
-last_placed : (f : Frame) (r : Rect) → is_good_rect f r ≡ true → (pos 0 ≤ℤ r.last_column) × (pos 0 ≤ℤ r.last_row)
+last_placed : (f : Frame) (r : Rect) → is_good_rect f r ≡ true → (pos 0 ≤ℤ r.last_column)
+    × (pos 0 ≤ℤ r.last_row)
 last_placed f r h =
     let parts = three (has_place f r.zoom r.column r.row && has_place f r.zoom r.last_column r.last_row)
     (int_le r.column r.last_column) (int_le r.row r.last_row) h in
@@ -138,7 +141,8 @@ down_to edge to at h = omega (arith, ints, h)
 pub record Stretches (f : Frame) (zoom : ℤ) (g : Ground) (r : Rect) : Type 0 where
   pub across : IsStretch (width_at f (level_of f zoom)) (tile_span_x f zoom) (g.west -ℤ f.min_x) (g.east -ℤ f.min_x)
       r.column r.last_column
-  pub down : IsStretch (height_at f (level_of f zoom)) (tile_span_y f zoom) (f.max_y -ℤ g.north) (f.max_y -ℤ g.south)
+  pub down : IsStretch (height_at f (level_of f zoom)) (tile_span_y f zoom) (f.max_y -ℤ g.north)
+      (f.max_y -ℤ g.south)
       r.row r.last_row
 
 no_more : (a b c : ℤ) → a ≤ℤ b → b <ℤ c → a <ℤ c
@@ -188,16 +192,14 @@ lies_at : (f : Frame) (zoom : ℤ) (g : Ground) (other : Rect) → Covers f zoom
       zoom = zoom;
       column = other.column;
       last_column = other.last_column;
-      row =
-          other.row;
+      row = other.row;
       last_row = other.last_row;
     })) g
 lies_at f zoom g other it =
     subst (λ z. LiesWithin (block_ground f (record {
       zoom = z;
       column = other.column;
-      last_column =
-          other.last_column;
+      last_column = other.last_column;
       row = other.row;
       last_row = other.last_row;
     })) g)
@@ -228,7 +230,8 @@ is_inside f zoom g r other good level it covers =
       );
     }
 
-pub least_of : (f : Frame) (g : Ground) (r : Rect) → GoodFrame f → has_level f r.zoom ≡ true → Stretches f r.zoom g r
+pub least_of : (f : Frame) (g : Ground) (r : Rect) → GoodFrame f → has_level f r.zoom ≡ true
+    → Stretches f r.zoom g r
     → IsLeastCover f r.zoom g r
 least_of f g r good level it = record {
   covers = covers_box f g r level it;

@@ -1,5 +1,6 @@
 -- Equal tiles along an axis, and a stretch of it.
-use Rattle.std.specs.Prelude.{◌≡◌, ℕ, ◌+◌, ◌-◌, ◌*◌, ◌/◌, ◌<◌, ◌≤◌, ℤ, pos, negsuc, ◌+ℤ◌, ◌-ℤ◌, ◌*ℤ◌, ◌≤ℤ◌, ◌<ℤ◌}
+use Rattle.std.specs.Prelude.{◌≡◌, ℕ, ◌+◌, ◌-◌, ◌*◌, ◌/◌, ◌<◌, ◌≤◌, ℤ, pos}
+use Rattle.std.specs.Prelude.{negsuc, ◌+ℤ◌, ◌-ℤ◌, ◌*ℤ◌, ◌≤ℤ◌, ◌<ℤ◌}
 use Rattle.std.specs.Prelude.{int_div}
 use Rattle.std.proofs.Common.{arith}
 use Rattle.std.proofs.lemmas.Int.{ints}
@@ -33,7 +34,8 @@ stretch t s l h some less most =
       within = (omega (arith, ints), omega (arith, ints), omega (arith, ints));
     }
 
-pub stretch_of : (tiles span low high : ℤ) → pos 1 ≤ℤ tiles → pos 1 ≤ℤ span → pos 0 ≤ℤ low → low <ℤ high
+pub stretch_of : (tiles span low high : ℤ) → pos 1 ≤ℤ tiles → pos 1 ≤ℤ span → pos 0 ≤ℤ low
+    → low <ℤ high
     → high ≤ℤ (tiles *ℤ span)
     → IsStretch tiles span low high (int_div low span) (int_div (high -ℤ pos 1) span)
 stretch_of (pos t) (pos s) (pos l) (pos h) many some start less most =
@@ -47,7 +49,8 @@ stretch_of (pos t) (pos s) (negsuc l) high many some start less most = absurd (o
 stretch_of (pos t) (pos s) (pos l) (negsuc h) many some start less most = absurd (omega (arith, ints, less))
 
 -- of two tiles, where the first begins no later than a point before which the second does not end
-pub is_no_later : (a b span at : ℤ) → pos 1 ≤ℤ span → pos 0 ≤ℤ b → (a *ℤ span) ≤ℤ at → at <ℤ ((b +ℤ pos 1) *ℤ span)
+pub is_no_later : (a b span at : ℤ) → pos 1 ≤ℤ span → pos 0 ≤ℤ b → (a *ℤ span) ≤ℤ at
+    → at <ℤ ((b +ℤ pos 1) *ℤ span)
     → a ≤ℤ b
 is_no_later (pos a) (pos b) (pos s) at some low begins ends =
     let next : (b + 1) * s ≡ b * s + s = omega arith in

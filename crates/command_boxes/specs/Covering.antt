@@ -1,5 +1,6 @@
 -- The least rectangle of sheets that covers a box. Profile, over OGC GeoPackage 1.3, 2.2.7 (tile matrix).
-use Rattle.std.specs.Prelude.{◌≡◌, ◌&&◌, Bool, IsTrue, ℤ, pos, ◌+ℤ◌, ◌*ℤ◌, ◌≤ℤ◌, ◌<ℤ◌, int_lt}
+use Rattle.std.specs.Prelude.{◌≡◌, ◌&&◌, Bool, IsTrue, ℤ, pos, ◌+ℤ◌, ◌*ℤ◌, ◌≤ℤ◌}
+use Rattle.std.specs.Prelude.{◌<ℤ◌, int_lt}
 use Rattle.sheet_types.specs.declared.frame.Frame.{Frame}
 use Rattle.sheet_types.specs.declared.frame.Ground.{Ground}
 use Rattle.sheet_types.specs.declared.frame.Rect.{Rect}

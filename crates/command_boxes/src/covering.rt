@@ -1,5 +1,6 @@
 //! The least rectangle of sheets of one zoom that covers a box.
-ghost use Rattle.std.specs.Prelude.{◌≡◌, ◌≤ℤ◌, ◌<ℤ◌, ◌*ℤ◌, false, pos, IfSome, IfNone, IsTrue};
+ghost use Rattle.std.specs.Prelude.{◌≡◌, ◌≤ℤ◌, ◌<ℤ◌, ◌*ℤ◌, false, pos, IfSome, IfNone};
+ghost use Rattle.std.specs.Prelude.{IsTrue};
 ghost use Rattle.sheet_types.specs.Matrix.{has_level, is_good_frame};
 ghost use Rattle.matrix_rules.specs.Axes.{IsAxis};
 ghost use Rattle.command_boxes.specs.Covering.{IsLeastCover, IsStretch, can_cover, has_box};
@@ -60,8 +61,7 @@ fn least_cover(frame: &Frame, zoom: i64, ground: &Ground) -> Rect
 }
 
 /// The least rectangle of sheets of a zoom that covers a box; `None` where the frame has no such
-/// zoom, or does not have all of the box, or there
-/// is nothing of it.
+/// zoom, or does not have all of the box, or there is nothing of it.
 pub fn covering(frame: &Frame, zoom: i64, ground: &Ground) -> Option<Rect>
     requires { IsTrue (is_good_frame frame.now) }
     ensures some { IfSome result (IsLeastCover frame.now zoom ground.now) }

@@ -57,7 +57,8 @@ use Rattle.command_bringing.specs.declared.bringing.Purpose.TheVariants.{ShowLis
 
 -- ---- endings that are not that all was done
 
-not_stopped : (ending : Ending) (o : Outcome) → ending ≡ Usual o → (Usual o ≡ Usual Done → ⊥) → ending ≡ done → ⊥
+not_stopped : (ending : Ending) (o : Outcome) → ending ≡ Usual o → (Usual o ≡ Usual Done → ⊥)
+    → ending ≡ done → ⊥
 not_stopped ending o is differ e = differ (sym is ∙ e)
 
 no_import : (fault : ImportFault) → import_ending (Err fault) ≡ done → ⊥
@@ -146,7 +147,8 @@ module _ {S : Type 0} (g : Ghosts S) (a : Ask) (text : Option (List ℕ)) (timed
       IsImported g requests.items read new failed fails before after (Ok x)) where
     ran_whole : IsRun g requests.items read it.replies new failed fails
     ran_whole = subst (λ qs. IsRun g qs read it.replies new failed fails)
-        (ap (λ n. take n requests.items) it.written.0 ∙ take_all (length requests.items) requests.items (omega arith))
+        (ap (λ n. take n requests.items) it.written.0 ∙ take_all (length requests.items) requests.items
+        (omega arith))
         it.ran
 
     still_stands : (w : World) → StandsFor g old w → StandsFor g read w
@@ -172,7 +174,8 @@ module _ {S : Type 0} (g : Ghosts S) (a : Ask) (text : Option (List ℕ)) (timed
             listed = was.listed;
             requests = requests.items;
             changes = was.changes;
-            holds = (free_file_comes_home w a.«package» (ticket w a.«package») a.at.now a.more was.file requests.items
+            holds = (free_file_comes_home w a.«package» (ticket w a.«package») a.at.now a.more was.file
+                requests.items
                 it.replies run.0 stands.members.register was.live timed was.none was.changes was.free run.1
                 it.written.1).1;
           },
@@ -181,7 +184,8 @@ module _ {S : Type 0} (g : Ghosts S) (a : Ask) (text : Option (List ℕ)) (timed
 -- ---- whatever was answered
 
 module _ {S : Type 0} (g : Ghosts S) {W : Type 0} (writer writer' : W) (before after : Option (List ℕ)) (a : Ask)
-    (text : Option (List ℕ)) (old read new : Seen S) (failed fails : ℕ) (ending : Ending) (is_done : ending ≡ done)
+    (text : Option (List ℕ)) (old read new : Seen S) (failed fails : ℕ) (ending : Ending)
+    (is_done : ending ≡ done)
     (timed : is_moment a.at.now ≡ true)
     (untouched : IsUntouched g old read) where
   abbrev Home : Type 0

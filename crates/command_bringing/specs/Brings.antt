@@ -61,9 +61,11 @@ module _ {S : Type 0} (g : Ghosts S) where
 
     -- The text of a list was answered, of each world that the value stands for, and what came of that; or memory or a
     -- store gave out.
-    abbrev pub Brings : Ask → Option (List ℕ) → Purpose → Seen S → Seen S → ℕ → ℕ → Ending → Type 0
+    abbrev pub Brings : Ask → Option (List ℕ) → Purpose → Seen S → Seen S → ℕ → ℕ → Ending
+        → Type 0
     Brings a text purpose old new failed fails ending =
-        ((fault : Fault) × IsUntouched g old new × (ending ≡ Usual (Stopped (of_fault fault))) × (writer' ≡ writer))
+        ((fault : Fault) × IsUntouched g old new × (ending ≡ Usual (Stopped (of_fault fault)))
+        × (writer' ≡ writer))
         ⊎ ((answer : Answer) × (read : Seen S) × IsUntouched g old read
         × (AllClean g read.members → (w : World) → StandsFor g old w → AnswersText w a text answer)
         × EndsAnswer purpose answer read new failed fails ending)

@@ -27,7 +27,9 @@ pub record IsHome (a : Ask) (text : Option (List ℕ)) (w next : World) : Type 0
 
 -- Where a file was to be carried out, and the program ends as if all was done: so it is of each world that the
 -- value stood for, and of one that it stands for then.
-abbrev pub ComesHome : {S : Type 0} → Ghosts S → Ask → Option (List ℕ) → Purpose → Seen S → Seen S → Ending → Type 0
-ComesHome {S} g a text purpose old new ending = purpose ≡ CarryOut → ending ≡ done → is_moment a.at.now ≡ true →
+abbrev pub ComesHome : {S : Type 0} → Ghosts S → Ask → Option (List ℕ) → Purpose → Seen S → Seen S
+    → Ending → Type 0
+ComesHome {S} g a text purpose old new ending = purpose ≡ CarryOut → ending ≡ done
+    → is_moment a.at.now ≡ true →
     AllClean g new.members → (w : World) → StandsFor g old w
     → (next : World) × StandsFor g new next × IsHome a text w next

@@ -43,7 +43,8 @@ module _ {S : Type 0} (g : Ghosts S) {W : Type 0} (writer writer' : W) (before a
   abbrev pub OpensBring : Ask → Option (List ℕ) → Purpose → Ending → Type 0
   OpensBring a text purpose ending =
       ((fault : OpenFault) × (ending ≡ Unopened fault) × (writer' ≡ writer))
-      ⊎ ((old : Seen S) × (stores : List (Held S)) × IsFolderWorld g old × EndsBring a text purpose old stores ending)
+      ⊎ ((old : Seen S) × (stores : List (Held S)) × IsFolderWorld g old
+      × EndsBring a text purpose old stores ending)
 
   -- Words that cannot be read open nothing.
   abbrev pub BringsFor : BringWords → Option (List ℕ) → Purpose → Ending → Type 0

@@ -151,8 +151,7 @@ fn end_answer<S: Alter + Drop, H: Shelf<S>, W: Write, T: Teller>(
 }
 
 /// Reads a list of what a file holds, and shows or carries out the requests that make a package of
-/// a world hold that. Answers besides what is said of
-/// a refusal in plain words.
+/// a world hold that. Answers besides what is said of a refusal in plain words.
 pub fn bring_in<S: Alter + Drop, H: Shelf<S>, R: Read + Drop, W: Write, T: Teller>(
     alloc: Global,
     world: &mut World<S>,

@@ -79,7 +79,8 @@ fn bring_at<R: Read + Drop, W: Write, T: Teller>(
     writer: &mut W,
     teller: &mut T,
 ) -> (Ending, &'static str)
-    ensures { OpensBring ⟦<FolderStore as Store>⟧ writer.old writer.new (W.contents writer.old) (W.contents writer.new)
+    ensures { OpensBring ⟦<FolderStore as Store>⟧ writer.old writer.new (W.contents writer.old)
+        (W.contents writer.new)
         ask.now (R.remaining reader) purpose result.0 }
 {
     match open_folder(rt, folder) {
@@ -120,7 +121,8 @@ pub fn bring_for<R: Read + Drop, W: Write, T: Teller>(
     writer: &mut W,
     teller: &mut T,
 ) -> (Ending, &'static str)
-    ensures { BringsFor ⟦<FolderStore as Store>⟧ writer.old writer.new (W.contents writer.old) (W.contents writer.new)
+    ensures { BringsFor ⟦<FolderStore as Store>⟧ writer.old writer.new (W.contents writer.old)
+        (W.contents writer.new)
         words.now (R.remaining reader) purpose result.0 }
 {
     match read_ask(words) {

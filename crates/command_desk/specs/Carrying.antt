@@ -34,7 +34,8 @@ module _ {W : Type 0} (writer writer' : W) (before after : Option (List ℕ)) wh
   abbrev pub TellsReply : Report → Request → Result Receipt Refusal → Ending → Type 0
   TellsReply (Row n) q reply ending = Prints (report_line n q.id reply) (row_ending n reply) before after ending
   TellsReply Outcome q reply ending =
-      PrintsLine writer writer' before after (outcomes_text (q ∷ []) (reply ∷ [])) (replies_ending (reply ∷ [])) ending
+      PrintsLine writer writer' before after (outcomes_text (q ∷ []) (reply ∷ [])) (replies_ending (reply ∷ []))
+      ending
 
 module _ {S : Type 0} (g : Ghosts S) {W : Type 0} where
   -- A request was carried out, and its reply told.
@@ -47,14 +48,16 @@ module _ {S : Type 0} (g : Ghosts S) {W : Type 0} where
     pub told : TellsReply writer writer' before after report q reply ending
 
   -- The same of a row, for which memory may be wanting: nothing was done then.
-  abbrev pub CarriesRow : ℕ → Request → Seen S → Seen S → W → W → Option (List ℕ) → Option (List ℕ) → Ending → Type 0
+  abbrev pub CarriesRow : ℕ → Request → Seen S → Seen S → W → W → Option (List ℕ)
+      → Option (List ℕ) → Ending → Type 0
   CarriesRow n q old new writer writer' before after ending =
       ((ending ≡ no_memory) × (new ≡ old) × (writer' ≡ writer))
       ⊎ IsCarriedFor (Row n) q old new writer writer' before after ending
 
   -- The same of the request that a text is. Of a text that is none, and where memory was wanting before, nothing was
   -- done or written.
-  abbrev pub Carries : Report → List ℕ → Seen S → Seen S → W → W → Option (List ℕ) → Option (List ℕ) → Ending
+  abbrev pub Carries : Report → List ℕ → Seen S → Seen S → W → W → Option (List ℕ)
+      → Option (List ℕ) → Ending
       → Type 0
   Carries report text old new writer writer' before after ending =
       (IsWhyUnasked text ending × (new ≡ old) × (writer' ≡ writer))

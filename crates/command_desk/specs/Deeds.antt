@@ -42,7 +42,8 @@ module _ {S : Type 0} (g : Ghosts S) {W : Type 0} (old new : Seen S) (writer wri
       × LooksOver g strays old new writer writer' before after look ending)
 
   -- Who named a package had it looked at; of a word that names none, how it ends was answered before.
-  abbrev pub LooksNamed : W → Option (List ℕ) → Option Hint → PackageLook → Result (List ℕ) CommandEnding → Ending
+  abbrev pub LooksNamed : W → Option (List ℕ) → Option Hint → PackageLook → Result (List ℕ) CommandEnding
+      → Ending
       → Option Hint → Type 0
   LooksNamed mid between told what (Ok id) ending hint =
       LooksOver g 0 old new mid writer' between after (look_of what id) ending × (hint ≡ None)

@@ -20,7 +20,8 @@ stays_out kind gone i = kind_is kind (kind_of i.content) && not (contains (slice
 
 pub kept_kind : (kind : MovedKind) (qs : List Request) (items : List Item) (gone : BTreeSet (List ℕ)) (keeps : Bool)
     → ((id : List ℕ) → contains (slice_cmp nat_cmp) gone id ≡ is_among (ids_deleted qs) id)
-    → keeps ≡ nat_le (count_by (λ q. adds_kind kind q.command) qs + count_by (stays_out kind gone) items) greatest_items
+    → keeps ≡ nat_le (count_by (λ q. adds_kind kind q.command) qs + count_by (stays_out kind gone) items)
+    greatest_items
     → keeps ≡ nat_le (items_behind kind qs items) greatest_items
 kept_kind kind qs items gone keeps same told =
     told ∙ ap (λ n. nat_le (count_by (λ q. adds_kind kind q.command) qs + n) greatest_items)

@@ -1,5 +1,6 @@
 -- What was looked up of a list, one after the other.
-use Rattle.std.specs.Prelude.{◌≡◌, ◌&&◌, ◌||◌, ℕ, Bool, true, false, List, [], ◌∷◌, Option, Some, None, Result, Ok}
+use Rattle.std.specs.Prelude.{◌≡◌, ◌&&◌, ◌||◌, ℕ, Bool, true, false, List, [], ◌∷◌, Option}
+use Rattle.std.specs.Prelude.{Some, None, Result, Ok}
 use Rattle.std.specs.Prelude.{Err, IfOk, MatchOption, bytes_eq, is_some, length, refl}
 use Rattle.std.proofs.Common.{sym, ap, subst, ◌∙◌, inl, inr, ◌==◌, arith}
 use Rattle.std.specs.List.{list_any, AllByRecursion}
@@ -37,7 +38,8 @@ kept_takes w q e = ap (λ b. b && is_kept w q) (bytes_eq_itself q.id) ∙ e
 -- nothing stands against it: neither the identity that it adds, nor its own
 pub both_new : {E : Type 0} (P R : World → Type 0) (q : Request) (r : Result (Option Taken) E)
     → ((w : World) → P w → identity_used w q.command ≡ false) → ((w : World) → P w → R w)
-    → IfOk r (λ found. (w : World) → R w → MatchOption found (is_kept w q ≡ false) (λ t. takes w t q ≡ true))
+    → IfOk r (λ found. (w : World) → R w → MatchOption found (is_kept w q ≡ false)
+    (λ t. takes w t q ≡ true))
     → IfOk r (λ found. (w : World) → P w → MatchOption found (IsNewIn w q) (λ t. takes w t q ≡ true))
 both_new P R q (Ok None) unused so it = λ w stands. (unused w stands, it w (so w stands))
 both_new P R q (Ok (Some t)) unused so it = λ w stands. it w (so w stands)

@@ -1,5 +1,6 @@
 -- The identities of a list of requests: those so far, and one more.
-use Rattle.std.specs.Prelude.{◌≡◌, ◌+◌, ◌<◌, ℕ, suc, Bool, true, false, ◌||◌, List, [], ◌∷◌, ◌++◌, flat_map, length}
+use Rattle.std.specs.Prelude.{◌≡◌, ◌+◌, ◌<◌, ℕ, suc, Bool, true, false, ◌||◌, List, [], ◌∷◌}
+use Rattle.std.specs.Prelude.{◌++◌, flat_map, length}
 use Rattle.std.specs.Prelude.{take, bytes_eq, refl}
 use Rattle.std.proofs.Common.{sym, ap, subst, ◌∙◌, drop, get_or}
 use Rattle.std.specs.List.{list_any, AllByRecursion}
@@ -83,4 +84,5 @@ pub any_item : {X : Type 0} (p : X → Bool) (xs : List X) (i : ℕ) (x : X) →
     → p x ≡ true → list_any p xs ≡ true
 any_item p xs i x within is passes =
     ap (list_any p) (all_around xs i x within is) ∙ list_any-append p (take i xs) (x ∷ drop (suc i) xs)
-    ∙ ap (λ b. list_any p (take i xs) || (b || list_any p (drop (suc i) xs))) passes ∙ or-true (list_any p (take i xs))
+    ∙ ap (λ b. list_any p (take i xs) || (b || list_any p (drop (suc i) xs))) passes
+    ∙ or-true (list_any p (take i xs))

@@ -1,5 +1,6 @@
 -- What was asked for takes no package home, whatever a store told.
-use Rattle.std.specs.Prelude.{◌≡◌, ◌⊎◌, ℕ, Bool, List, [], ◌∷◌, ◌++◌, map, None, refl, Result, Ok, Err, IfOk}
+use Rattle.std.specs.Prelude.{◌≡◌, ◌⊎◌, ℕ, Bool, List, [], ◌∷◌, ◌++◌, map, None, refl, Result}
+use Rattle.std.specs.Prelude.{Ok, Err, IfOk}
 use Rattle.std.proofs.Common.{sym, subst, inl, inr}
 use Rattle.std.specs.List.{AllByRecursion}
 use Rattle.sheet_types.specs.declared.command.Command.{Command}
@@ -58,7 +59,8 @@ module _ (p : List ℕ) (number : ℕ) (moment : List ℕ) (items : List Item) (
       (All-map (λ (q : Request). child_returned q.command ≡ None) (request_of p number moment) (commands p it.parts)
       all)
 
-  of_lines : (lines : List ℕ) (x : Answer) → AnswersLines lines p number moment items linked more h x → AsksNoMerge x
+  of_lines : (lines : List ℕ) (x : Answer) → AnswersLines lines p number moment items linked more h x
+      → AsksNoMerge x
   of_lines lines (Asked requests) it = of_changes requests.items it.1
   of_lines lines NoSuchPackage it = tt
   of_lines lines NoList it = tt

@@ -1,5 +1,6 @@
 -- What was answered of what was read is so of each world that it was read of.
-use Rattle.std.proofs.Common.{◌≡◌, ◌∙◌, ◌==◌, ℕ, List, ◌∷◌, length, true, false, Some, None, Result, Ok, Err, IfOk}
+use Rattle.std.proofs.Common.{◌≡◌, ◌∙◌, ◌==◌, ℕ, List, ◌∷◌, length, true, false, Some, None}
+use Rattle.std.proofs.Common.{Result, Ok, Err, IfOk}
 use Rattle.std.proofs.Common.{unwrap_or, ap, sym, subst, inl, inr, arith}
 use Rattle.std.specs.Prelude.{Bool, Option, [], refl}
 use Rattle.std.proofs.lemmas.Bool.Decides.{nat_tests}
@@ -26,7 +27,8 @@ pair_held : (b : Bool) (held found : List Item × List Relation) → Some found 
 pair_held true held found e = ap (λ o. unwrap_or o held) e
 pair_held false held found e = absurd (cc)
 
-given_of : (w : World) (a : Ask) (n : ℕ) (f : Frame) (found : List Item × List Relation) (h : Held) (first x : Answer)
+given_of : (w : World) (a : Ask) (n : ℕ) (f : Frame) (found : List Item × List Relation) (h : Held)
+    (first x : Answer)
     → f ≡ w.frame → Some found ≡ holdings_answer w a.«package» → n ≡ ticket w a.«package»
     → AnswersGiven f a n found.0 found.1 h first → StaysFree w found.0 found.1 first x → AnswersFile w a h x
 given_of w a n f found h first x frame is number it stays =
@@ -43,10 +45,13 @@ given_of w a n f found h first x frame is number it stays =
 -- of the worlds before the holdings were read, and after
 pub told_given : {E : Type 0} (P R : World → Type 0) (a : Ask) (n : ℕ) (f : Frame) (items : List Item)
     (links : List Relation) (h : Held) (first : Answer) (r : Result Answer E)
-    → ((w : World) → P w → f ≡ w.frame) → ((w : World) → P w → Some (items, links) ≡ holdings_answer w a.«package»)
+    → ((w : World) → P w → f ≡ w.frame) → ((w : World) → P w
+    → Some (items, links) ≡ holdings_answer w a.«package»)
     → ((w : World) → P w → R w)
-    → AnswersGiven f a n items links h first → IfOk r (λ x. (w : World) → R w → StaysFree w items links first x)
-    → IfOk r (λ x. (w : World) → P w → is_live w a.«package» ≡ true → n ≡ ticket w a.«package» → AnswersFile w a h x)
+    → AnswersGiven f a n items links h first → IfOk r (λ x. (w : World) → R w
+    → StaysFree w items links first x)
+    → IfOk r (λ x. (w : World) → P w → is_live w a.«package» ≡ true → n ≡ ticket w a.«package»
+    → AnswersFile w a h x)
 told_given P R a n f items links h first (Ok x) frame found so given it = λ w stands live number.
     given_of w a n f (items, links) h first x (frame w stands) (found w stands) number given (it w (so w stands))
 told_given P R a n f items links h first (Err e) frame found so given it = tt
@@ -54,15 +59,18 @@ told_given P R a n f items links h first (Err e) frame found so given it = tt
 -- the same of the text that lists the file
 pub told_text : {E : Type 0} (P : World → Type 0) (a : Ask) (n : ℕ) (text : Option (List ℕ)) (h : Held)
     (r : Result Answer E)
-    → ((w : World) → P w → (is_live w a.«package» ≡ true) × (n ≡ ticket w a.«package»)) → AreHeldIn text (Some h)
-    → IfOk r (λ x. (w : World) → P w → is_live w a.«package» ≡ true → n ≡ ticket w a.«package» → AnswersFile w a h x)
+    → ((w : World) → P w → (is_live w a.«package» ≡ true) × (n ≡ ticket w a.«package»))
+    → AreHeldIn text (Some h)
+    → IfOk r (λ x. (w : World) → P w → is_live w a.«package» ≡ true → n ≡ ticket w a.«package»
+    → AnswersFile w a h x)
     → IfOk r (λ x. (w : World) → P w → AnswersText w a text x)
 told_text P a n text h (Ok x) some listed it = λ w stands. let seen =
     some w stands in inr (seen.0, inr (h, listed, it w stands seen.0 seen.1))
 told_text P a n text h (Err e) some listed it = tt
 
 -- where no line is due, what was answered is of the requests
-module _ (lines p : List ℕ) (number : ℕ) (moment : List ℕ) (items : List Item) (linked : List Relation) (more : Bool)
+module _ (lines p : List ℕ) (number : ℕ) (moment : List ℕ) (items : List Item) (linked : List Relation)
+    (more : Bool)
     (h : Held) (none : lines ≡ []) where
   by_none : (x : Answer) → AnswersBy p number moment items linked more h x
       → AnswersLines lines p number moment items linked more h x
@@ -92,7 +100,8 @@ told_heads f a n items links h (Ok x) none it = inr (none, it)
 told_heads f a n items links h (Err e) none it = tt
 
 -- a text of no bytes has no lines
-pub no_lines : (n : ℕ) (text lines : List ℕ) (b : Bool) → n ≡ length text → text ≡ lines → b ≡ (n == 0) → b ≡ true
+pub no_lines : (n : ℕ) (text lines : List ℕ) (b : Bool) → n ≡ length text → text ≡ lines
+    → b ≡ (n == 0) → b ≡ true
     → lines ≡ []
 no_lines n [] lines b long is said so = sym is
 no_lines n (x ∷ xs) lines b long is said so = absurd (grind (arith, nat_tests, long, said, so))

@@ -1,5 +1,6 @@
 -- What is answered of an edited file, for a package of a world. Profile.
-use Rattle.std.specs.Prelude.{◌≡◌, ◌⊎◌, ℕ, Bool, true, false, List, [], Option, Some, None, IfSome, string_bytes}
+use Rattle.std.specs.Prelude.{◌≡◌, ◌⊎◌, ℕ, Bool, true, false, List, [], Option, Some, None, IfSome}
+use Rattle.std.specs.Prelude.{string_bytes}
 use Rattle.std.specs.List.{AllByRecursion}
 use Rattle.sheet_types.specs.Custody.{ticket}
 use Rattle.sheet_types.specs.World.{World, holdings, is_live}
@@ -38,7 +39,8 @@ module _ (p : List ℕ) (number : ℕ) (moment : List ℕ) (items : List Item) (
   AnswersBy answer = ⊥
 
 -- The lines of what it cannot hold, if there are any; else as before.
-abbrev pub AnswersLines : List ℕ → List ℕ → ℕ → List ℕ → List Item → List Relation → Bool → Held → Answer → Type 0
+abbrev pub AnswersLines : List ℕ → List ℕ → ℕ → List ℕ → List Item → List Relation → Bool → Held
+    → Answer → Type 0
 AnswersLines lines p number moment items linked more h (Items text) = (string_bytes text ≡ lines) × ¬ (lines ≡ [])
 AnswersLines lines p number moment items linked more h answer = (lines ≡ [])
     × AnswersBy p number moment items linked more h answer
@@ -76,7 +78,8 @@ StaysFree w items linked first answer = answer ≡ first
 -- of a package of a world: what is answered of what it holds stays free
 abbrev pub AnswersFile : World → Ask → Held → Answer → Type 0
 AnswersFile w a h answer = (first : Answer)
-    × AnswersGiven w.frame a (ticket w a.«package») (holdings w a.«package»).items (holdings w a.«package»).links h
+    × AnswersGiven w.frame a (ticket w a.«package») (holdings w a.«package»).items
+    (holdings w a.«package»).links h
     first
     × StaysFree w (holdings w a.«package»).items (holdings w a.«package»).links first answer
 

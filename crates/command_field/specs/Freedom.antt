@@ -1,5 +1,6 @@
 -- What a list of requests asks for that is not free in a world. Profile.
-use Rattle.std.specs.Prelude.{◌≡◌, ◌⊎◌, ◌&&◌, ℕ, Bool, true, false, List, map, Option, None, MatchOption, bytes_eq}
+use Rattle.std.specs.Prelude.{◌≡◌, ◌⊎◌, ◌&&◌, ℕ, Bool, true, false, List, map, Option, None}
+use Rattle.std.specs.Prelude.{MatchOption, bytes_eq}
 use Rattle.std.specs.List.{list_any}
 use Rattle.sheet_types.specs.Custody.{is_used}
 use Rattle.sheet_types.specs.Ordered.{is_among}

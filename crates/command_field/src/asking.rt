@@ -229,7 +229,8 @@ pub fn answer_in<S: Alter + Drop>(
     number: u64,
     held: Held,
 ) -> Result<Answer, Fault>
-    ensures told { TellsOf S.Store (λ w answer. is_live w ask.now.package ≡ true → number ≡ ticket w ask.now.package
+    ensures told { TellsOf S.Store (λ w answer. is_live w ask.now.package ≡ true
+        → number ≡ ticket w ask.now.package
         → AnswersFile w ask.now held answer) world.old world.new result }
     ensures merges { IfOk result AsksNoMerge }
     ensures read { IsUntouched S.Store world.old world.new }

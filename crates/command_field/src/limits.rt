@@ -143,7 +143,8 @@ pub(crate) fn keeps_package(
     requests: &[Request],
     holdings: &Holdings<'_>,
 ) -> Result<bool, Fault>
-    ensures { IfOk result (λ keeps. keeps ≡ keeps_package requests.now holdings.now.items.now holdings.now.links.now) }
+    ensures { IfOk result (λ keeps. keeps ≡ keeps_package requests.now holdings.now.items.now
+        holdings.now.links.now) }
 {
     let gone = deleted_by(alloc, requests)?;
     let tiles = keeps_kind(requests, holdings.items, &gone, MovedKind::TileItem);

@@ -27,5 +27,6 @@ module _ {S : Type 0} (g : Ghosts S) where
 abbrev pub IsChosen : (List ℕ → Sight → Type 0) → List (List ℕ) → Chosen → Type 0
 IsChosen shown packages chosen =
     ((chosen.packages.items ≡ packages) × (chosen.left ≡ 0))
-    ⊎ ((sights : List Sight) × AllZip shown packages sights × (chosen.packages.items ≡ live_packages sights packages)
+    ⊎ ((sights : List Sight) × AllZip shown packages sights ×
+    (chosen.packages.items ≡ live_packages sights packages)
     × (length chosen.packages.items + chosen.left ≡ length packages))

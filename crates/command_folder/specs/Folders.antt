@@ -51,7 +51,8 @@ module _ {S : Type 0} (g : Ghosts S) where
 
   -- The folder was not opened, the program ends with that, and nothing was written; or its world was, and this was
   -- made of it.
-  abbrev pub OpensThen : {W : Type 0} → (OpenFault → Ending) → (Seen S → Seen S → Type 0) → W → W → Ending → Type 0
+  abbrev pub OpensThen : {W : Type 0} → (OpenFault → Ending) → (Seen S → Seen S → Type 0) → W → W
+      → Ending → Type 0
   OpensThen unopened Makes writer writer' ending =
       ((fault : OpenFault) × (ending ≡ unopened fault) × (writer' ≡ writer))
       ⊎ ((old new : Seen S) × IsFolderWorld old × Makes old new)

@@ -192,8 +192,8 @@ fn open_note(alloc: Global, fault: OpenFault) -> Result<String, AllocError>
 }
 
 /// What a person can be told of an ending beside its lines, without the end of a line: where the
-/// fault is, or what was refused. It goes to standard error, behind
-/// the line there. It is empty where nothing more is known.
+/// fault is, or what was refused. It goes to standard error, behind the line there. It is empty
+/// where nothing more is known.
 ///
 /// # Errors
 ///

@@ -48,7 +48,7 @@ pub(crate) enum Entry {
 }
 
 /// A word that is given by its place.
-fn placed<'a>(
+fn word_by_place<'a>(
     alloc: Global,
     id: &'static str,
     value: &'static str,
@@ -70,7 +70,7 @@ fn option<'a>(
     help: &'static str,
     is_required: bool,
 ) -> Arg<'a> {
-    placed(alloc, id, value, help, is_required).long(id)
+    word_by_place(alloc, id, value, help, is_required).long(id)
 }
 
 /// A word without a value.
@@ -102,13 +102,13 @@ fn instead<'a>(
 /// A word as `clap` takes it.
 fn arg_of<'a>(alloc: Global, word: Word) -> Result<Arg<'a>, AllocError> {
     match word {
-        Word::Place(id, value, help) => Ok(placed(alloc, id, value, help, true)),
-        Word::Last(id, value, help) => Ok(placed(alloc, id, value, help, false)),
+        Word::Place(id, value, help) => Ok(word_by_place(alloc, id, value, help, true)),
+        Word::Last(id, value, help) => Ok(word_by_place(alloc, id, value, help, false)),
         Word::LastOr(id, value, help, usual) => {
-            Ok(placed(alloc, id, value, help, false).default_value(usual))
+            Ok(word_by_place(alloc, id, value, help, false).default_value(usual))
         }
         Word::PlaceUnless(id, value, help, name) => {
-            placed(alloc, id, value, help, false).required_unless_present(name)
+            word_by_place(alloc, id, value, help, false).required_unless_present(name)
         }
         Word::Needed(id, value, help) => Ok(option(alloc, id, value, help, true)),
         Word::Value(id, value, help) => Ok(option(alloc, id, value, help, false)),

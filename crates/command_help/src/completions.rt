@@ -1,6 +1,7 @@
 //! What a shell needs to complete the words of the command line.
 
-/// A script for bash: `eval "$(sheetdesk completions bash)"`. It knows the verbs, their options, and the packages of a folder by the names of their files.
+/// A script for bash: `eval "$(sheetdesk completions bash)"`. It knows the verbs, their options,
+/// and the packages of a folder by the names of their files.
 pub const BASH: &str = "# Completes the words of sheetdesk:  eval \"$(sheetdesk completions bash)\"
 _sheetdesk_verbs='init put lend return join part drop apply import status log get explain receipt manifest export holds changes bring map report audit serve tidy rehearse session completions'
 

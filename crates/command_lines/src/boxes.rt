@@ -10,8 +10,7 @@ use sheet_types::frame::{Frame, Ground};
 use std::alloc::Global;
 
 /// The word for the least area of a zoom that covers a box; `None` where the frame has no such
-/// zoom, or does not have all of the box, or there is
-/// nothing of it.
+/// zoom, or does not have all of the box, or there is nothing of it.
 ///
 /// # Errors
 ///

@@ -14,8 +14,8 @@ use Rattle.views.specs.Contents.{Gets}
 use Rattle.views.specs.declared.endings.Ending.{Ending}
 
 module _ {S : Type 0} (g : Ghosts S) (word : Bor (List ℕ)) where
-  -- What the word names was printed; then the world was read, if at
-  -- all, and what comes nearest to the word is told, or nothing.
+  -- What the word names was printed; then the world was read, if at all, and what comes nearest to
+  -- the word is told, or nothing.
   pub record ShowsItem {W : Type 0} (old : Seen S) (stores : List (Held S)) (writer writer' : W)
       (before after : Option (List ℕ)) (ending : Ending) (hint : Option Hint) : Type 0 where
     pub mid : Seen S
@@ -27,8 +27,10 @@ module _ {S : Type 0} (g : Ghosts S) (word : Bor (List ℕ)) where
         → (hint ≡ None) ⊎ IsHintOf whose.Item w word hint
 
   -- The same of a world that stays.
-  abbrev pub TellsItem : {W : Type 0} → Seen S → Seen S → W → W → Option (List ℕ) → Option (List ℕ) → Ending
+  abbrev pub TellsItem : {W : Type 0} → Seen S → Seen S → W → W → Option (List ℕ) → Option (List ℕ)
+      → Ending
       → Option Hint → Type 0
   TellsItem old new writer writer' before after ending hint =
       (mid : Seen S) × Gets g word.now old mid writer writer' before after ending × IsUntouched g mid new
-      × (AllClean g new.members → (w : World) → StandsFor g mid w → (hint ≡ None) ⊎ IsHintOf whose.Item w word hint)
+      × (AllClean g new.members → (w : World) → StandsFor g mid w → (hint ≡ None)
+      ⊎ IsHintOf whose.Item w word hint)

@@ -18,7 +18,8 @@ use Rattle.command_named.specs.declared.packages.PackageLook.TheVariants as what
 
 module _ {S : Type 0} (g : Ghosts S) where
   -- what the word names is printed, and these stores are left of the world
-  abbrev pub NamedLooked : {W : Type 0} → Seen S → List (Held S) → W → W → Option (List ℕ) → Option (List ℕ)
+  abbrev pub NamedLooked : {W : Type 0} → Seen S → List (Held S) → W → W → Option (List ℕ)
+      → Option (List ℕ)
       → NamedLook → Ending → Option Hint → Type 0
   NamedLooked old stores writer writer' before after (Get word) ending hint =
       ShowsItem g word old stores writer writer' before after ending hint

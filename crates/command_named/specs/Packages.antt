@@ -32,8 +32,8 @@ look_of Export id = look.Export id
 
 module _ {S : Type 0} (g : Ghosts S) (what : PackageLook) (word : Bor (List ℕ)) (old : Seen S)
     (stores : List (Held S)) where
-  -- The one that was found is looked at; of two both are told; of
-  -- none it is told that there is none, and what comes nearest.
+  -- The one that was found is looked at; of two both are told; of none it is told that there is
+  -- none, and what comes nearest.
   abbrev pub ShowsFound : {W : Type 0} → Result Found Fault → W → W → Option (List ℕ) → Option (List ℕ)
       → Ending → Option Hint → Type 0
   ShowsFound (Ok (found.One id)) writer writer' before after ending hint =

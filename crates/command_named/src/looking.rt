@@ -31,8 +31,8 @@ pub enum NamedLook<'t> {
     Export(&'t str),
 }
 
-/// Prints what a word names in a world, whose stores are handed
-/// on. Where it names none, what comes nearest is told beside it.
+/// Prints what a word names in a world, whose stores are handed on. Where it names none, what comes
+/// nearest is told beside it.
 fn named_in<'t, S: Alter + Drop, W: Write>(
     alloc: Global,
     world: World<S>,

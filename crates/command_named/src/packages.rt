@@ -35,8 +35,8 @@ pub fn look_of<'t>(what: PackageLook, id: Uuid) -> Look<'t>
     }
 }
 
-/// Prints what is looked at of the package that was found. Of
-/// two both are told; of none what comes nearest is told beside.
+/// Prints what is looked at of the package that was found. Of two both are told; of none what comes
+/// nearest is told beside.
 fn show_found<'t, S: Alter + Drop, W: Write>(
     alloc: Global,
     world: World<S>,

@@ -1,6 +1,8 @@
 -- What is found among some UUIDs, and with one more.
-use Rattle.std.proofs.Common.{eqb-true, eq-eqb, ltb-true, ltb-false, append_assoc, ◌≡◌, ◌==◌, ◌&&◌, ◌<◌, ◌≤◌, ◌+◌}
-use Rattle.std.proofs.Common.{◌∙◌, ℕ, suc, Bool, true, false, cond, List, [], ◌∷◌, ◌++◌, length, refl, sym, ap, subst}
+use Rattle.std.proofs.Common.{eqb-true, eq-eqb, ltb-true, ltb-false, append_assoc, ◌≡◌, ◌==◌, ◌&&◌}
+use Rattle.std.proofs.Common.{◌<◌, ◌≤◌, ◌+◌}
+use Rattle.std.proofs.Common.{◌∙◌, ℕ, suc, Bool, true, false, cond, List, [], ◌∷◌, ◌++◌, length}
+use Rattle.std.proofs.Common.{refl, sym, ap, subst}
 use Rattle.std.proofs.Common.{arith, Option, Some, None, filter, map, take, get_or, nat_lt}
 use Rattle.std.specs.Char.{to_ascii_lowercase}
 use Rattle.std.specs.List.{AllByRecursion}
@@ -44,9 +46,11 @@ pub all_behind : (P : List ℕ → Type 0) (xs : List (List ℕ)) (x : List ℕ)
 all_behind P [] x all it = (it, tt)
 all_behind P (y ∷ ys) x all it = (all.0, all_behind P ys x all.1 it)
 
-filter_by : (p : List ℕ → Bool) (y : List ℕ) (ys : List (List ℕ)) (x : List ℕ) (more : List (List ℕ)) (v : Bool)
+filter_by : (p : List ℕ → Bool) (y : List ℕ) (ys : List (List ℕ)) (x : List ℕ) (more : List (List ℕ))
+    (v : Bool)
     → filter p (ys ++ (x ∷ [])) ≡ filter p ys ++ more
-    → cond v (y ∷ filter p (ys ++ (x ∷ []))) (filter p (ys ++ (x ∷ []))) ≡ cond v (y ∷ filter p ys) (filter p ys)
+    → cond v (y ∷ filter p (ys ++ (x ∷ []))) (filter p (ys ++ (x ∷ [])))
+    ≡ cond v (y ∷ filter p ys) (filter p ys)
     ++ more
 filter_by p y ys x more true e = ap (λ l. y ∷ l) e
 filter_by p y ys x more false e = e
@@ -71,7 +75,8 @@ left_behind p xs x is = left_out p xs x is ∙ append_none (filter p xs)
 
 -- ---- which comes nearest
 
-all_weaker : (P Q : List ℕ → Type 0) (xs : List (List ℕ)) → ((x : List ℕ) → P x → Q x) → AllByRecursion P xs
+all_weaker : (P Q : List ℕ → Type 0) (xs : List (List ℕ)) → ((x : List ℕ) → P x → Q x)
+    → AllByRecursion P xs
     → AllByRecursion Q xs
 all_weaker P Q [] so all = tt
 all_weaker P Q (x ∷ xs) so all = (so x all.0, all_weaker P Q xs so all.1)
@@ -97,7 +102,8 @@ none_still : (word : List ℕ) (before : List (List ℕ)) (id : List ℕ) → sh
     → IsNearest word before None → IsNearest word (before ++ (id ∷ [])) None
 none_still word before id few it = all_behind (λ i. shared_by word i ≡ 0) before id it (omega (arith, few))
 
-nearer_than_one : (word : List ℕ) (before : List (List ℕ)) (best id : List ℕ) → shared_by word best < shared_by word id
+nearer_than_one : (word : List ℕ) (before : List (List ℕ)) (best id : List ℕ)
+    → shared_by word best < shared_by word id
     → IsNearest word before (Some best) → IsNearest word (before ++ (id ∷ [])) (Some id)
 nearer_than_one word before best id more (front, back, e, some, fewer, no_more) =
     let below : List ℕ → Type 0 = λ i. shared_by word i < shared_by word id in
@@ -114,7 +120,8 @@ nearer_than_one word before best id more (front, back, e, some, fewer, no_more) 
       tt,
     )
 
-one_still : (word : List ℕ) (before : List (List ℕ)) (best id : List ℕ) → shared_by word id ≤ shared_by word best
+one_still : (word : List ℕ) (before : List (List ℕ)) (best id : List ℕ)
+    → shared_by word id ≤ shared_by word best
     → IsNearest word before (Some best) → IsNearest word (before ++ (id ∷ [])) (Some best)
 one_still word before best id few (front, back, e, some, fewer, no_more) = (
   front,
@@ -129,15 +136,21 @@ one_still word before best id few (front, back, e, some, fewer, no_more) = (
 
 named : (word : List ℕ) (before : List (List ℕ)) (f : Found) (id : List ℕ) → may_name word id ≡ true
     → IsFound word before f → IsFound word (before ++ (id ∷ [])) (named_too f id)
-named word before (Nearest near) id is it = kept_behind (may_name word) before id is ∙ ap (λ l. l ++ (id ∷ [])) it.0
-named word before (One first) id is it = ([], kept_behind (may_name word) before id is ∙ ap (λ l. l ++ (id ∷ [])) it)
+named word before (Nearest near) id is it = kept_behind (may_name word) before id is
+    ∙ ap (λ l. l ++ (id ∷ [])) it.0
+named word before (One first) id is it = (
+  [],
+  kept_behind (may_name word) before id is
+      ∙ ap (λ l. l ++ (id ∷ [])) it,
+)
 named word before (Two first second) id is (more, it) = (
   more ++ (id ∷ []),
   kept_behind (may_name word) before id is
       ∙ ap (λ l. l ++ (id ∷ [])) it,
 )
 
-unnamed : (word : List ℕ) (before : List (List ℕ)) (f : Found) (id : List ℕ) (v : Bool) → may_name word id ≡ false
+unnamed : (word : List ℕ) (before : List (List ℕ)) (f : Found) (id : List ℕ) (v : Bool)
+    → may_name word id ≡ false
     → is_nearer word f id ≡ v
     → IsFound word before f → IsFound word (before ++ (id ∷ [])) (cond v (Nearest (Some id)) f)
 unnamed word before (One first) id true left is it = absurd (cc)
@@ -166,7 +179,8 @@ unnamed word before (Nearest (Some best)) id false left is it = (
       (ltb-false (shared_by word best) (shared_by word id) is) it.1,
 )
 
-found_by : (word : List ℕ) (before : List (List ℕ)) (f : Found) (id : List ℕ) (v : Bool) → may_name word id ≡ v
+found_by : (word : List ℕ) (before : List (List ℕ)) (f : Found) (id : List ℕ) (v : Bool)
+    → may_name word id ≡ v
     → IsFound word before f → IsFound word (before ++ (id ∷ []))
     (cond v (named_too f id) (cond (is_nearer word f id) (Nearest (Some id)) f))
 found_by word before f id true is it = named word before f id is it

@@ -1,5 +1,6 @@
 -- Which words can begin the text of a UUID. Profile, over RFC 9562 (UUIDs).
-use Rattle.std.specs.Prelude.{◌+◌, ◌==◌, ◌&&◌, ◌||◌, [], ◌∷◌, ℕ, Bool, true, List, length, nat_le, nat_lt}
+use Rattle.std.specs.Prelude.{◌+◌, ◌==◌, ◌&&◌, ◌||◌, [], ◌∷◌, ℕ, Bool, true, List, length}
+use Rattle.std.specs.Prelude.{nat_le, nat_lt}
 use Rattle.std.specs.Prelude.{if◌then◌else◌}
 
 abbrev pub is_hex : ℕ → Bool

@@ -90,7 +90,8 @@ fn found_next(word: &str, found: Found, id: Uuid) -> Found
 
 /// What is found with one more UUID.
 pub fn found_with(word: &str, found: Found, id: Uuid) -> Found
-    ensures { (before : List (List ℕ)) → IsFound word.now before found → IsFound word.now (before ++ (id ∷ [])) result }
+    ensures { (before : List (List ℕ)) → IsFound word.now before found
+        → IsFound word.now (before ++ (id ∷ [])) result }
 {
     found_next(word, found, id)
 }

@@ -24,7 +24,8 @@ may_drop d h = d.ends_links || (length h.links.items == 0)
 module _ {S : Type 0} (g : Ghosts S) where
   -- An item that is held so stays for its links; or its requests are told, and the world stays; or they were carried
   -- out. The shelf had failed so often before and after.
-  abbrev pub DropsHeld : Dropping → List ℕ → Holding → Seen S → Seen S → DropOutcome → ℕ → ℕ → Type 0
+  abbrev pub DropsHeld : Dropping → List ℕ → Holding → Seen S → Seen S → DropOutcome → ℕ → ℕ
+      → Type 0
   DropsHeld d id h old new (Linked links) before after =
       (may_drop d h ≡ false) × (links.items ≡ h.links.items) × (new ≡ old)
   DropsHeld d id h old new (Planned requests) before after =

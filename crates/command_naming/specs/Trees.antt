@@ -28,7 +28,8 @@ module _ {S : Type 0} (g : Ghosts S) where
     pub items : List Item
     pub read : Seen S
     pub untouched : IsUntouched g old read
-    pub held : AllClean g read.members → (w : World) → StandsFor g old w → items ≡ (holdings w t.«package»).items
+    pub held : AllClean g read.members → (w : World) → StandsFor g old w
+        → items ≡ (holdings w t.«package»).items
     pub added : AddsFiles g t items files read new counts outcome
 
   -- The word names none of what was found; or it names this package.

@@ -123,8 +123,7 @@ fn drop_item<S: Alter + Drop, H: Shelf<S>, N: Identities>(
 }
 
 /// Drops the item that a word names, or shows how: its links are ended, and then it is deleted,
-/// each by a request of its own. One that has links
-/// stays, where these may not be ended.
+/// each by a request of its own. One that has links stays, where these may not be ended.
 ///
 /// # Errors
 ///

@@ -14,7 +14,8 @@ Agrees cause (Some fault) = read_fault cause ≡ fault
 
 -- the line that says why a text is no list
 abbrev pub IsListNote : List ℕ → Option ReadFault → List ℕ → Type 0
-IsListNote text told note = (cause : ListFault) × IsCause text cause × Agrees cause told × (note ≡ cause_text cause)
+IsListNote text told note = (cause : ListFault) × IsCause text cause × Agrees cause told
+    × (note ≡ cause_text cause)
 
 -- there is none: the text is a list, or it has another fault than was told
 abbrev pub HasNoNote : List ℕ → Option ReadFault → Type 0

@@ -64,11 +64,13 @@ module _ {S : Type 0} (g : Ghosts S) (b : BoxedLoan) (purpose : Purpose) where
       ⊎ (HasNoCover old new writer writer' before after ending hint ⊎ GaveOut old new writer writer' ending hint)
 
   -- The same of a world that ended with it, and of which these stores are left.
-  abbrev pub EndsBoxed : {W : Type 0} → Seen S → List (Held S) → W → W → Option (List ℕ) → Option (List ℕ)
+  abbrev pub EndsBoxed : {W : Type 0} → Seen S → List (Held S) → W → W → Option (List ℕ)
+      → Option (List ℕ)
       → Ending → Option Hint → Type 0
   EndsBoxed old stores writer writer' before after ending hint =
       (new : Seen S) × (stores ≡ held g new) × LendsBox old new writer writer' before after ending hint
 
-  abbrev pub LendsBoxed : {W : Type 0} → W → W → Option (List ℕ) → Option (List ℕ) → Ending → Option Hint → Type 0
+  abbrev pub LendsBoxed : {W : Type 0} → W → W → Option (List ℕ) → Option (List ℕ) → Ending
+      → Option Hint → Type 0
   LendsBoxed writer writer' before after ending hint =
       OpensHinting g (λ old new. LendsBox old new writer writer' before after ending hint) writer writer' ending hint

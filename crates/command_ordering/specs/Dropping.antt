@@ -58,11 +58,13 @@ module _ {S : Type 0} (g : Ghosts S) (d : Dropping) where
     pub hinted : hint ≡ drop_hint d outcome
 
   -- The same of a world that ended with it, and of which these stores are left.
-  abbrev pub EndsDrop : {W : Type 0} → Seen S → List (Held S) → W → W → Option (List ℕ) → Option (List ℕ)
+  abbrev pub EndsDrop : {W : Type 0} → Seen S → List (Held S) → W → W → Option (List ℕ)
+      → Option (List ℕ)
       → Ending → Option Hint → Type 0
   EndsDrop old stores writer writer' before after ending hint =
       (new : Seen S) × (stores ≡ held g new) × DropsIn old new writer writer' before after ending hint
 
-  abbrev pub DropsFor : {W : Type 0} → W → W → Option (List ℕ) → Option (List ℕ) → Ending → Option Hint → Type 0
+  abbrev pub DropsFor : {W : Type 0} → W → W → Option (List ℕ) → Option (List ℕ) → Ending
+      → Option Hint → Type 0
   DropsFor writer writer' before after ending hint =
       OpensHinting g (λ old new. DropsIn old new writer writer' before after ending hint) writer writer' ending hint

@@ -10,7 +10,8 @@ use Rattle.command_names.specs.declared.hints.Hint.{Hint}
 
 module _ {S : Type 0} (g : Ghosts S) where
   -- The folder was not opened, and nothing was written or told; or its world was, and this was made of it.
-  abbrev pub OpensHinting : {W : Type 0} → (Seen S → Seen S → Type 0) → W → W → Ending → Option Hint → Type 0
+  abbrev pub OpensHinting : {W : Type 0} → (Seen S → Seen S → Type 0) → W → W → Ending → Option Hint
+      → Type 0
   OpensHinting Makes writer writer' ending hint =
       ((fault : OpenFault) × (ending ≡ Unopened fault) × (hint ≡ None) × (writer' ≡ writer))
       ⊎ ((old new : Seen S) × IsFolderWorld g old × Makes old new)

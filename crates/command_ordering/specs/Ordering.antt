@@ -15,21 +15,24 @@ use Rattle.commands.specs.declared.ordering.Purpose.{Purpose}
 use Rattle.command_ordering.specs.Folders.{OpensHinting}
 
 module _ {S : Type 0} (g : Ghosts S) (text : Option (List ℕ)) (o : Order) (purpose : Purpose) where
-  -- An order was done; then the world was read, if at all, and
-  -- what comes nearest to a word of the verb is told, or nothing.
+  -- An order was done; then the world was read, if at all, and what comes nearest to a word of the
+  -- verb is told, or nothing.
   pub record HintsOrder {W : Type 0} (old new : Seen S) (writer writer' : W) (before after : Option (List ℕ))
       (ending : Ending) (hint : Option Hint) : Type 0 where
     pub mid : Seen S
     pub ordered : Orders g writer writer' before after text o purpose old mid ending
     pub read : IsUntouched g mid new
-    pub told : AllClean g new.members → (w : World) → StandsFor g mid w → (hint ≡ None) ⊎ IsVerbHint w o.verb hint
+    pub told : AllClean g new.members → (w : World) → StandsFor g mid w → (hint ≡ None)
+        ⊎ IsVerbHint w o.verb hint
 
   -- The same of a world that ended with it, and of which these stores are left.
-  abbrev pub EndsHinted : {W : Type 0} → Seen S → List (Held S) → W → W → Option (List ℕ) → Option (List ℕ)
+  abbrev pub EndsHinted : {W : Type 0} → Seen S → List (Held S) → W → W → Option (List ℕ)
+      → Option (List ℕ)
       → Ending → Option Hint → Type 0
   EndsHinted old stores writer writer' before after ending hint =
       (new : Seen S) × (stores ≡ held g new) × HintsOrder old new writer writer' before after ending hint
 
-  abbrev pub OrdersHinted : {W : Type 0} → W → W → Option (List ℕ) → Option (List ℕ) → Ending → Option Hint → Type 0
+  abbrev pub OrdersHinted : {W : Type 0} → W → W → Option (List ℕ) → Option (List ℕ) → Ending
+      → Option Hint → Type 0
   OrdersHinted writer writer' before after ending hint =
       OpensHinting g (λ old new. HintsOrder old new writer writer' before after ending hint) writer writer' ending hint

@@ -59,8 +59,8 @@ module _ {W : Type 0} (contents : W → Option (List ℕ)) where
 
 module _ {S : Type 0} (g : Ghosts S) (words : TreeWords) (files : List Place) {W : Type 0}
     (contents : W → Option (List ℕ)) where
-  -- The tiles were added, all or those before a fault; where a
-  -- store or memory gave out before, the world was only read.
+  -- The tiles were added, all or those before a fault; where a store or memory gave out before, the
+  -- world was only read.
   pub record PutsIn (old new : Seen S) (writer writer' : W) (ending : Ending) (hint : Option Hint) : Type 0 where
     pub outcome : Result TreeOutcome Fault
     pub made : MatchResult outcome (AddsNamed g words files old new) (λ fault. IsUntouched g old new)

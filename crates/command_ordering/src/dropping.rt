@@ -119,8 +119,8 @@ fn tell_outcome<W: Write>(
     }
 }
 
-/// Drops the item of a world that a word names, and writes what came
-/// of it. Where it names none, what comes nearest is told beside it.
+/// Drops the item of a world that a word names, and writes what came of it. Where it names none,
+/// what comes nearest is told beside it.
 pub fn drop_in<'t, S: Alter + Drop, H: Shelf<S>, N: Identities, W: Write>(
     alloc: Global,
     world: &mut World<S>,

@@ -44,8 +44,8 @@ fn hint_after<'t, S: Alter + Drop>(
     }
 }
 
-/// Does an order in a world, as `order_in` does. Where the words say
-/// no request, what comes nearest to one of them is told beside it.
+/// Does an order in a world, as `order_in` does. Where the words say no request, what comes nearest
+/// to one of them is told beside it.
 pub fn hint_order_in<'t, S: Alter + Drop, H: Shelf<S>, R: Read + Drop, W: Write>(
     alloc: Global,
     world: &mut World<S>,

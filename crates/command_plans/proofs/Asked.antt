@@ -1,5 +1,6 @@
 -- One more request behind others.
-use Rattle.std.proofs.Common.{◌≡◌, ◌∙◌, ◌<◌, ◌+◌, ◌++◌, ◌∷◌, [], ℕ, List, ap, sym, subst, length, take, get_or, map}
+use Rattle.std.proofs.Common.{◌≡◌, ◌∙◌, ◌<◌, ◌+◌, ◌++◌, ◌∷◌, [], ℕ, List, ap, sym}
+use Rattle.std.proofs.Common.{subst, length, take, get_or, map}
 use Rattle.std.proofs.lemmas.List.{map-append, take_more}
 use Rattle.sheet_types.proofs.Every.{All-append}
 use Rattle.sheet_types.specs.declared.command.Command.{Command}

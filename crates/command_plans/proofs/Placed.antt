@@ -29,5 +29,6 @@ few : (tiles row height : ℤ) → row <ℤ height → tiles ≡ height → row 
 few tiles row height less is = subst (λ t. row <ℤ t) (sym is) less
 
 pub on_axis : (f : Frame) (zoom row tiles : ℤ) → IsPlaced f zoom row → tiles ≡ height_at f (level_of f zoom)
-    → (pos 1 ≤ℤ tiles) × (tiles ≤ℤ pos 2000000000000) → (pos 0 ≤ℤ row) × (row <ℤ tiles) × (tiles ≤ℤ pos 2000000000000)
+    → (pos 1 ≤ℤ tiles) × (tiles ≤ℤ pos 2000000000000) → (pos 0 ≤ℤ row) × (row <ℤ tiles)
+    × (tiles ≤ℤ pos 2000000000000)
 on_axis f zoom row tiles it is range = (it.from_top, few tiles row _ it.to_bottom is, range.1)

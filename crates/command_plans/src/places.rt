@@ -1,5 +1,6 @@
 //! Where the tiles of a tree of files lie.
-ghost use Rattle.std.specs.Prelude.{◌≡◌, false, true, pos, ◌+ℤ◌, ◌≤ℤ◌, ◌<ℤ◌, IfSome, IfNone, IsTrue};
+ghost use Rattle.std.specs.Prelude.{◌≡◌, false, true, pos, ◌+ℤ◌, ◌≤ℤ◌, ◌<ℤ◌, IfSome, IfNone};
+ghost use Rattle.std.specs.Prelude.{IsTrue};
 ghost use Rattle.std.specs.List.{list_any};
 ghost use Rattle.sheet_types.specs.Matrix.{has_place, height_at, is_good_frame, level_of};
 ghost use Rattle.command_plans.specs.Places.{IsPlaceOf, has_row, is_tile, is_tile_item};
@@ -24,7 +25,8 @@ fn mirror_row(rows: i64, row: i64) -> i64
 /// or the zoom no such row.
 fn turned_row(frame: &Frame, zoom: i64, row: i64) -> Option<i64>
     requires { IsTrue (is_good_frame frame.now) }
-    ensures some { IfSome result (λ other. ((other +ℤ row) +ℤ pos 1) ≡ height_at frame.now (level_of frame.now zoom)) }
+    ensures some { IfSome result (λ other. ((other +ℤ row) +ℤ pos 1)
+        ≡ height_at frame.now (level_of frame.now zoom)) }
     ensures none { IfNone result (has_place frame.now zoom (pos 0) row ≡ false) }
 {
     if !has_place(frame, zoom, 0, row) {

@@ -1,5 +1,6 @@
 -- What words say over what was looked up, they say over the world.
-use Rattle.std.proofs.Common.{◌≡◌, ◌∙◌, ℕ, List, Bool, true, refl, sym, ap, subst, map, Result, Ok, Err, MatchResult}
+use Rattle.std.proofs.Common.{◌≡◌, ◌∙◌, ℕ, List, Bool, true, refl, sym, ap, subst, map, Result, Ok, Err}
+use Rattle.std.proofs.Common.{MatchResult}
 use Rattle.std.proofs.Common.{IfOk, Some}
 use Rattle.std.specs.Prelude.{flat_map}
 use Rattle.sheet_types.specs.Answers.{PackageSight as ModelSight, holdings_answer, package_sights}
@@ -26,14 +27,17 @@ use Rattle.command_requests.proofs.Listed.{all_items, as_listed, items_found}
 
 -- ---- what was listed
 
-pub packages_listed : {X E : Type 0} (P : World → Type 0) (items : X → List PackageEntry) (sights : List PackageSight)
+pub packages_listed : {X E : Type 0} (P : World → Type 0) (items : X → List PackageEntry)
+    (sights : List PackageSight)
     (r : Result X E)
-    → ((w : World) → P w → map sight_of sights ≡ package_sights w) → IfOk r (λ x. items x ≡ map entry_of sights)
+    → ((w : World) → P w → map sight_of sights ≡ package_sights w)
+    → IfOk r (λ x. items x ≡ map entry_of sights)
     → IfOk r (λ x. (w : World) → P w → map sight (items x) ≡ package_sights w)
 packages_listed P items sights (Ok x) are is = λ w stands. ap (map sight) is ∙ as_listed sights ∙ are w stands
 packages_listed P items sights (Err e) are is = tt
 
-pub items_listed : {X E : Type 0} (P : World → Type 0) (entries : X → List ItemEntry) (p : List ℕ) (items : List Item)
+pub items_listed : {X E : Type 0} (P : World → Type 0) (entries : X → List ItemEntry) (p : List ℕ)
+    (items : List Item)
     (links : List Relation) (r : Result X E)
     → ((w : World) → P w → Some (items, links) ≡ holdings_answer w p)
     → IfOk r (λ x. entries x ≡ map (item_entry p) items)
@@ -45,7 +49,8 @@ items_listed P entries p items links (Err e) found is = tt
 -- ---- items count only where the words name them
 
 says_over : (sights : List ModelSight) (some all : List ItemEntry) (v : Verb) (bytes : List ℕ) (command : Command)
-    → (names_items v ≡ true → some ≡ all) → Says sights some v bytes command → Says sights all v bytes command
+    → (names_items v ≡ true → some ≡ all) → Says sights some v bytes command
+    → Says sights all v bytes command
 says_over sights some all (Lend from area mode loan) bytes command same it = it
 says_over sights some all (Return loan) bytes command same it = it
 says_over sights some all (PutTile holder place identity) bytes command same it = it
@@ -57,7 +62,8 @@ says_over sights some all (Part first second) bytes command same it =
     subst (λ l. Says sights l (Part first second) bytes command) (same refl) it
 
 unsaid_over : (sights : List ModelSight) (some all : List ItemEntry) (v : Verb) (bytes : List ℕ) (fault : VerbFault)
-    → (names_items v ≡ true → some ≡ all) → IsWhyUnsaid sights some v bytes fault → IsWhyUnsaid sights all v bytes fault
+    → (names_items v ≡ true → some ≡ all) → IsWhyUnsaid sights some v bytes fault
+    → IsWhyUnsaid sights all v bytes fault
 unsaid_over sights some all (Lend from area mode loan) bytes fault same it = it
 unsaid_over sights some all (Return loan) bytes fault same it = it
 unsaid_over sights some all (PutTile holder place identity) bytes fault same it = it

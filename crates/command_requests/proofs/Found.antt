@@ -17,6 +17,7 @@ module _ {S : Type 0} (g : Ghosts S) (seen : Seen S) (e : ItemEntry) (items : Li
       → ((w : World) → StandsFor g seen w → Some (items, links) ≡ holdings_answer w e.holder)
       → IfOk r (λ x. IsDataOf (entry (λ (i : Item). i.identity) e.identity items) (bytes x))
       → IfOk r (λ x. (w : World) → StandsFor g seen w → IsListedData w e (bytes x))
-  data_held bytes (Ok x) found it = λ w stands. subst (λ is. IsDataOf (entry (λ (i : Item). i.identity) e.identity is)
+  data_held bytes (Ok x) found it = λ w stands. subst (λ is. IsDataOf
+      (entry (λ (i : Item). i.identity) e.identity is)
       (bytes x)) (held_items w e.holder items links (found w stands)) it
   data_held bytes (Err fault) found it = tt

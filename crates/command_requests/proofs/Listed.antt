@@ -1,5 +1,6 @@
 -- What is listed of packages and of their items, one after the other.
-use Rattle.std.proofs.Common.{◌≡◌, ◌∙◌, ◌<◌, ◌+◌, ◌++◌, ◌∷◌, [], ℕ, List, Some, unwrap_or, Bool, true, false, refl}
+use Rattle.std.proofs.Common.{◌≡◌, ◌∙◌, ◌<◌, ◌+◌, ◌++◌, ◌∷◌, [], ℕ, List, Some}
+use Rattle.std.proofs.Common.{unwrap_or, Bool, true, false, refl}
 use Rattle.std.proofs.Common.{ap, sym, length, take, get_or, map}
 use Rattle.std.specs.Bool.{then_some}
 use Rattle.std.specs.Prelude.{flat_map}
@@ -39,7 +40,8 @@ pub items_found : (w : World) (p : List ℕ) (items : List Item) (links : List R
 items_found w p items links entries found is =
     is ∙ ap (map (item_entry p)) (held_items w p items links found)
 
-flat_behind : {X Y : Type 0} (f : X → List Y) (xs : List X) (x : X) → flat_map f (xs ++ x ∷ []) ≡ flat_map f xs ++ f x
+flat_behind : {X Y : Type 0} (f : X → List Y) (xs : List X) (x : X)
+    → flat_map f (xs ++ x ∷ []) ≡ flat_map f xs ++ f x
 flat_behind f xs x = flat_map-append f xs (x ∷ []) ∙ ap (λ l. flat_map f xs ++ l) (append-nil (f x))
 
 -- ---- up to a place of a list
@@ -51,7 +53,8 @@ map_more f xs i x so_far within is e =
     ap (λ l. l ++ f x ∷ []) e ∙ sym (map-append f (take i xs) (x ∷ []))
     ∙ ap (map f) (ap (λ z. take i xs ++ z ∷ []) is ∙ sym (take_more xs i x within))
 
-pub flat_more : {X Y : Type 0} (f : X → List Y) (xs : List X) (i : ℕ) (x : X) (so_far more : List Y) → i < length xs
+pub flat_more : {X Y : Type 0} (f : X → List Y) (xs : List X) (i : ℕ) (x : X) (so_far more : List Y)
+    → i < length xs
     → x ≡ get_or xs i x
     → so_far ≡ flat_map f (take i xs) → more ≡ f x → so_far ++ more ≡ flat_map f (take (i + 1) xs)
 flat_more f xs i x so_far more within is e here =
@@ -67,5 +70,6 @@ flat_listed w (e ∷ entries) = ap (λ l. items_under w e.uuid ++ l) (flat_liste
 pub all_items : (w : World) (entries : List PackageEntry) (items : List ItemEntry)
     → map sight entries ≡ package_sights w
     → items ≡ flat_map (λ p. items_under w p.uuid) entries → items ≡ world_items w
-all_items w entries items are e = e ∙ flat_listed w entries ∙ ap (flat_map (λ (s : ModelSight). items_under w s.uuid))
+all_items w entries items are e = e ∙ flat_listed w entries ∙ ap
+    (flat_map (λ (s : ModelSight). items_under w s.uuid))
     are

@@ -26,7 +26,8 @@ flat_listed w (e ∷ entries) = ap (λ l. identities_under w e.uuid ++ l) (flat_
 pub all_identities : (w : World) (entries : List PackageEntry) → map sight entries ≡ package_sights w
     → flat_map (λ (p : PackageEntry). identities_under w p.uuid) entries
     ≡ flat_map (λ (s : ModelSight). identities_under w s.uuid) (package_sights w)
-all_identities w entries are = flat_listed w entries ∙ ap (flat_map (λ (s : ModelSight). identities_under w s.uuid)) are
+all_identities w entries are = flat_listed w entries ∙ ap (flat_map
+    (λ (s : ModelSight). identities_under w s.uuid)) are
 
 -- the items that were found are those of the package
 pub identities_found : (w : World) (p : List ℕ) (items : List Item) (links : List Relation)

@@ -80,7 +80,8 @@ fn either_hint<'t, S: Alter + Drop>(
     first: &'t str,
     second: &'t str,
 ) -> Result<Option<Hint<'t>>, Fault>
-    ensures told { TellsOf S.Store (λ w hint. IsEitherHint w first.entry second.entry hint) world.old world.new result }
+    ensures told { TellsOf S.Store (λ w hint. IsEitherHint w first.entry second.entry hint) world.old world.new
+        result }
     ensures read { IsUntouched S.Store world.old world.new }
 {
     let found = found_item(alloc, world, first)?;

@@ -1,5 +1,6 @@
 -- Files that were taken out, one after the other.
-use Rattle.std.proofs.Common.{◌≡◌, ◌∙◌, ◌∷◌, [], ◌++◌, ℕ, List, Result, Ok, Err, IsErr, refl, sym, ap, subst, inl}
+use Rattle.std.proofs.Common.{◌≡◌, ◌∙◌, ◌∷◌, [], ◌++◌, ℕ, List, Result, Ok, Err, IsErr, refl}
+use Rattle.std.proofs.Common.{sym, ap, subst, inl}
 use Rattle.std.proofs.Common.{inr, map}
 use Rattle.std.specs.Prelude.{OnErr, OnOk, String, string_bytes}
 use Rattle.std.proofs.lemmas.List.{map-append}

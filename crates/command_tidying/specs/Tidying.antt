@@ -1,5 +1,6 @@
 -- Which files are taken out of a folder that is made tidy, and what is told of them. Profile.
-use Rattle.std.specs.Prelude.{◌≡◌, ◌⊎◌, ◌++◌, ℕ, true, All, List, [], ◌∷◌, map, Option, Some, None, Result, Ok, Err}
+use Rattle.std.specs.Prelude.{◌≡◌, ◌⊎◌, ◌++◌, ℕ, true, All, List, [], ◌∷◌, map, Option, Some}
+use Rattle.std.specs.Prelude.{None, Result, Ok, Err}
 use Rattle.std.specs.Prelude.{String, string_bytes}
 use Rattle.opening_verdict.specs.declared.seen.StoreSeen.{StoreSeen}
 use Rattle.opening_strays.specs.Spent.{is_spent}
@@ -48,7 +49,8 @@ module _ {Y : Type 0} (Listed : List ℕ → Type 0) (Shown : List ℕ → Store
       ⊎ ((name : List ℕ) × TakesOut register (names ++ name ∷ []) old new)
 
   -- Where the names that are noted were taken out since some state, those that are noted then are too.
-  abbrev pub TakesOn : {Z E : Type 0} → Register → List (String Z) → List (String Z) → Y → Y → Result (Unit {0}) E
+  abbrev pub TakesOn : {Z E : Type 0} → Register → List (String Z) → List (String Z) → Y → Y
+      → Result (Unit {0}) E
       → Type 0
   TakesOn register names names' old new r =
       (start : Y) → TakesOut register (map string_bytes names) start old

@@ -16,8 +16,8 @@ pub trait Yard {
     ghost shown: { List ℕ → StoreSeen → Type 0 };
 
     /// The file of this name was taken out of the folder between these two states, if it was there,
-    /// and no other was. Who takes files out by
-    /// this trait alone can show it of a name by such a call, and by nothing else.
+    /// and no other was. Who takes files out by this trait alone can show it of a name by such a
+    /// call, and by nothing else.
     ghost removes: { List ℕ → Self → Self → Type 0 };
 
     /// The names in the folder.

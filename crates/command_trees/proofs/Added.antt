@@ -1,5 +1,6 @@
 -- One more file behind others.
-use Rattle.std.proofs.Common.{◌≡◌, ◌∙◌, ◌<◌, ◌≤◌, ◌+◌, ◌++◌, ◌∷◌, [], ℕ, suc, List, Bool, true, false, not, Ok, Err}
+use Rattle.std.proofs.Common.{◌≡◌, ◌∙◌, ◌<◌, ◌≤◌, ◌+◌, ◌++◌, ◌∷◌, [], ℕ, suc}
+use Rattle.std.proofs.Common.{List, Bool, true, false, not, Ok, Err}
 use Rattle.std.proofs.Common.{ap, arith, cond, refl, sym, subst, length, take, drop, drop-cons, get_or}
 use Rattle.std.specs.Prelude.{count_by}
 use Rattle.std.proofs.lemmas.List.{take-append-drop, take_all, take_more}
@@ -21,17 +22,20 @@ one_more : (p : Bool → Bool) (told : List Bool) (b : Bool) → count_by p (tol
     ≡ count_by p told + count_by p (b ∷ [])
 one_more p told b = sum_by-append (λ x. cond (p x) 1 0) told (b ∷ [])
 
-pub counted_new : (told : List Bool) (added passed : ℕ) → AreCounted told (record { added = added; passed = passed })
+pub counted_new : (told : List Bool) (added passed : ℕ) → AreCounted told
+    (record { added = added; passed = passed })
     → AreCounted (told ++ true ∷ []) (record { added = added + 1; passed = passed })
 counted_new told added passed it =
     let new : count_by (λ b. b) (told ++ true ∷ []) ≡ count_by (λ b. b) told + 1 = one_more (λ b. b) told true in
     let old : count_by not (told ++ true ∷ []) ≡ count_by not told + 0 = one_more not told true in
     (omega (arith, it.0, new), omega (arith, it.1, old))
 
-pub counted_old : (told : List Bool) (added passed : ℕ) → AreCounted told (record { added = added; passed = passed })
+pub counted_old : (told : List Bool) (added passed : ℕ) → AreCounted told
+    (record { added = added; passed = passed })
     → AreCounted (told ++ false ∷ []) (record { added = added; passed = passed + 1 })
 counted_old told added passed it =
-    let new : count_by (λ b. b) (told ++ false ∷ []) ≡ count_by (λ b. b) told + 0 = one_more (λ b. b) told false in
+    let new : count_by (λ b. b) (told ++ false ∷ []) ≡ count_by (λ b. b) told + 0 =
+    one_more (λ b. b) told false in
     let old : count_by not (told ++ false ∷ []) ≡ count_by not told + 1 = one_more not told false in
     (omega (arith, it.0, new), omega (arith, it.1, old))
 

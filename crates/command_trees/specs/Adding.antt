@@ -1,5 +1,6 @@
 -- What is made of a world by adding the tiles of a tree of files. Profile.
-use Rattle.std.specs.Prelude.{◌≡◌, ◌⊎◌, ◌++◌, ◌∷◌, [], ℕ, Bool, true, false, not, count_by, List, Result, Ok, Err}
+use Rattle.std.specs.Prelude.{◌≡◌, ◌⊎◌, ◌++◌, ◌∷◌, [], ℕ, Bool, true, false, not, count_by}
+use Rattle.std.specs.Prelude.{List, Result, Ok, Err}
 use Rattle.std.specs.List.{list_any}
 use Rattle.sqlite.specs.Store.{Ghosts}
 use Rattle.sheet_types.specs.declared.command.Command.TheVariants.{Add}
@@ -48,9 +49,11 @@ module _ {S : Type 0} (g : Ghosts S) where
 
   -- The tile of a file lies where its name says. It is there with these bytes, and nothing is done; or it is added,
   -- or refused.
-  abbrev pub AddsBytes : Target → List Item → Place → List ℕ → Seen S → Seen S → Result Bool AddFault → Type 0
+  abbrev pub AddsBytes : Target → List Item → Place → List ℕ → Seen S → Seen S → Result Bool AddFault
+      → Type 0
   AddsBytes t items file bytes old new (Ok false) =
-      (place : Place) × IsPlaceOf old.frame t.is_upward file place × (is_there items place bytes ≡ true) × (new ≡ old)
+      (place : Place) × IsPlaceOf old.frame t.is_upward file place × (is_there items place bytes ≡ true)
+      × (new ≡ old)
   AddsBytes t items file bytes old new (Ok true) =
       (place : Place) × IsPlaceOf old.frame t.is_upward file place × (is_there items place bytes ≡ false)
       × AddsTile t place bytes old new (Ok tt)
@@ -64,7 +67,8 @@ module _ {S : Type 0} (g : Ghosts S) where
   -- the same of some bytes; or there were none, and nothing was done
   pub record AddsFile (t : Target) (items : List Item) (file : Place) (old new : Seen S)
       (result : Result Bool AddFault) : Type 0 where
-    pub came : ((result ≡ Err Unread) × (new ≡ old)) ⊎ ((bytes : List ℕ) × AddsBytes t items file bytes old new result)
+    pub came : ((result ≡ Err Unread) × (new ≡ old)) ⊎ ((bytes : List ℕ)
+        × AddsBytes t items file bytes old new result)
 
   -- Files one after the other, each in the world that the one before left; of each it is told whether its tile was
   -- added.
@@ -76,9 +80,11 @@ module _ {S : Type 0} (g : Ghosts S) where
   AreAdded t items (file ∷ files) [] old new = ⊥
 
   -- All of them were; or those before the first fault, which ended it.
-  abbrev pub AddsFiles : Target → List Item → List Place → Seen S → Seen S → Counts → Result Unit AddFault → Type 0
+  abbrev pub AddsFiles : Target → List Item → List Place → Seen S → Seen S → Counts → Result Unit AddFault
+      → Type 0
   AddsFiles t items files old new counts (Ok done) =
       (told : List Bool) × AreAdded t items files told old new × AreCounted told counts
   AddsFiles t items files old new counts (Err fault) =
-      (told : List Bool) × (front rest : List Place) × (at : Place) × (mid : Seen S) × (files ≡ front ++ (at ∷ rest))
+      (told : List Bool) × (front rest : List Place) × (at : Place) × (mid : Seen S)
+      × (files ≡ front ++ (at ∷ rest))
       × AreAdded t items front told old mid × AreCounted told counts × AddsFile t items at mid new (Err fault)

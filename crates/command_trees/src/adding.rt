@@ -177,8 +177,7 @@ fn count_file(counts: Counts, is_new: bool) -> Counts
 }
 
 /// Adds the tiles of files, in turn, to a package that held these items. Those that are there with
-/// the same content are passed over. What was
-/// done up to a fault stands, and is counted.
+/// the same content are passed over. What was done up to a fault stands, and is counted.
 pub fn add_files<S: Alter + Drop, H: Shelf<S>, N: Identities, F: Sheets>(
     alloc: Global,
     world: &mut World<S>,

@@ -1,12 +1,14 @@
 -- A text that is cut at the first of a byte.
-use Rattle.std.proofs.Common.{eqb-true, ◌≡◌, ◌==◌, ◌<◌, ◌+◌, ◌∙◌, ℕ, suc, Bool, true, false, not, cond, List, [], ◌∷◌}
+use Rattle.std.proofs.Common.{eqb-true, ◌≡◌, ◌==◌, ◌<◌, ◌+◌, ◌∙◌, ℕ, suc, Bool, true, false}
+use Rattle.std.proofs.Common.{not, cond, List, [], ◌∷◌}
 use Rattle.std.proofs.Common.{◌++◌, length, take, drop, refl, sym, ap, subst, arith, Option, Some, None, IfNone}
 use Rattle.std.proofs.Common.{IfSome, MatchOption, Bor}
 use Rattle.std.specs.List.{position_or_len, before_first, after_first}
 use Rattle.command_verbs.specs.Areas.{IsCut, Lacks}
 
 -- the place of the first, by whether it is the first of all
-place_first : (mark x : ℕ) (xs : List ℕ) → (x == mark) ≡ true → position_or_len (λ b. b == mark) (x ∷ xs) ≡ 0
+place_first : (mark x : ℕ) (xs : List ℕ) → (x == mark) ≡ true
+    → position_or_len (λ b. b == mark) (x ∷ xs) ≡ 0
 place_first mark x xs e = rw e refl
 
 place_later : (mark x : ℕ) (xs : List ℕ) → (x == mark) ≡ false
@@ -20,7 +22,8 @@ lacks_by : (mark x : ℕ) (xs : List ℕ) (v : Bool) → (x == mark) ≡ v
 lacks_by mark x xs true is e more = absurd (omega (arith, e, place_first mark x xs is))
 lacks_by mark x xs false is e more = (is, more (omega (arith, e, place_later mark x xs is)))
 
-pub lacks_it : (mark : ℕ) (text : List ℕ) → position_or_len (λ b. b == mark) text ≡ length text → Lacks mark text
+pub lacks_it : (mark : ℕ) (text : List ℕ) → position_or_len (λ b. b == mark) text ≡ length text
+    → Lacks mark text
 lacks_it mark [] e = tt
 lacks_it mark (x ∷ xs) e = lacks_by mark x xs (x == mark) refl e (lacks_it mark xs)
 

@@ -1,5 +1,6 @@
 -- Which texts are of no ends of a block.
-use Rattle.std.proofs.Common.{◌≡◌, ◌≢◌, ◌≤ℤ◌, ◌<ℤ◌, ◌<◌, ◌⊎◌, ◌∙◌, ◌==◌, ℕ, suc, ℤ, pos, negsuc, List, [], ◌∷◌, ◌++◌}
+use Rattle.std.proofs.Common.{◌≡◌, ◌≢◌, ◌≤ℤ◌, ◌<ℤ◌, ◌<◌, ◌⊎◌, ◌∙◌, ◌==◌}
+use Rattle.std.proofs.Common.{ℕ, suc, ℤ, pos, negsuc, List, [], ◌∷◌, ◌++◌}
 use Rattle.std.proofs.Common.{Option, Some, None, IfNone, FitsSigned, w64, rules, refl, sym, subst, inl, inr, arith}
 use Rattle.std.proofs.Common.{true, false}
 use Rattle.std.specs.Fmt.{signed_decimal}
@@ -16,7 +17,8 @@ pub no_natural : (o : Option ℤ) (text : List ℕ) → ((z : ℤ) → FitsSigne
 no_natural None text h = λ z fits is. h z fits is.0
 no_natural (Some x) text h = tt
 
-pub negative : (known : ℤ) (text : List ℕ) → FitsSigned w64 known → text ≡ signed_decimal known → known <ℤ pos 0
+pub negative : (known : ℤ) (text : List ℕ) → FitsSigned w64 known → text ≡ signed_decimal known
+    → known <ℤ pos 0
     → (z : ℤ) → FitsSigned w64 z → ¬ IsNatural text z
 negative known text fits is low z fits_z it =
     let same : z ≡ known = signed_decimal_injective z known (search rules) (search rules) (sym it.0 ∙ is) in
@@ -48,7 +50,8 @@ no_ends_alone None text lacks none = by
         (subst (Lacks 45) it.0 lacks)
 
 -- both parts of a text with a hyphen
-pub two_parts : (text front back : List ℕ) → IsCut 45 text front back → (first last : ℤ) → AreEnds text first last
+pub two_parts : (text front back : List ℕ) → IsCut 45 text front back → (first last : ℤ)
+    → AreEnds text first last
     → IsNatural front first × IsNatural back last
 two_parts text front back cut first last (inl it) = absurd (mark_is_there 45 front back
     (subst (Lacks 45) (sym it.0.0 ∙ cut.0) (no_hyphen first it.0.1)))
@@ -67,5 +70,6 @@ no_first (Some x) text front back cut none = tt
 pub no_last : (o : Option (ℤ × ℤ)) (text front back : List ℕ) → IsCut 45 text front back
     → ((z : ℤ) → FitsSigned w64 z → ¬ IsNatural back z)
     → IfNone o ((first last : ℤ) → FitsSigned w64 first → FitsSigned w64 last → ¬ AreEnds text first last)
-no_last None text front back cut none = λ first last f l it. none last l (two_parts text front back cut first last it).1
+no_last None text front back cut none = λ first last f l it. none last l
+    (two_parts text front back cut first last it).1
 no_last (Some x) text front back cut none = tt

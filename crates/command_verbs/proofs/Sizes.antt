@@ -1,6 +1,8 @@
 -- Which texts are of no number of units.
-use Rattle.std.proofs.Common.{◌≡◌, ◌≢◌, ◌≤ℤ◌, ◌<ℤ◌, ◌≤◌, ◌<◌, ◌⊎◌, ◌∙◌, ◌==◌, ◌&&◌, ◌-◌, ℕ, zero, suc, Bool, nat_le}
-use Rattle.std.proofs.Common.{ℤ, pos, negsuc, ◌*ℤ◌, ◌+ℤ◌, List, [], ◌∷◌, ◌++◌, Option, Some, None, IfNone, FitsSigned}
+use Rattle.std.proofs.Common.{◌≡◌, ◌≢◌, ◌≤ℤ◌, ◌<ℤ◌, ◌≤◌, ◌<◌, ◌⊎◌}
+use Rattle.std.proofs.Common.{◌∙◌, ◌==◌, ◌&&◌, ◌-◌, ℕ, zero, suc, Bool, nat_le}
+use Rattle.std.proofs.Common.{ℤ, pos, negsuc, ◌*ℤ◌, ◌+ℤ◌, List, [], ◌∷◌, ◌++◌, Option, Some}
+use Rattle.std.proofs.Common.{None, IfNone, FitsSigned}
 use Rattle.std.proofs.Common.{w64, rules, refl, sym, ap, subst, inl, inr, arith, true, false}
 use Rattle.std.specs.Fmt.{signed_decimal}
 use Rattle.std.proofs.lemmas.Int.{ints}
@@ -21,7 +23,8 @@ pub no_whole : (o : Option ℤ) (text : List ℕ) → ((z : ℤ) → FitsSigned 
 no_whole None text h = λ u it. h u (fits_whole u it.0.1 it.1) it.0
 no_whole (Some x) text h = tt
 
-pub too_many : (known : ℤ) (text : List ℕ) → FitsSigned w64 known → IsNatural text known → most_units <ℤ known
+pub too_many : (known : ℤ) (text : List ℕ) → FitsSigned w64 known → IsNatural text known
+    → most_units <ℤ known
     → (u : ℤ) → ¬ IsWhole text u
 too_many known text fits is high u it =
     let same : u ≡ known = (let f : FitsSigned w64 u = fits_whole u it.0.1 it.1 in signed_decimal_injective u known
@@ -68,14 +71,16 @@ no_size_front (Some x) text front digits cut none = tt
 no_size_front None text front digits cut none = λ n it. let parts =
     broken_parts text front digits cut n it in none parts.0 parts.2
 
-pub no_size_back : (o : Option ℤ) (text front digits : List ℕ) → IsCut 46 text front digits → fraction digits ≡ None
+pub no_size_back : (o : Option ℤ) (text front digits : List ℕ) → IsCut 46 text front digits
+    → fraction digits ≡ None
     → IfNone o ((n : ℤ) → ¬ IsSize text n)
 no_size_back (Some x) text front digits cut none = tt
 no_size_back None text front digits cut none = λ n it. let parts =
     broken_parts text front digits cut n it in let some = parts.3 in absurd (cc (some, none))
 
 -- the two parts together
-pub broken_size : (text front digits : List ℕ) (n f : ℤ) → IsCut 46 text front digits → (u : ℤ) × IsWhole front u
+pub broken_size : (text front digits : List ℕ) (n f : ℤ) → IsCut 46 text front digits → (u : ℤ)
+    × IsWhole front u
     × (n ≡ u *ℤ pos 1000) → fraction digits ≡ Some f → IsSize text (n +ℤ f)
 broken_size text front digits n f cut it part = inr (record {
   front = front;

@@ -1,5 +1,6 @@
 -- Which texts are of no three parts, of no place and of no area.
-use Rattle.std.proofs.Common.{◌≡◌, ◌≢◌, ◌≤ℤ◌, ◌<◌, ◌⊎◌, ◌∙◌, ◌==◌, ℕ, suc, ℤ, pos, negsuc, List, [], ◌∷◌, ◌++◌}
+use Rattle.std.proofs.Common.{◌≡◌, ◌≢◌, ◌≤ℤ◌, ◌<◌, ◌⊎◌, ◌∙◌, ◌==◌, ℕ, suc}
+use Rattle.std.proofs.Common.{ℤ, pos, negsuc, List, [], ◌∷◌, ◌++◌}
 use Rattle.std.proofs.Common.{Option, Some, None, IfNone, FitsSigned, w64, refl, sym, ap, subst, inl, inr, arith}
 use Rattle.std.proofs.Common.{true, false}
 use Rattle.std.specs.Fmt.{signed_decimal}
@@ -33,7 +34,8 @@ ends_lack text first last (inr it) =
 -- ---- three parts
 
 -- a text has them in one way
-three_once : (text a b c x y z : List ℕ) → IsCutInThree text a b c → Lacks 47 x → Lacks 47 y → text ≡ slashed x y z
+three_once : (text a b c x y z : List ℕ) → IsCutInThree text a b c → Lacks 47 x → Lacks 47 y
+    → text ≡ slashed x y z
     → (a ≡ x) × (b ≡ y) × (c ≡ z)
 three_once text a b c x y z cut lx ly is =
     let first = cut_once 47 a x (b ++ (47 ∷ c)) (y ++ (47 ∷ z)) cut.1 lx (sym cut.0 ∙ is) in
@@ -48,7 +50,8 @@ no_slash_at_all None text lacks = λ one two three l m is. mark_is_there 47 one 
     (subst (Lacks 47) is lacks)
 no_slash_at_all (Some x) text lacks = tt
 
-pub one_slash_alone : {X : Type 0} (o : Option X) (text one rest : List ℕ) → IsCut 47 text one rest → Lacks 47 rest
+pub one_slash_alone : {X : Type 0} (o : Option X) (text one rest : List ℕ) → IsCut 47 text one rest
+    → Lacks 47 rest
     → IfNone o (NoThree text)
 one_slash_alone None text one rest cut lacks = λ x y z lx ly is.
     let same = cut_once 47 one x rest (y ++ (47 ∷ z)) cut.1 lx (sym cut.0 ∙ is) in
@@ -61,7 +64,8 @@ three_of text one rest two three cut more = (cut.0 ∙ ap (λ back. one ++ (47 �
 
 -- ---- a place
 
-pub place_parts : (text a b c : List ℕ) (p : Place) → IsCutInThree text a b c → IsPlace text p → IsNatural a p.zoom
+pub place_parts : (text a b c : List ℕ) (p : Place) → IsCutInThree text a b c → IsPlace text p
+    → IsNatural a p.zoom
     × IsNatural b p.column × IsNatural c p.row
 place_parts text a b c p cut it =
     let same = three_once text a b c (signed_decimal p.zoom) (signed_decimal p.column) (signed_decimal p.row) cut
@@ -95,7 +99,8 @@ area_parts text a b c r cut it =
 abbrev NoArea : List ℕ → Type 0
 NoArea text = (r : Rect) → FitsWords r → ¬ IsArea text r
 
-pub no_area : (o : Option Rect) (text : List ℕ) → NoArea text → IfNone o ((r : Rect) → FitsWords r → ¬ IsArea text r)
+pub no_area : (o : Option Rect) (text : List ℕ) → NoArea text
+    → IfNone o ((r : Rect) → FitsWords r → ¬ IsArea text r)
 no_area None text none = none
 no_area (Some x) text none = tt
 
@@ -115,7 +120,8 @@ area_of text a b c r cut zoom across down = record {
   down = down;
 }
 
-pub place_of : (text a b c : List ℕ) (p : Place) → IsCutInThree text a b c → IsNatural a p.zoom → IsNatural b p.column
+pub place_of : (text a b c : List ℕ) (p : Place) → IsCutInThree text a b c → IsNatural a p.zoom
+    → IsNatural b p.column
     → IsNatural c p.row → IsPlace text p
 place_of text a b c p cut zoom column row = record {
   written = cut.0 ∙ ap (λ x. slashed x b c) zoom.0 ∙ ap (λ x. slashed (signed_decimal p.zoom) x c) column.0

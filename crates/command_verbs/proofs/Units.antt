@@ -1,5 +1,6 @@
 -- Which texts are of no number of units, of no point and of no box.
-use Rattle.std.proofs.Common.{◌≡◌, ◌≢◌, ◌≤ℤ◌, ◌<◌, ◌⊎◌, ◌∙◌, ◌==◌, ◌&&◌, ℕ, Bool, ℤ, pos, ◌-ℤ◌, List, [], ◌∷◌, ◌++◌}
+use Rattle.std.proofs.Common.{◌≡◌, ◌≢◌, ◌≤ℤ◌, ◌<◌, ◌⊎◌, ◌∙◌, ◌==◌, ◌&&◌}
+use Rattle.std.proofs.Common.{ℕ, Bool, ℤ, pos, ◌-ℤ◌, List, [], ◌∷◌, ◌++◌}
 use Rattle.std.proofs.Common.{length, Option, Some, None, IfNone, IfSome, refl, sym, ap, subst, inl, inr, arith, true}
 use Rattle.std.proofs.Common.{false}
 use Rattle.std.specs.Bool.{then_some}
@@ -23,7 +24,8 @@ tested : {X : Type 0} (b : Bool) (x y : X) → then_some b x ≡ Some y → b �
 tested true x y h = refl
 tested false x y h = absurd (cc h)
 
-digits_lack : (mark : ℕ) (digits : List ℕ) (f : ℤ) → mark < 48 → fraction digits ≡ Some f → Lacks mark digits
+digits_lack : (mark : ℕ) (digits : List ℕ) (f : ℤ) → mark < 48 → fraction digits ≡ Some f
+    → Lacks mark digits
 digits_lack mark [] f low h = tt
 digits_lack mark (a ∷ []) f low h = (digit_lacks mark a low (tested _ _ f h), tt)
 digits_lack mark (a ∷ b ∷ []) f low h =
@@ -57,7 +59,8 @@ no_units_alone None text lacks none = by
     by n (inr it) = mark_is_there 45 [] it.0 (subst (Lacks 45) it.2 lacks)
 
 -- what stands behind the minus
-minus_parts : (text front rest : List ℕ) → IsCut 45 text front rest → (n : ℤ) → IsUnits text n → (front ≡ [])
+minus_parts : (text front rest : List ℕ) → IsCut 45 text front rest → (n : ℤ) → IsUnits text n
+    → (front ≡ [])
     × ((size : ℤ) × IsSize rest size)
 minus_parts text front rest cut n (inl it) = absurd (mark_is_there 45 front rest
     (subst (Lacks 45) cut.0 (size_lacks 45 text n (omega arith) it)))
@@ -65,7 +68,8 @@ minus_parts text front rest cut n (inr it) =
     let same = cut_once 45 front [] rest it.0 cut.1 tt (sym cut.0 ∙ it.2) in
     (same.0, (it.1, subst (λ t. IsSize t it.1) (sym same.1) it.3))
 
-pub no_units_behind : (text front rest : List ℕ) → IsCut 45 text front rest → front ≢ [] → (n : ℤ) → ¬ IsUnits text n
+pub no_units_behind : (text front rest : List ℕ) → IsCut 45 text front rest → front ≢ [] → (n : ℤ)
+    → ¬ IsUnits text n
 no_units_behind text front rest cut some n it = some (minus_parts text front rest cut n it).0
 
 pub no_units_minus : (o : Option ℤ) (text front rest : List ℕ) → IsCut 45 text front rest
@@ -89,7 +93,8 @@ units_lack text n (inr it) = subst (Lacks 44) (sym it.2) (refl, size_lacks 44 it
 
 -- ---- a point
 
-point_parts : (text across up : List ℕ) → IsCut 44 text across up → (p : Point) → IsPoint text p → IsUnits across p.x
+point_parts : (text across up : List ℕ) → IsCut 44 text across up → (p : Point) → IsPoint text p
+    → IsUnits across p.x
     × IsUnits up p.y
 point_parts text across up cut p it =
     let same = cut_once 44 across it.across up it.up cut.1 (units_lack it.across p.x it.x) (sym cut.0 ∙ it.written) in
@@ -107,7 +112,8 @@ pub no_across : (o : Option Point) (text across up : List ℕ) → IsCut 44 text
 no_across (Some x) text across up cut none = tt
 no_across None text across up cut none = λ p it. none p.x (point_parts text across up cut p it).0
 
-pub no_up : (o : Option Point) (text across up : List ℕ) → IsCut 44 text across up → ((n : ℤ) → ¬ IsUnits up n)
+pub no_up : (o : Option Point) (text across up : List ℕ) → IsCut 44 text across up
+    → ((n : ℤ) → ¬ IsUnits up n)
     → IfNone o (NoPoint text)
 no_up (Some x) text across up cut none = tt
 no_up None text across up cut none = λ p it. none p.y (point_parts text across up cut p it).1
@@ -170,6 +176,7 @@ pub not_empty : (text : List ℕ) (b : Bool) → b ≡ (length text == 0) → b 
 not_empty [] b is so = absurd (grind (arith, nat_tests, is, so))
 not_empty (x ∷ xs) b is so = λ e. cc e
 
-pub point_of : (text across up : List ℕ) → IsCut 44 text across up → (p : Point) → IsUnits across p.x → IsUnits up p.y
+pub point_of : (text across up : List ℕ) → IsCut 44 text across up → (p : Point) → IsUnits across p.x
+    → IsUnits up p.y
     → IsPoint text p
 point_of text across up cut p x y = record { across = across; up = up; written = cut.0; x = x; y = y }

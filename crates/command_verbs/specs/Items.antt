@@ -1,5 +1,6 @@
 -- Which item a word names, and how two are joined (OGC 18-000 for the mapping tables). Profile.
-use Rattle.std.specs.Prelude.{ℕ, Bool, List, [], ◌∷◌, length, filter, nat_lt, Option, Some, None, Result, Ok, Err}
+use Rattle.std.specs.Prelude.{ℕ, Bool, List, [], ◌∷◌, length, filter, nat_lt, Option, Some, None, Result, Ok}
+use Rattle.std.specs.Prelude.{Err}
 use Rattle.std.specs.Prelude.{if◌then◌else◌}
 use Rattle.sheet_types.specs.Step.{relation}
 use Rattle.sheet_types.specs.Texts.{uuid_text}

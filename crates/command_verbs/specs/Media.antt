@@ -1,6 +1,7 @@
 -- The type of a medium by its first bytes: ISO 15948, 5.2 (PNG), ITU-T T.81, Annex B (JPEG), ISO 32000-1, 7.5.2
 -- (PDF). The order is profile.
-use Rattle.std.specs.Prelude.{ℕ, Bool, not, ◌==◌, ◌&&◌, ◌||◌, nat_le, List, [], ◌∷◌, codes, Option, Some, None}
+use Rattle.std.specs.Prelude.{ℕ, Bool, not, ◌==◌, ◌&&◌, ◌||◌, nat_le, List, [], ◌∷◌, codes}
+use Rattle.std.specs.Prelude.{Option, Some, None}
 use Rattle.std.specs.Prelude.{if◌then◌else◌, length}
 use Rattle.std.specs.List.{list_all, starts_with}
 use Rattle.command_verbs.specs.declared.media.MediaType.{MediaType}

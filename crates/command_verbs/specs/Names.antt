@@ -1,5 +1,6 @@
 -- Which package a word names among those that live. Profile, over RFC 9562 (UUIDs).
-use Rattle.std.specs.Prelude.{ℕ, Bool, true, false, ◌==◌, ◌&&◌, List, [], ◌∷◌, length, filter, is_none, nat_lt}
+use Rattle.std.specs.Prelude.{ℕ, Bool, true, false, ◌==◌, ◌&&◌, List, [], ◌∷◌, length, filter}
+use Rattle.std.specs.Prelude.{is_none, nat_lt}
 use Rattle.std.specs.Prelude.{Option, Some, None, Result, Ok, Err, if◌then◌else◌}
 use Rattle.std.specs.Char.{to_ascii_lowercase}
 use Rattle.sheet_types.specs.Answers.{PackageSight}

@@ -1,5 +1,6 @@
 -- Numbers in units, with at most three decimals, as thousandths. Profile.
-use Rattle.std.specs.Prelude.{◌≡◌, ◌⊎◌, ◌-◌, ℕ, Bool, ◌&&◌, nat_le, List, [], ◌∷◌, ◌++◌, ℤ, pos, ◌+ℤ◌, ◌-ℤ◌, ◌*ℤ◌}
+use Rattle.std.specs.Prelude.{◌≡◌, ◌⊎◌, ◌-◌, ℕ, Bool, ◌&&◌, nat_le, List, [], ◌∷◌}
+use Rattle.std.specs.Prelude.{◌++◌, ℤ, pos, ◌+ℤ◌, ◌-ℤ◌, ◌*ℤ◌}
 use Rattle.std.specs.Prelude.{◌≤ℤ◌, Option, Some, None}
 use Rattle.std.specs.Bool.{then_some}
 use Rattle.std.specs.Fmt.{signed_decimal}
@@ -19,7 +20,8 @@ fraction [] = None
 fraction (a ∷ []) = then_some (is_digit a) (digit_of a *ℤ pos 100)
 fraction (a ∷ b ∷ []) = then_some (is_digit a && is_digit b) (digit_of a *ℤ pos 100 +ℤ digit_of b *ℤ pos 10)
 fraction (a ∷ b ∷ c ∷ []) =
-    then_some (is_digit a && is_digit b && is_digit c) (digit_of a *ℤ pos 100 +ℤ digit_of b *ℤ pos 10 +ℤ digit_of c)
+    then_some (is_digit a && is_digit b && is_digit c) (digit_of a *ℤ pos 100 +ℤ digit_of b *ℤ pos 10 +ℤ
+    digit_of c)
 fraction (a ∷ b ∷ c ∷ d ∷ more) = None
 
 abbrev pub is_small : ℤ → Type 0

@@ -1,5 +1,6 @@
 -- Which command the words of a verb say, and why they say none. Profile.
-use Rattle.std.specs.Prelude.{◌≡◌, ◌≢◌, ◌⊎◌, ℕ, ℤ, pos, ◌<◌, FitsSigned, List, Option, Some, None, Result, Ok, Err}
+use Rattle.std.specs.Prelude.{◌≡◌, ◌≢◌, ◌⊎◌, ℕ, ℤ, pos, ◌<◌, FitsSigned, List, Option, Some}
+use Rattle.std.specs.Prelude.{None, Result, Ok, Err}
 use Rattle.std.specs.Borrow.{Bor}
 use Rattle.std.specs.Int.{w64}
 use Rattle.std.specs.Option.{option_map}
@@ -64,7 +65,8 @@ module _ (sights : List PackageSight) where
   -- a medium does
   abbrev pub PutsMedium : List ℕ → Option (List ℕ) → List ℕ → List ℕ → Command → Type 0
   PutsMedium holder word identity bytes command =
-      (p : PackageSight) × (content_type : List ℕ) × (the_one sights holder ≡ Ok p) × IsTypeOf word bytes content_type
+      (p : PackageSight) × (content_type : List ℕ) × (the_one sights holder ≡ Ok p)
+      × IsTypeOf word bytes content_type
       × (command ≡ Add p.uuid identity (Media content_type bytes))
 
   -- an attributes row does
@@ -88,7 +90,8 @@ module _ (sights : List PackageSight) where
   IsWhyUnreturned loan fault =
       IsUnnamed loan fault
       ⊎ ((fault ≡ NotLent) × ((p : PackageSight) × (the_one sights loan ≡ Ok p) × (p.parent ≡ None)))
-      ⊎ ((fault ≡ BadTicket) × ((p : PackageSight) × (the_one sights loan ≡ Ok p) × (9223372036854775807 < p.ticket)))
+      ⊎ ((fault ≡ BadTicket) × ((p : PackageSight) × (the_one sights loan ≡ Ok p)
+      × (9223372036854775807 < p.ticket)))
 
   abbrev pub IsWhyNoTile : List ℕ → List ℕ → VerbFault → Type 0
   IsWhyNoTile holder place fault =

@@ -1,6 +1,8 @@
 -- A frame is written in one way, and a good one within 64 bits.
-use Rattle.std.proofs.Common.{◌≡◌, ◌≢◌, ℕ, zero, suc, Bool, true, false, not, ◌&&◌, List, [], ◌∷◌, length, ℤ, pos}
-use Rattle.std.proofs.Common.{negsuc, ◌+ℤ◌, ◌-ℤ◌, ◌*ℤ◌, ◌≤ℤ◌, int_le, int_lt, FitsSigned, w64, Option, Some, None}
+use Rattle.std.proofs.Common.{◌≡◌, ◌≢◌, ℕ, zero, suc, Bool, true, false, not, ◌&&◌, List, []}
+use Rattle.std.proofs.Common.{◌∷◌, length, ℤ, pos}
+use Rattle.std.proofs.Common.{negsuc, ◌+ℤ◌, ◌-ℤ◌, ◌*ℤ◌, ◌≤ℤ◌, int_le, int_lt, FitsSigned}
+use Rattle.std.proofs.Common.{w64, Option, Some, None}
 use Rattle.std.proofs.Common.{IfNone, subst, rules, refl, sym, ap, ◌∙◌, arith}
 use Rattle.std.specs.List.{AllByRecursion}
 use Rattle.std.specs.Fmt.{signed_decimal}
@@ -21,10 +23,12 @@ use Rattle.matrix_rules.proofs.Frames.{GoodFrame, good_frame}
 abbrev Fit : List ℤ → Type 0
 Fit numbers = AllByRecursion (FitsSigned w64) numbers
 
-number_once : (y z : ℤ) → FitsSigned w64 y → FitsSigned w64 z → signed_decimal y ≡ signed_decimal z → y ≡ z
+number_once : (y z : ℤ) → FitsSigned w64 y → FitsSigned w64 z → signed_decimal y ≡ signed_decimal z
+    → y ≡ z
 number_once y z f g e = signed_decimal_injective y z (search rules) (search rules) e
 
-numbers_once : (ys zs : List ℤ) → length ys ≡ length zs → Fit ys → Fit zs → numbers_text ys ≡ numbers_text zs → ys ≡ zs
+numbers_once : (ys zs : List ℤ) → length ys ≡ length zs → Fit ys → Fit zs
+    → numbers_text ys ≡ numbers_text zs → ys ≡ zs
 numbers_once [] [] l f g e = refl
 numbers_once [] (z ∷ zs) l f g e = absurd cc
 numbers_once (y ∷ ys) [] l f g e = absurd cc
@@ -61,7 +65,8 @@ frame_from zs = record {
 
 pub frame_once : (f g : Frame) → IsInRange f → IsInRange g → frame_text f ≡ frame_text g → f ≡ g
 frame_once f g in_f in_g e =
-    let same : frame_numbers f ≡ frame_numbers g = numbers_once (frame_numbers f) (frame_numbers g) refl in_f in_g e in
+    let same : frame_numbers f ≡ frame_numbers g = numbers_once (frame_numbers f) (frame_numbers g) refl in_f in_g
+    e in
     ap frame_from same
 
 -- ---- a good frame
@@ -96,7 +101,8 @@ in_range f h =
     f.min_x f.max_x && int_lt f.min_y f.max_y)
     (is_within (pos 1) (pos 4096) f.tile_width && is_within (pos 1) (pos 4096) f.tile_height)
     (int_le (pos 0) f.first_zoom && int_le (pos 1) f.levels && int_le (f.first_zoom +ℤ f.levels) (pos 21))
-    (is_within (pos 1) (pos 2 *ℤ ten_to_12) f.matrix_width && is_within (pos 1) (pos 2 *ℤ ten_to_12) f.matrix_height)
+    (is_within (pos 1) (pos 2 *ℤ ten_to_12) f.matrix_width && is_within (pos 1) (pos 2 *ℤ ten_to_12)
+    f.matrix_height)
     (divides (width_at f (last_level f) *ℤ f.tile_width) (f.max_x -ℤ f.min_x) && divides
     (height_at f (last_level f) *ℤ f.tile_height) (f.max_y -ℤ f.min_y)) h in
     let zoom : f.first_zoom ≤ℤ pos 2000000000000 = omega (arith, ints, good.levels, good.zooms) in

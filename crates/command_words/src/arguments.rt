@@ -103,7 +103,8 @@ pub fn read_count(text: &str) -> Option<u32>
 /// The desk that two words ask for; `None` where one of them is no number, or out of its range.
 pub fn read_desk(words: &DeskWords<'_>) -> Option<Desk>
     ensures some { IfSome result (λ desk. AsksDesk words.now.port.now words.now.count.now desk.port desk.count) }
-    ensures none { IfNone result ((port count : ℕ) → ¬ AsksDesk words.now.port.now words.now.count.now port count) }
+    ensures none { IfNone result ((port count : ℕ) → ¬ AsksDesk words.now.port.now words.now.count.now port
+        count) }
 {
     let port = read_port(words.port)?;
     let count = read_count(words.count)?;

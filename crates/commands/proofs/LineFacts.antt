@@ -1,5 +1,6 @@
 -- A line, byte by byte.
-use Rattle.std.proofs.Common.{◌≡◌, ◌∙◌, ℕ, List, [], ◌∷◌, ◌++◌, Option, Some, None, IfSome, Bool, true, false}
+use Rattle.std.proofs.Common.{◌≡◌, ◌∙◌, ℕ, List, [], ◌∷◌, ◌++◌, Option, Some, None, IfSome}
+use Rattle.std.proofs.Common.{Bool, true, false}
 use Rattle.std.proofs.Common.{refl, sym, ap, subst, append_assoc, append-nil, arith, length}
 use Rattle.std.specs.Io.BufRead.{take_through}
 use Rattle.std.specs.Io.KnownBytes.{Consumes, IsAtEnd, prepend_known}
@@ -52,7 +53,8 @@ ended_here (Some xs) (Some ys) None line line' byte so_far given end is = absurd
 ended_here (Some xs) None c line line' byte so_far given end is = absurd so_far.taken
 
 -- or with the text
-ended_with : (a b c : Option (List ℕ)) (line : List ℕ) → SoFar a b line → GivesByte b c None → GivesLine a c line
+ended_with : (a b c : Option (List ℕ)) (line : List ℕ) → SoFar a b line → GivesByte b c None
+    → GivesLine a c line
 ended_with None b c line so_far given = (tt, tt)
 ended_with (Some xs) (Some ys) (Some zs) line so_far given =
     let none : ys ≡ [] = given.0 ∙ given.1 in (
@@ -73,7 +75,8 @@ no_line : (text : List ℕ) → length (take_through 10 text) ≡ 0 → text ≡
 no_line [] none = refl
 no_line (x ∷ xs) none = none_through (nat_eq x 10) none
   where
-    none_through : (here : Bool) → length (if here then x ∷ [] else x ∷ take_through 10 xs) ≡ 0 → x ∷ xs ≡ []
+    none_through : (here : Bool) → length (if here then x ∷ [] else x ∷ take_through 10 xs) ≡ 0
+        → x ∷ xs ≡ []
     none_through true none = absurd (let long : length (x ∷ []) ≡ 0 = none in omega arith)
     none_through false none = absurd (let long : length (x ∷ take_through 10 xs) ≡ 0 = none in omega arith)
 
@@ -84,7 +87,8 @@ at_end None left' line given empty = tt
 at_end (Some text) left' line given empty = no_line text (sym (ap length given.1) ∙ empty)
 
 -- what holds of a line and all behind it holds of the whole
-pub behind_line : (left left' : Option (List ℕ)) (line : List ℕ) (P : List ℕ → Type 0) → Consumes left left' line
+pub behind_line : (left left' : Option (List ℕ)) (line : List ℕ) (P : List ℕ → Type 0)
+    → Consumes left left' line
     → IfSome (prepend_known line left') P → IfSome left P
 behind_line None left' line P given so = tt
 behind_line (Some text) (Some rest) line P given so = subst P (sym given) so
@@ -97,7 +101,8 @@ whole_of None line body P is so = tt
 whole_of (Some text) line body P is so = subst P is so
 
 -- what holds of a line holds of the first one
-pub first_of : (left left' : Option (List ℕ)) (line : List ℕ) (P : List ℕ → Type 0) → GivesLine left left' line
+pub first_of : (left left' : Option (List ℕ)) (line : List ℕ) (P : List ℕ → Type 0)
+    → GivesLine left left' line
     → P line
     → IfSome left (λ text. P (take_through 10 text))
 first_of None left' line P given so = tt
@@ -106,7 +111,8 @@ first_of (Some text) left' line P given so = subst P given.1 so
 -- a buffer that has read nothing
 pub unread_buffer : {R A : Type 0} (remaining : R → Option (List ℕ)) (buffer : BufReader R A) (inner : R)
     → reader_inner buffer ≡ inner
-    → reader_buffer buffer ≡ [] → reader_capacity buffer ≡ 8192 → reader_remaining remaining buffer ≡ remaining inner
+    → reader_buffer buffer ≡ [] → reader_capacity buffer ≡ 8192
+    → reader_remaining remaining buffer ≡ remaining inner
 unread_buffer remaining buffer inner same empty long =
     ap (λ n. if n == 0 then None else prepend_known (reader_buffer buffer) (remaining (reader_inner buffer))) long
     ∙ ap (λ bytes. prepend_known bytes (remaining (reader_inner buffer))) empty

@@ -1,5 +1,6 @@
 -- Requests that are taken line by line.
-use Rattle.std.proofs.Common.{◌≡◌, ◌++◌, ◌∷◌, [], ℕ, List, None, Option, Result, Some, inl, inr, refl, subst, sym}
+use Rattle.std.proofs.Common.{◌≡◌, ◌++◌, ◌∷◌, [], ℕ, List, None, Option, Result, Some, inl, inr}
+use Rattle.std.proofs.Common.{refl, subst, sym}
 use Rattle.std.specs.Io.KnownBytes.{Keeps}
 use Rattle.std.proofs.KnownBytes.{Appends-kept}
 use Rattle.sqlite.specs.Store.{Ghosts}
@@ -54,7 +55,8 @@ unread_of text ending (inl none) = inl none
 unread_of text ending (inr bad) = inr bad.0
 
 -- of one request of all bytes
-pub applies_where : {S W : Type 0} (g : Ghosts S) (text text' : Option (List ℕ)) (old new : Seen S) (writer writer' : W)
+pub applies_where : {S W : Type 0} (g : Ghosts S) (text text' : Option (List ℕ)) (old new : Seen S)
+    (writer writer' : W)
     (before after : Option (List ℕ)) (ending : Ending)
     → ((q : Request) → IfSome text (λ t. IsRequestText t q) → IfSome text' (λ t. IsRequestText t q))
     → Applies g text old new writer writer' before after ending
@@ -64,7 +66,8 @@ applies_where g text text' old new writer writer' before after ending so (inr it
 
 -- ---- what was found
 
-pub some_found : {A : Type 0} (found : Option A) (a : A) (P : A → Type 0) → found ≡ Some a → IfSome found P → P a
+pub some_found : {A : Type 0} (found : Option A) (a : A) (P : A → Type 0) → found ≡ Some a → IfSome found P
+    → P a
 some_found found a P is so = subst (λ o. IfSome o P) is so
 
 pub none_found : {A : Type 0} (found : Option A) (P : Type 0) → found ≡ None → IfNone found P → P

@@ -1,5 +1,6 @@
 -- What a world tells of itself.
-use Rattle.std.proofs.Common.{◌≡◌, ◌∙◌, ◌∷◌, [], ℕ, List, Result, Ok, Err, refl, sym, ap, subst, map, length, suc}
+use Rattle.std.proofs.Common.{◌≡◌, ◌∙◌, ◌∷◌, [], ℕ, List, Result, Ok, Err, refl, sym, ap, subst}
+use Rattle.std.proofs.Common.{map, length, suc}
 use Rattle.std.specs.Prelude.{IfOk}
 use Rattle.sqlite.specs.Held.{Held}
 use Rattle.sqlite.specs.Store.{Ghosts}
@@ -34,12 +35,14 @@ pub joined : {S L R M : Type 0} (g : Ghosts S) (P : World → L → Type 0) (Q :
     (A : World → M → Type 0) (left : M → L) (right : M → R)
     (seen : Seen S) (stores : List (Held S)) (first : Result L Fault) (second : Result R Fault) (made : Result M Fault)
     → ((w : World) (m : M) → P w (left m) → Q w (right m) → A w m)
-    → IfOk first (λ x. (w : World) → StandsFor g seen w → P w x) → LooksInto g {X = R} {E = Fault} Q seen stores second
+    → IfOk first (λ x. (w : World) → StandsFor g seen w → P w x)
+    → LooksInto g {X = R} {E = Fault} Q seen stores second
     → IfOk made (λ m. (first ≡ Ok (left m)) × (second ≡ Ok (right m)))
     → LooksInto g {X = M} {E = Fault} A seen stores made
 joined g P Q A left right seen stores first second (Ok m) so known it is = record {
   read = it.read;
-  told = λ clean w stands. so w m (subst (λ r. IfOk r (λ x. (w : World) → StandsFor g seen w → P w x)) is.0 known w
+  told = λ clean w stands. so w m (subst (λ r. IfOk r (λ x. (w : World) → StandsFor g seen w → P w x)) is.0
+      known w
       stands)
       (subst (λ r. IfOk r (λ x. (w : World) → StandsFor g seen w → Q w x)) is.1 (it.told clean) w stands);
 }
@@ -51,8 +54,10 @@ pub tells_joined : {S L R M : Type 0} (g : Ghosts S) (P : World → L → Type 0
     (A : World → M → Type 0) (left : M → L) (right : M → R)
     (old new : Seen S) (first : Result L Fault) (second : Result R Fault) (made : Result M Fault)
     → ((w : World) (m : M) → P w (left m) → Q w (right m) → A w m)
-    → IfOk first (λ x. (w : World) → StandsFor g old w → P w x) → TellsOf g {X = R} {E = Fault} Q old new second
-    → IfOk made (λ m. (first ≡ Ok (left m)) × (second ≡ Ok (right m))) → TellsOf g {X = M} {E = Fault} A old new made
+    → IfOk first (λ x. (w : World) → StandsFor g old w → P w x)
+    → TellsOf g {X = R} {E = Fault} Q old new second
+    → IfOk made (λ m. (first ≡ Ok (left m)) × (second ≡ Ok (right m)))
+    → TellsOf g {X = M} {E = Fault} A old new made
 tells_joined g P Q A left right old new first second (Ok m) so known tells is = λ clean w stands.
     so w m (subst (λ r. IfOk r (λ x. (w : World) → StandsFor g old w → P w x)) is.0 known w stands)
     (subst (λ r. IfOk r (λ x. (w : World) → StandsFor g old w → Q w x)) is.1 (tells clean) w stands)

@@ -40,7 +40,8 @@ PrintsDeed command receipt before after ending =
     ⊎ Prints (with_end ask_again) no_memory before after ending
 
 -- the same, or the refusal as it is printed for a request that comes as JSON
-abbrev pub PrintsOutcome : Command → Result Receipt Refusal → Option (List ℕ) → Option (List ℕ) → Ending → Type 0
+abbrev pub PrintsOutcome : Command → Result Receipt Refusal → Option (List ℕ) → Option (List ℕ) → Ending
+    → Type 0
 PrintsOutcome command (Ok receipt) before after ending = PrintsDeed command receipt before after ending
 PrintsOutcome command (Err why) before after ending = PrintsReply (Err why) before after ending
 

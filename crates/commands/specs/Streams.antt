@@ -70,7 +70,8 @@ TellsUnread before after ending =
 module _ {S : Type 0} (g : Ghosts S) where
   -- A line that is empty, or for which memory was wanting, changes nothing. One that is no request is told in its
   -- place. Any other is carried out, and its reply printed.
-  abbrev pub TakesLine : List ℕ → Seen S → Seen S → Option (List ℕ) → Option (List ℕ) → Ending → Type 0
+  abbrev pub TakesLine : List ℕ → Seen S → Seen S → Option (List ℕ) → Option (List ℕ) → Ending
+      → Type 0
   TakesLine line old new before after ending =
       (((IsEmptyLine line × (ending ≡ done)) ⊎ (ending ≡ no_memory)) × (new ≡ old) × (after ≡ before))
       ⊎ (((q : Request) → ¬ IsRequestText line q) × (new ≡ old)
@@ -100,7 +101,8 @@ module _ {S : Type 0} (g : Ghosts S) where
     pub ended : EndsAt last after ending
 
   -- The first line is a request by itself, and all lines were taken.
-  abbrev pub AppliesLines : Option (List ℕ) → Seen S → Seen S → Option (List ℕ) → Option (List ℕ) → Ending → Type 0
+  abbrev pub AppliesLines : Option (List ℕ) → Seen S → Seen S → Option (List ℕ) → Option (List ℕ)
+      → Ending → Type 0
   AppliesLines text old new before after ending =
       IfSome text (λ t. (q : Request) × IsRequestText (take_through 10 t) q)
       × TakesLines (stage text old before done) new after ending

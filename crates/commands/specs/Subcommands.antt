@@ -35,7 +35,8 @@ IsUnmade ending =
     ⊎ ((failure : Failure) × (ending ≡ Usual (Stopped failure)))
 
 -- The line that names the archive is printed; or it was not made, or is not known to last, and nothing was written.
-abbrev pub Inits : {W : Type 0} → List ℕ → W → W → Option (List ℕ) → Option (List ℕ) → Ending → Type 0
+abbrev pub Inits : {W : Type 0} → List ℕ → W → W → Option (List ℕ) → Option (List ℕ) → Ending
+    → Type 0
 Inits uuid writer writer' before after ending =
     Prints (archive_line uuid) done before after ending ⊎ (IsUnmade ending × (writer' ≡ writer))
 
@@ -43,7 +44,8 @@ Inits uuid writer writer' before after ending =
 
 -- why a body is no request, or is not known to be one
 abbrev pub IsWhyUnasked : List ℕ → Ending → Type 0
-IsWhyUnasked text ending = (ending ≡ no_memory) ⊎ ((ending ≡ BadBody) × ((q : Request) → ¬ IsRequestText text q))
+IsWhyUnasked text ending = (ending ≡ no_memory) ⊎ ((ending ≡ BadBody)
+    × ((q : Request) → ¬ IsRequestText text q))
 
 -- The same of a reader, which may fail, or give more bytes than a body may have.
 abbrev pub IsUnread : Ending → Type 0
@@ -91,21 +93,24 @@ module _ {S : Type 0} (g : Ghosts S) where
     pub printed : PrintsReply reply before after ending
 
   -- One request was read and carried out; or none was read, and nothing was done or written.
-  abbrev pub Applies : {W : Type 0} → Option (List ℕ) → Seen S → Seen S → W → W → Option (List ℕ) → Option (List ℕ)
+  abbrev pub Applies : {W : Type 0} → Option (List ℕ) → Seen S → Seen S → W → W → Option (List ℕ)
+      → Option (List ℕ)
       → Ending → Type 0
   Applies text old new writer writer' before after ending =
       (IsUnread ending × (new ≡ old) × (writer' ≡ writer))
       ⊎ ((q : Request) × IfSome text (λ t. IsRequestText t q) × IsApplied q old new before after ending)
 
   -- what an import makes of a world and writes, and how the program ends then
-  abbrev pub EndsImport : {W : Type 0} → Option (List ℕ) → Seen S → Seen S → ℕ → ℕ → W → W → Option (List ℕ)
+  abbrev pub EndsImport : {W : Type 0} → Option (List ℕ) → Seen S → Seen S → ℕ → ℕ → W → W
+      → Option (List ℕ)
       → Option (List ℕ) → Ending → Type 0
   EndsImport text old new faults more writer writer' before after ending =
       (r : Result (Unit {0}) ImportFault) × (ending ≡ import_ending r)
       × Imports g text old new faults more writer writer' before after r
 
   -- the same of a list that is read twice, of some text at either reading
-  abbrev pub EndsTwice : {W : Type 0} → Option (List ℕ) → Option (List ℕ) → Seen S → Seen S → ℕ → ℕ → W → W
+  abbrev pub EndsTwice : {W : Type 0} → Option (List ℕ) → Option (List ℕ) → Seen S → Seen S → ℕ
+      → ℕ → W → W
       → Option (List ℕ) → Option (List ℕ) → Ending → Type 0
   EndsTwice text again old new faults more writer writer' before after ending =
       (r : Result (Unit {0}) TwiceFault) × (ending ≡ twice_ending r)
@@ -113,12 +118,15 @@ module _ {S : Type 0} (g : Ghosts S) where
 
   -- The same of a file, of some text, or of two where it is read twice; or the file could not be opened, and nothing
   -- was done or written.
-  abbrev pub ImportsFile : {W : Type 0} → Seen S → Seen S → W → W → Option (List ℕ) → Option (List ℕ) → Ending → Type 0
+  abbrev pub ImportsFile : {W : Type 0} → Seen S → Seen S → W → W → Option (List ℕ) → Option (List ℕ)
+      → Ending → Type 0
   ImportsFile old new writer writer' before after ending =
       (IsUnlisted ending × (new ≡ old) × (writer' ≡ writer))
-      ⊎ ((text : Option (List ℕ)) × (faults more : ℕ) × EndsImport text old new faults more writer writer' before
+      ⊎ ((text : Option (List ℕ)) × (faults more : ℕ) × EndsImport text old new faults more writer writer'
+      before
       after ending)
-      ⊎ ((text again : Option (List ℕ)) × (faults more : ℕ) × EndsTwice text again old new faults more writer writer'
+      ⊎ ((text again : Option (List ℕ)) × (faults more : ℕ) × EndsTwice text again old new faults more writer
+      writer'
       before after ending)
 
   -- A desk over so many connections ended so; or the port could not be had, and nothing was done.

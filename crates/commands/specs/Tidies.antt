@@ -32,13 +32,15 @@ tidy_ending (Some folder.OutOfMemory) = no_memory
 tidy_ending (Some fault) = failed
 
 -- A line for each file that was taken out went out; or there was no memory for them, and nothing was written.
-abbrev pub TellsTidied : {W : Type 0} → Tidied → W → W → Option (List ℕ) → Option (List ℕ) → Ending → Type 0
+abbrev pub TellsTidied : {W : Type 0} → Tidied → W → W → Option (List ℕ) → Option (List ℕ) → Ending
+    → Type 0
 TellsTidied made writer writer' before after ending =
     Prints (removed_lines made.names.items) (tidy_ending made.fault) before after ending
     ⊎ ((ending ≡ no_memory) × (writer' ≡ writer))
 
 -- what is told of it, or why nothing was done
-abbrev pub TellsTidy : {W : Type 0} → Result Tidied Fault → W → W → Option (List ℕ) → Option (List ℕ) → Ending → Type 0
+abbrev pub TellsTidy : {W : Type 0} → Result Tidied Fault → W → W → Option (List ℕ) → Option (List ℕ)
+    → Ending → Type 0
 TellsTidy (Ok made) writer writer' before after ending = TellsTidied made writer writer' before after ending
 TellsTidy (Err fault) writer writer' before after ending =
     (ending ≡ Usual (Stopped (of_fault fault))) × (writer' ≡ writer)
@@ -96,7 +98,8 @@ module _ {S : Type 0} (g : Ghosts S) where
       pub told : TellsTidy made writer writer' before after ending
 
     -- The folder was not opened, and nothing was done; or its world was, and its folder was made tidy.
-    abbrev pub Tidies : {W : Type 0} → Y → Y → W → W → Option (List ℕ) → Option (List ℕ) → Ending → Type 0
+    abbrev pub Tidies : {W : Type 0} → Y → Y → W → W → Option (List ℕ) → Option (List ℕ) → Ending
+        → Type 0
     Tidies old new writer writer' before after ending =
         ((fault : OpenFault) × (ending ≡ Unopened fault) × (writer' ≡ writer) × (new ≡ old))
         ⊎ ((seen : Seen S) × (stores : List (Held S)) × IsFolderWorld g seen

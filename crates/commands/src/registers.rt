@@ -71,8 +71,7 @@ fn join_register(
 }
 
 /// What a world tells of itself. It ends with it, and its stores are handed on, only read. All
-/// receipts are in memory at once, as they are while
-/// a world is opened.
+/// receipts are in memory at once, as they are while a world is opened.
 ///
 /// # Errors
 ///

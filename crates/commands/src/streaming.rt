@@ -1,5 +1,6 @@
 //! Requests as JSON, a line each, carried out in a world as they come.
-ghost use Rattle.std.specs.Prelude.{◌≡◌, ◌++◌, ◌∷◌, ◌<◌, ◌↔◌, [], IfErr, IfOk, IfSome, IsTrue, OnOk, length, take};
+ghost use Rattle.std.specs.Prelude.{◌≡◌, ◌++◌, ◌∷◌, ◌<◌, ◌↔◌, [], IfErr, IfOk, IfSome};
+ghost use Rattle.std.specs.Prelude.{IsTrue, OnOk, length, take};
 ghost use Rattle.std.specs.Io.{ReadsAtMost};
 ghost use Rattle.std.specs.Io.KnownBytes.{Consumes, IsAtEnd, prepend_known};
 ghost use Rattle.command_folder.specs.Endings.{output_text};

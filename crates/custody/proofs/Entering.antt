@@ -1,5 +1,6 @@
 -- A receipt that is entered under a free number, row by row.
-use Rattle.std.proofs.Common.{◌≡◌, ℕ, zero, suc, ℤ, ◌<◌, ◌≤◌, ◌+◌, pos, take, get_or, length, List, [], ◌∷◌, ◌++◌}
+use Rattle.std.proofs.Common.{◌≡◌, ℕ, zero, suc, ℤ, ◌<◌, ◌≤◌, ◌+◌, pos, take, get_or, length}
+use Rattle.std.proofs.Common.{List, [], ◌∷◌, ◌++◌}
 use Rattle.std.proofs.Common.{map, false, Result, Ok, refl, sym, ap, subst, ◌∙◌, arith}
 use Rattle.std.specs.Prelude.{bytes_eq, flat_map}
 use Rattle.std.specs.Option.{option_map_or}
@@ -50,17 +51,20 @@ apart {a} {b} h e = true≢false (sym ((bytes_eq-Decides a b).1 e) ∙ h)
 
 -- a later position is another
 later : (seq k n : ℕ) → k < n → bytes_eq (seq ∷ k ∷ []) (seq ∷ n ∷ []) ≡ false
-later seq k n less = differ (seq ∷ k ∷ []) (seq ∷ n ∷ []) (λ e. let same : k ≡ n = cc in omega (arith, same, less))
+later seq k n less = differ (seq ∷ k ∷ []) (seq ∷ n ∷ []) (λ e. let same : k ≡ n =
+    cc in omega (arith, same, less))
 
 -- another number is another key
-elsewhere : (s seq k n : ℕ) → bytes_eq (s ∷ []) (seq ∷ []) ≡ false → bytes_eq (s ∷ k ∷ []) (seq ∷ n ∷ []) ≡ false
+elsewhere : (s seq k n : ℕ) → bytes_eq (s ∷ []) (seq ∷ []) ≡ false
+    → bytes_eq (s ∷ k ∷ []) (seq ∷ n ∷ []) ≡ false
 elsewhere s seq k n h = differ (s ∷ k ∷ []) (seq ∷ n ∷ []) (λ e. let same : s ≡ seq =
     cc in apart h (ap (λ x. x ∷ []) same))
 
 abbrev key : MovedRow → List ℕ
 key = moved_shape.key
 
-after : (seq k n : ℕ) (things : List Moved) → k < n → AllByRecursion (λ y. bytes_eq (seq ∷ k ∷ []) y ≡ false)
+after : (seq k n : ℕ) (things : List Moved) → k < n → AllByRecursion
+    (λ y. bytes_eq (seq ∷ k ∷ []) y ≡ false)
     (map key (rows_from seq n things))
 after seq k n [] less = tt
 after seq k n (m ∷ ms) less = (later seq k n less, after seq k (n + 1) ms (omega arith))
@@ -102,15 +106,15 @@ record Came (rows base : List MovedRow) (old new : Database) : Type 0 where
   formed : AreFormed new
   are : tables_of new ≡ record (tables_of old) { moved = arranged key (rows ++ base) }
 
-come : (rows base : List MovedRow) (old new : Database) → AreFormed old → (tables_of old).moved ≡ arranged key base
+come : (rows base : List MovedRow) (old new : Database) → AreFormed old
+    → (tables_of old).moved ≡ arranged key base
     → AllByRecursion (IsFree base) rows → IsDistinct bytes_eq (map key rows) → EachChained Enters rows old new
     → Came rows base old new
 unfolding IsDistinct
 come [] base old new formed is free distinct chain =
     record {
       formed = subst AreFormed (sym chain) formed;
-      are =
-          ap tables_of chain ∙ ap (λ m. record (tables_of old) { moved = m }) is;
+      are = ap tables_of chain ∙ ap (λ m. record (tables_of old) { moved = m }) is;
     }
 come (x ∷ xs) base old new formed is free distinct chain =
     let mid = chain.0 in
@@ -136,8 +140,7 @@ come (x ∷ xs) base old new formed is free distinct chain =
 abbrev with_entry : Receipt → List MovedRow → Tables → Tables
 with_entry r base t = record t {
   receipts = put receipt_shape.key (receipt_row r) t.receipts;
-  moved =
-      arranged key (moved_rows r ++ base);
+  moved = arranged key (moved_rows r ++ base);
 }
 
 module _ (f : Frame) (p : Package) (t : Tables) (says : Says f p t) (r : Receipt)
@@ -158,7 +161,8 @@ module _ (f : Frame) (p : Package) (t : Tables) (says : Says f p t) (r : Receipt
       numbers_apart)
 
   rows_free : AllByRecursion (IsFree (flat_map moved_rows says.entered)) (moved_rows r)
-  rows_free = all_free r.seq 0 r.items (flat_map moved_rows says.entered) (λ k. free r.seq k says.entered numbers_apart)
+  rows_free = all_free r.seq 0 r.items (flat_map moved_rows says.entered)
+      (λ k. free r.seq k says.entered numbers_apart)
 
   enters : Says f (with_receipt r p) (with_entry r (flat_map moved_rows says.entered) t)
   unfolding IsDistinct
@@ -239,15 +243,15 @@ pub moved_steps : {E : Type 0} (seq position : ℕ) (m : Moved) {s at kind size 
       kind = kind;
       base = base;
       other = other;
-      size =
-          size;
+      size = size;
       fingerprint = digest;
     })) old new q → Survives old new (λ _. ⊥)
     → s ≡ pos seq → at ≡ pos position → kind ≡ pos (kind_number m.kind) → base ≡ uuid_text m.base
     → other ≡ optional_uuid_text m.other → size ≡ pos m.size
     → digest ≡ option_map_or encode_lower m.fingerprint []
     → Steps (λ _. Enters (moved_row seq position m)) old new q
-moved_steps {E} seq position m {s} {at} {kind} {size} {base} {other} {digest} {old} {new} {q} makes survives e₁ e₂ e₃
+moved_steps {E} seq position m {s} {at} {kind} {size} {base} {other} {digest} {old} {new} {q} makes survives e₁ e₂
+    e₃
     e₄ e₅ e₆ e₇ =
     let row : MovedRow = record {
       seq = s;
@@ -255,16 +259,14 @@ moved_steps {E} seq position m {s} {at} {kind} {size} {base} {other} {digest} {o
       kind = kind;
       base = base;
       other = other;
-      size =
-          size;
+      size = size;
       fingerprint = digest;
     } in
     let is : row ≡ moved_row seq position m = λ i. record {
       seq = e₁ i;
       position = e₂ i;
       kind = e₃ i;
-      base =
-          e₄ i;
+      base = e₄ i;
       other = e₅ i;
       size = e₆ i;
       fingerprint = e₇ i;
@@ -279,8 +281,7 @@ pub head_steps : {E : Type 0} (r : Receipt) {s tiles media rows links bytes : �
       at = at;
       line = line;
       source = source;
-      target =
-          target;
+      target = target;
       n_tiles = tiles;
       n_media = media;
       n_rows = rows;
@@ -288,9 +289,11 @@ pub head_steps : {E : Type 0} (r : Receipt) {s tiles media rows links bytes : �
       n_bytes = bytes;
     })) old new q
     → Survives old new (λ _. ⊥)
-    → s ≡ pos r.seq → request ≡ uuid_text r.request → at ≡ r.at → line ≡ r.line → source ≡ optional_uuid_text r.source
+    → s ≡ pos r.seq → request ≡ uuid_text r.request → at ≡ r.at → line ≡ r.line
+    → source ≡ optional_uuid_text r.source
     → target ≡ optional_uuid_text r.target
-    → tiles ≡ pos r.tiles → media ≡ pos r.media → rows ≡ pos r.rows → links ≡ pos r.links → bytes ≡ pos r.bytes
+    → tiles ≡ pos r.tiles → media ≡ pos r.media → rows ≡ pos r.rows → links ≡ pos r.links
+    → bytes ≡ pos r.bytes
     → Steps (λ _. OnTables (Adds receipts (receipt_row r))) old new q
 head_steps {E} r {s} {tiles} {media} {rows} {links} {bytes} {request} {at} {line} {source} {target} {old} {new} {q}
     makes survives e₁ e₂ e₃ e₄ e₅ e₆ e₇ e₈ e₉ f₁ f₂ =
@@ -300,8 +303,7 @@ head_steps {E} r {s} {tiles} {media} {rows} {links} {bytes} {request} {at} {line
       at = at;
       line = line;
       source = source;
-      target =
-          target;
+      target = target;
       n_tiles = tiles;
       n_media = media;
       n_rows = rows;
@@ -313,8 +315,7 @@ head_steps {E} r {s} {tiles} {media} {rows} {links} {bytes} {request} {at} {line
       request = e₂ i;
       at = e₃ i;
       line = e₄ i;
-      source =
-          e₅ i;
+      source = e₅ i;
       target = e₆ i;
       n_tiles = e₇ i;
       n_media = e₈ i;

@@ -1,6 +1,7 @@
 -- The receipts of a package, read one number after the other, are all that it keeps; and a package that takes them in
 -- has those of both.
-use Rattle.std.proofs.Common.{◌≡◌, ℕ, ℤ, pos, negsuc, List, [], ◌∷◌, ◌++◌, map, Bool, true, false, Some, None, Result}
+use Rattle.std.proofs.Common.{◌≡◌, ℕ, ℤ, pos, negsuc, List, [], ◌∷◌, ◌++◌, map, Bool, true, false}
+use Rattle.std.proofs.Common.{Some, None, Result}
 use Rattle.std.proofs.Common.{Ok, refl, sym, ap, subst, ◌∙◌, inl, inr, arith, Ordering, Less}
 use Rattle.std.specs.Prelude.{◌≤ℤ◌, ◌<ℤ◌, bytes_eq, filter, nat_lt}
 use Rattle.std.specs.List.{AllByRecursion}
@@ -86,7 +87,8 @@ not_itself a = one (int_cmp a a) (int_cmp_total.antisymm a a)
     one Ordering.Equal h = refl
     one Ordering.Greater h = absurd cc
 
-pub number_before : (a b : Receipt) → is_before (receipt_key a) (receipt_key b) ≡ true → nat_lt a.seq b.seq ≡ true
+pub number_before : (a b : Receipt) → is_before (receipt_key a) (receipt_key b) ≡ true
+    → nat_lt a.seq b.seq ≡ true
 number_before a b h = sym (before_numbers a.seq b.seq) ∙ h
 
 -- ---- arranged lists
@@ -174,7 +176,8 @@ module _ (f : Frame) (p : Package) (t : Tables) (says : Says f p t) (last : ℤ)
           ]
 
       first : (xs : List Receipt) → ((r : Receipt) → In r xs → In r rest) → (e : Receipt) × In e rest
-          × (receipt_row e ≡ row) → (h : Receipt) × (tl : List Receipt) × (rest ≡ h ∷ tl) × (receipt_row h ≡ row)
+          × (receipt_row e ≡ row) → (h : Receipt) × (tl : List Receipt) × (rest ≡ h ∷ tl)
+          × (receipt_row h ≡ row)
       first xs within (e, i, is) = one rest refl
         where
           one : (ys : List Receipt) → rest ≡ ys → (h : Receipt) × (tl : List Receipt) × (rest ≡ h ∷ tl)
@@ -188,7 +191,8 @@ module _ (f : Frame) (p : Package) (t : Tables) (says : Says f p t) (last : ℤ)
                 (parted.whole ∙ ap (λ l. done ++ l) same) (receipts_arranged f p t says)) in
                 let less = number_before h e (All-In (λ y. is_before (receipt_key h) (receipt_key y) ≡ true) e tl
                 order.0 tail) in
-                let least = All-In (λ y. row.seq ≤ℤ y.seq) (receipt_row h) (filter (is_after last) t.receipts) found.1
+                let least = All-In (λ y. row.seq ≤ℤ y.seq) (receipt_row h) (filter (is_after last) t.receipts)
+                found.1
                 (passes_of h (subst (In h) (sym same) (inl refl))) in
                 absurd (not_both h.seq e.seq less (subst (λ n. n ≤ℤ pos h.seq) (sym (ap (λ x. x.seq) is)) least))
           ]
@@ -264,7 +268,8 @@ contains_all from h done tl whole = subst (In h) (sym whole) (at done)
     at (x ∷ xs) = inr (at xs)
 
 pub receipt_more : {E F : Type 0} (last : ℤ) (row : ReceiptRow) (s0 s1 s2 s3 : State) {t0 t1 t2 : State}
-    {x : Unit {0}} → Stays s0 s1 → Looked (λ t. IsLeast (λ y. y.seq) (filter (is_after last) t.receipts) (Some row))
+    {x : Unit {0}} → Stays s0 s1 → Looked (λ t. IsLeast (λ y. y.seq) (filter (is_after last) t.receipts)
+    (Some row))
     s1 s2 → Stays s2 s3
     → Steps {X = Unit {0}} {E = E} (λ _. FromClean s1 (ReceiptsSoFar last s0.now)) t0 t1 (Ok tt)
     → Steps {X = Unit {0}} {E = F} (λ _. FromClean s3 (BringsReceipt row s2.now)) t1 t2 (Ok x)

@@ -1,5 +1,6 @@
 -- The receipt that is read back from the rows of a request is the one that the package keeps.
-use Rattle.std.proofs.Common.{◌≡◌, ℕ, pos, List, map, Bool, true, false, refl, sym, ap, subst, ◌∙◌, Option, Some, None}
+use Rattle.std.proofs.Common.{◌≡◌, ℕ, pos, List, map, Bool, true, false, refl, sym, ap, subst, ◌∙◌}
+use Rattle.std.proofs.Common.{Option, Some, None}
 use Rattle.std.specs.Prelude.{bytes_eq, filter, Contains}
 use Rattle.std.specs.List.{AllByRecursion, list_any, enumerate_from}
 use Rattle.std.specs.Ordering.{int_eq}
@@ -77,7 +78,8 @@ module _ (f : Frame) (p : Package) (t : Tables) (says : Says f p t) where
 
   -- what the row of a request and the rows of its number say is kept for the request
   pub receipt_kept : (id : List ℕ) → IsUuid id → (row : ReceiptRow) (r : Receipt) → IsRowFor id t (Some row)
-      → AreThose (λ x. int_eq x.seq row.seq) t.moved (rows_at row.seq r.items) → receipt_row r ≡ row → IsFitReceipt r
+      → AreThose (λ x. int_eq x.seq row.seq) t.moved (rows_at row.seq r.items) → receipt_row r ≡ row
+      → IsFitReceipt r
       → Contains p.receipts r × (r.request ≡ id)
   receipt_kept id fit_id row r h are e fit =
       let it = In-of_map receipt_row row says.entered (in_arranged receipt_shape.key (map receipt_row says.entered)
@@ -86,7 +88,8 @@ module _ (f : Frame) (p : Package) (t : Tables) (says : Says f p t) where
       let seq : row.seq ≡ pos s.seq = sym (ap (λ x. x.seq) it.2) in
       let items : r.items ≡ s.items = things_kept s it.1 r.items fit.items
       (subst (λ n. AreThose (λ x. int_eq x.seq n) t.moved (rows_at n r.items)) seq are) in
-      let same : r ≡ s = same_receipt r s fit (All-In IsFitReceipt s says.entered says.fit it.1) (e ∙ sym it.2) items in
+      let same : r ≡ s = same_receipt r s fit (All-In IsFitReceipt s says.entered says.fit it.1) (e ∙ sym it.2)
+      items in
       let request : r.request ≡ id = same_uuid r.request id fit.request fit_id
       (ap (λ x. x.request) e ∙ (bytes_eq-Decides row.request (uuid_text id)).0 h.1) in (
         Contains-In r p.receipts (subst (In r) (sym says.kept)
@@ -97,7 +100,8 @@ module _ (f : Frame) (p : Package) (t : Tables) (says : Says f p t) where
   -- where no row has the text of a request, no receipt is kept for it
   pub none_kept : (id : List ℕ) → IsRowFor id t None → has (λ r. r.request) id p.receipts ≡ false
   none_kept id none =
-      ap (has (λ r. r.request) id) says.kept ∙ list_any-arranged receipt_key (λ r. bytes_eq r.request id) says.entered
+      ap (has (λ r. r.request) id) says.kept ∙ list_any-arranged receipt_key (λ r. bytes_eq r.request id)
+      says.entered
       ∙ no_text receipt_row (λ x. x.request) (λ r. r.request) (λ r. refl) id says.entered
       (sym (ap (list_any (λ x. bytes_eq x.request (uuid_text id))) says.receipts
       ∙ list_any-arranged receipt_shape.key (λ x. bytes_eq x.request (uuid_text id))

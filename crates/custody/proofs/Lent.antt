@@ -1,6 +1,7 @@
 -- The receipts of splits with one target, read one number after the other: none has it where the last that was read
 -- leaves none.
-use Rattle.std.proofs.Common.{◌≡◌, ℕ, ℤ, pos, negsuc, List, [], ◌∷◌, map, Bool, true, false, Option, Some, None, Ok}
+use Rattle.std.proofs.Common.{◌≡◌, ℕ, ℤ, pos, negsuc, List, [], ◌∷◌, map, Bool, true, false, Option}
+use Rattle.std.proofs.Common.{Some, None, Ok}
 use Rattle.std.proofs.Common.{refl, sym, ap, subst, ◌∙◌, inl, inr, arith}
 use Rattle.std.specs.Prelude.{◌≤ℤ◌, ◌&&◌, ◌⊎◌, bytes_eq, filter, length}
 use Rattle.std.specs.List.{AllByRecursion, list_any}
@@ -51,7 +52,8 @@ is_next id last x = bytes_eq x.target (uuid_text id) && is_gt (int_cmp x.seq las
 abbrev pub IsNextTo : List ℕ → ℤ → Tables → Option ReceiptRow → Type 0
 IsNextTo id last t found = IsLeast (λ x. x.seq) (filter (is_next id last) t.receipts) found
 
-target_same : (id : List ℕ) → uuid_in (uuid_text id) ≡ id → (target : Option (List ℕ)) → is_fit_end target ≡ true
+target_same : (id : List ℕ) → uuid_in (uuid_text id) ≡ id → (target : Option (List ℕ))
+    → is_fit_end target ≡ true
     → bytes_eq (optional_uuid_text target) (uuid_text id) ≡ ends_at target id
 target_same id back None fit = differ [] (uuid_text id) (λ e. let long : 0 ≡ 36 =
     ap length e ∙ by_index_length 36 _ in cc)
@@ -60,7 +62,8 @@ target_same id back (Some x) fit = texts_same x id (uuid_back x fit) back
 -- ---- two receipts of an arranged list
 
 module _ {X : Type 0} (key : X → List ℕ) where
-  in_turn : (a b : X) (xs : List X) → IsArranged key xs → In a xs → In b xs → (is_before (key a) (key b) ≡ true)
+  in_turn : (a b : X) (xs : List X) → IsArranged key xs → In a xs → In b xs
+      → (is_before (key a) (key b) ≡ true)
       ⊎ (a ≡ b) ⊎ (is_before (key b) (key a) ≡ true)
   in_turn a b [] order i j = absurd i
   in_turn a b (x ∷ xs) order i j = elim i [
@@ -85,7 +88,8 @@ AreAbove id last p = AllByRecursion (λ r. lends id r ≡ true → is_after last
 all_above : (id : List ℕ) (p : Package) → AreAbove id (negsuc 0) p
 all_above id p = All-each _ (λ r h. refl) p.receipts
 
-module _ (id : List ℕ) (back : uuid_in (uuid_text id) ≡ id) (f : Frame) (p : Package) (t : Tables) (says : Says f p t)
+module _ (id : List ℕ) (back : uuid_in (uuid_text id) ≡ id) (f : Frame) (p : Package) (t : Tables)
+    (says : Says f p t)
     (last : ℤ) where
   fit : (r : Receipt) → In r p.receipts → IsFitReceipt r
   fit r i = All-In IsFitReceipt r says.entered says.fit (in_arranged receipt_key says.entered r
@@ -98,7 +102,8 @@ module _ (id : List ℕ) (back : uuid_in (uuid_text id) ≡ id) (f : Frame) (p :
       (to_arranged receipt_shape.key (receipt_row r) (map receipt_row says.entered)
       (In-map receipt_row r says.entered (in_arranged receipt_key says.entered r
       (subst (In r) says.kept i)))) in
-      let to = target_same id back r.target (fit r i).target ∙ (and_parts (is_split r) (ends_at r.target id) lent).1 in
+      let to = target_same id back r.target (fit r i).target
+      ∙ (and_parts (is_split r) (ends_at r.target id) lent).1 in
       In-filter (is_next id last) (receipt_row r) t.receipts stored (cc (to, later))
 
   -- the row that is found is that of a receipt with this target
@@ -121,7 +126,8 @@ module _ (id : List ℕ) (back : uuid_in (uuid_text id) ≡ id) (f : Frame) (p :
       )
 
   -- where its line is that of a split, the package lent it
-  lent_so : (row : ReceiptRow) → IsNextTo id last t (Some row) → is_split_line row.line ≡ true → was_lent p id ≡ true
+  lent_so : (row : ReceiptRow) → IsNextTo id last t (Some row) → is_split_line row.line ≡ true
+      → was_lent p id ≡ true
   lent_so row found split =
       let it = found_of row found in
       let line : is_split it.0 ≡ true = ap (λ x. is_split_line x.line) it.2 ∙ split in
@@ -158,7 +164,8 @@ module _ (id : List ℕ) (back : uuid_in (uuid_text id) ≡ id) (f : Frame) (p :
       (λ r. lends id r ≡ true → is_after last (receipt_row r) ≡ true) (λ r. lends id r ≡ false)
       (λ r i later. no r i later (lends id r) refl) p.receipts (In-all p.receipts) so)
     where
-      no : (r : Receipt) → In r p.receipts → (lends id r ≡ true → is_after last (receipt_row r) ≡ true) → (b : Bool)
+      no : (r : Receipt) → In r p.receipts → (lends id r ≡ true → is_after last (receipt_row r) ≡ true)
+          → (b : Bool)
           → lends id r ≡ b → lends id r ≡ false
       no r i later false e = e
       no r i later true e = absurd (subst (In (receipt_row r)) none (passes r i e (later e)))
@@ -215,6 +222,7 @@ module _ (id : List ℕ) (back : uuid_in (uuid_text id) ≡ id) (last : ℤ) (s0
       (none_lent id back f p (tables_of s0.now) says last none above))
 
   pub answers_split : {E : Type 0} (row : ReceiptRow) → Looked (λ t. IsNextTo id last t (Some row)) s1 s2
-      → is_split_line row.line ≡ true → Looks {X = Bool} {E = E} (Sees (λ f p b. b ≡ was_lent p id)) s0 s2 (Ok true)
+      → is_split_line row.line ≡ true → Looks {X = Bool} {E = E} (Sees (λ f p b. b ≡ was_lent p id)) s0 s2
+      (Ok true)
   answers_split row looked split = answered (Some row) true looked
       (λ f p says found above. sym (lent_so id back f p (tables_of s0.now) says last row found split))

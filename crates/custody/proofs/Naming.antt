@@ -1,5 +1,6 @@
 -- Whether a receipt names an identity as that of an item, by the rows of the things that were moved.
-use Rattle.std.proofs.Common.{◌≡◌, ℕ, ◌+◌, pos, List, [], ◌∷◌, Bool, true, false, Some, refl, sym, ap, ◌∙◌}
+use Rattle.std.proofs.Common.{◌≡◌, ℕ, ◌+◌, pos, List, [], ◌∷◌, Bool, true, false, Some, refl, sym}
+use Rattle.std.proofs.Common.{ap, ◌∙◌}
 use Rattle.std.specs.Prelude.{◌&&◌, ◌||◌, bytes_eq, flat_map, unwrap_or}
 use Rattle.uuid.specs.Text.{parsed}
 use Rattle.uuid.proofs.TextLemmas.{by_index_length}
@@ -80,7 +81,8 @@ module _ (id : List ℕ) (back : uuid_in (uuid_text id) ≡ id) where
       ≡ list_any (λ y. is_item_kind y.kind && bytes_eq y.base id) ms
   things seq n [] h = refl
   things seq n (m ∷ ms) h =
-      list_any-append (λ x. is_of id (pos 1) x || is_of id (pos 2) x || is_of id (pos 3) x) (rows_from seq n (m ∷ []))
+      list_any-append (λ x. is_of id (pos 1) x || is_of id (pos 2) x || is_of id (pos 3) x)
+      (rows_from seq n (m ∷ []))
       (rows_from seq (n + 1) ms)
       ∙ (λ i. one_thing seq n m h.0 i || things seq (n + 1) ms h.1 i)
       ∙ sym (list_any-append (λ y. is_item_kind y.kind && bytes_eq y.base id) (m ∷ []) ms)

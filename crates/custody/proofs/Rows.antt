@@ -1,5 +1,6 @@
 -- The rows of a receipt's things, read one position after the other, are all that it moved.
-use Rattle.std.proofs.Common.{◌≡◌, ℕ, ℤ, ◌+◌, ◌≤◌, suc, pos, List, [], ◌∷◌, ◌++◌, length, Bool, true, Some, None, Ok}
+use Rattle.std.proofs.Common.{◌≡◌, ℕ, ℤ, ◌+◌, ◌≤◌, suc, pos, List, [], ◌∷◌, ◌++◌}
+use Rattle.std.proofs.Common.{length, Bool, true, Some, None, Ok}
 use Rattle.std.proofs.Common.{refl, sym, ap, subst, ◌∙◌, inl, inr, arith}
 use Rattle.std.specs.Prelude.{◌&&◌, Contains, flat_map}
 use Rattle.std.specs.List.{enumerate_from}
@@ -59,12 +60,14 @@ at_place n k m (x ∷ xs) rest long i =
       | inr j ↦ at_place (n + 1) k m xs rest (omega (arith, long)) j
     ]
 
-stands : {X : Type 0} (n : ℕ) (m : X) (done tl : List X) → In (n + length done, m) (enumerate_from n (done ++ m ∷ tl))
+stands : {X : Type 0} (n : ℕ) (m : X) (done tl : List X) → In (n + length done, m)
+    (enumerate_from n (done ++ m ∷ tl))
 stands n m [] tl = let e : n + 0 ≡ n = omega arith in inl (ap (λ k. (k, m)) (sym e))
 stands n m (x ∷ xs) tl = let e : n + 1 + length xs ≡ n + suc (length xs) =
     omega arith in inr (subst (λ k. In (k, m) (enumerate_from (n + 1) (xs ++ m ∷ tl))) e (stands (n + 1) m xs tl))
 
-rows_snoc : (seq n : ℕ) (done : List Moved) (m : Moved) → rows_from seq n (done ++ m ∷ []) ≡ rows_from seq n done
+rows_snoc : (seq n : ℕ) (done : List Moved) (m : Moved) → rows_from seq n (done ++ m ∷ [])
+    ≡ rows_from seq n done
     ++ moved_row seq (n + length done) m ∷ []
 rows_snoc seq n [] m = let e : n ≡ n + 0 = omega arith in ap (λ k. moved_row seq k m ∷ []) e
 rows_snoc seq n (x ∷ xs) m =
@@ -80,7 +83,8 @@ pub snoc_append : {X : Type 0} (xs : List X) (x : X) (ys : List X) → xs ++ x �
 snoc_append [] x ys = refl
 snoc_append (z ∷ zs) x ys = ap (λ l. z ∷ l) (snoc_append zs x ys)
 
-chain_snoc : {X : Type 0} (Change : X → Database → Database → Type 0) (xs : List X) (x : X) (old mid new : Database)
+chain_snoc : {X : Type 0} (Change : X → Database → Database → Type 0) (xs : List X) (x : X)
+    (old mid new : Database)
     → EachChained Change xs old mid → Change x mid new → EachChained Change (xs ++ x ∷ []) old new
 chain_snoc Change [] x old mid new same last = (new, subst (λ (d : Database). Change x d new) same last, refl)
 chain_snoc Change (y ∷ xs) x old mid new h last = (h.0, h.1, chain_snoc Change xs x h.0 mid new h.2 last)
@@ -157,8 +161,7 @@ none_so_far seq source old f from reads r has is = record {
   done = [];
   rest = r.items;
   whole = refl;
-  long =
-      refl;
+  long = refl;
   chain = refl;
 }
 

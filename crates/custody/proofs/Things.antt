@@ -1,5 +1,6 @@
 -- The rows of things, as far as a loop has read them, and the values that are fit by their types.
-use Rattle.std.proofs.Common.{◌≡◌, ℕ, suc, ℤ, ◌<◌, ◌≤◌, ◌+◌, take, get_or, length, List, [], ◌∷◌, ◌++◌, map, refl}
+use Rattle.std.proofs.Common.{◌≡◌, ℕ, suc, ℤ, ◌<◌, ◌≤◌, ◌+◌, take, get_or, length, List, []}
+use Rattle.std.proofs.Common.{◌∷◌, ◌++◌, map, refl}
 use Rattle.std.proofs.Common.{sym, ap, subst, ◌∙◌, true, arith}
 use Rattle.std.specs.List.{AllByRecursion, enumerate_from}
 use Rattle.std.proofs.lemmas.List.{take_more, take_all, length_push}
@@ -56,5 +57,6 @@ pub all_read : (seq : ℤ) (rows : List MovedRow) (things : List Moved) (i : ℕ
 all_read seq rows things i long it = subst (λ r. AreRead seq r things) (take_all i rows long) it
 
 -- one thing more
-pub pushed : (things : List Moved) (x : Moved) (i : ℕ) → length things ≡ i → length (things ++ x ∷ []) ≡ i + 1
+pub pushed : (things : List Moved) (x : Moved) (i : ℕ) → length things ≡ i
+    → length (things ++ x ∷ []) ≡ i + 1
 pushed things x i long = grind (arith, length_push things x, long)

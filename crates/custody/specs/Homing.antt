@@ -35,7 +35,8 @@ BringsThings seq source old new = (f : Frame) (from : Package) → Reads f from 
 -- The receipt of a row of another database comes to this one.
 abbrev pub BringsReceipt : ReceiptRow → Database → Database → Database → Type 0
 BringsReceipt row source old new = (f : Frame) (from : Package) → Reads f from source → (r : Receipt)
-    → Contains from.receipts r → receipt_row r ≡ row → Grows (λ p. has receipt_key (receipt_key r) p.receipts ≡ false)
+    → Contains from.receipts r → receipt_row r ≡ row → Grows
+    (λ p. has receipt_key (receipt_key r) p.receipts ≡ false)
     (with_receipt r) old new
 
 -- the change, where the disk that was read gave back what was written

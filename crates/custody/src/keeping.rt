@@ -1,5 +1,6 @@
 //! The receipt that a package keeps for a request, read back from the rows that say it.
-ghost use Rattle.std.specs.Prelude.{◌≡◌, ◌≢◌, ◌<◌, ℕ, true, pos, List, [], Option, bytes_eq, IfOk, IfErr};
+ghost use Rattle.std.specs.Prelude.{◌≡◌, ◌≢◌, ◌<◌, ℕ, true, pos, List, [], Option, bytes_eq, IfOk};
+ghost use Rattle.std.specs.Prelude.{IfErr};
 ghost use Rattle.std.specs.List.{AllByRecursion};
 ghost use Rattle.std.specs.Option.{option_map_or};
 ghost use Rattle.std.specs.Ordering.{int_eq};
@@ -165,7 +166,8 @@ fn named_by(row: &ReceiptRow) -> Result<Named, Fault>
     ensures request_fit { IfOk result (λ named. IsUuid named.request) }
     ensures source_fit { IfOk result (λ named. is_fit_end named.source ≡ true) }
     ensures target_fit { IfOk result (λ named. is_fit_end named.target ≡ true) }
-    ensures none { IfErr result (λ _. (receipt : Receipt) → IsFitReceipt receipt → receipt_row receipt ≢ row.now) }
+    ensures none { IfErr result (λ _. (receipt : Receipt) → IsFitReceipt receipt
+        → receipt_row receipt ≢ row.now) }
 {
     let seq = natural_of(row.seq)?;
     let request = stored_uuid(row.request.as_str())?;

@@ -1,5 +1,6 @@
 -- Links that are sorted are a set, whichever way they came.
-use Rattle.std.specs.Prelude.{◌≡◌, ℕ, ◌+◌, ◌<◌, Bool, true, false, cond, ◌&&◌, ◌||◌, List, [], ◌∷◌, length, refl}
+use Rattle.std.specs.Prelude.{◌≡◌, ℕ, ◌+◌, ◌<◌, Bool, true, false, cond, ◌&&◌, ◌||◌, List, []}
+use Rattle.std.specs.Prelude.{◌∷◌, length, refl}
 use Rattle.std.specs.Prelude.{bytes_eq}
 use Rattle.std.proofs.Common.{suc, sym, ap, subst, ◌∙◌, get_or, arith}
 use Rattle.std.specs.List.{list_any, dedup, dedup_from}
@@ -71,7 +72,8 @@ there xs ys same l i =
     subst (λ z. In z ys) (sym (one_link l y.0 y.2)) y.1
 
 -- sorted links that pass the same tests are the same
-pub one_list : (xs ys : List Relation) → IsArranged link_key xs → IsArranged link_key ys → AreSameLinks xs ys → xs ≡ ys
+pub one_list : (xs ys : List Relation) → IsArranged link_key xs → IsArranged link_key ys → AreSameLinks xs ys
+    → xs ≡ ys
 one_list xs ys a b same = same_list link_key xs ys a b (λ l i. there xs ys same l i)
     (λ l i. there ys xs (λ t. sym (same t)) l i)
 
@@ -81,7 +83,8 @@ twice : (a b : Bool) → (a || b) ≡ (a || (a || b))
 twice true b = refl
 twice false b = refl
 
-pub any-dedup_from : {X : Type 0} (E : X → X → Bool) (is : (x y : X) → E x y ≡ true → x ≡ y) (t : X → Bool) (x : X)
+pub any-dedup_from : {X : Type 0} (E : X → X → Bool) (is : (x y : X) → E x y ≡ true → x ≡ y)
+    (t : X → Bool) (x : X)
     (xs : List X) → list_any t (dedup_from E x xs) ≡ (t x || list_any t xs)
 any-dedup_from E is t x [] = refl
 any-dedup_from E is t x (y ∷ ys) = elim (E y x) as (λ v. E y x ≡ v
@@ -91,7 +94,8 @@ any-dedup_from E is t x (y ∷ ys) = elim (E y x) as (λ v. E y x ≡ v
       | false ↦ λ _. ap (λ b. t x || b) (any-dedup_from E is t y ys)
     ] refl
 
-pub any-dedup : {X : Type 0} (E : X → X → Bool) (is : (x y : X) → E x y ≡ true → x ≡ y) (t : X → Bool) (xs : List X)
+pub any-dedup : {X : Type 0} (E : X → X → Bool) (is : (x y : X) → E x y ≡ true → x ≡ y) (t : X → Bool)
+    (xs : List X)
     → list_any t (dedup E xs) ≡ list_any t xs
 any-dedup E is t [] = refl
 any-dedup E is t (x ∷ xs) = any-dedup_from E is t x xs

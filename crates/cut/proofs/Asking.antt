@@ -16,16 +16,21 @@ module _ {R : Type 0} {CanAsk : R → Type 0} {Stays : R → R → Type 0} {Show
   -- before the first question
   pub at_first : (Fact : Package → Type 0) (old : R) → CanAsk old → ((p : Package) → Fact p)
       → Asked CanAsk Stays Shows Fact old old
-  at_first Fact old ready facts = record { again = ready; stays = λ was h. h; showed = λ p h. h; told = λ p h. facts p }
+  at_first Fact old ready facts = record {
+    again = ready;
+    stays = λ was h. h;
+    showed = λ p h. h;
+    told = λ p h. facts p;
+  }
 
   -- a question that was answered
   pub asked : {X E : Type 0} (Answer : Package → X → Type 0) {old new : R} {r : Result X E} {x : X} → r ≡ Ok x
-      → Asks {X = X} {E = E} CanAsk Stays Shows Answer old new r → Asked CanAsk Stays Shows (λ p. Answer p x) old new
+      → Asks {X = X} {E = E} CanAsk Stays Shows Answer old new r
+      → Asked CanAsk Stays Shows (λ p. Answer p x) old new
   asked {X} {E} Answer {old} {new} {r} {x} is asks = record {
     again = it.again;
     stays = it.stays;
-    showed =
-        it.showed;
+    showed = it.showed;
     told = it.told;
   }
     where
@@ -68,7 +73,8 @@ module _ {R : Type 0} {CanAsk : R → Type 0} {Stays : R → R → Type 0} {Show
   pub answers_last : {X E : Type 0} {Fact : Package → Type 0} (Last : Package → X → Type 0)
       {Answer : Package → X → Type 0} {a b c : R} (r : Result X E) → Asked CanAsk Stays Shows Fact a b
       → Asks {X = X} {E = E} CanAsk Stays Shows Last b c r
-      → ((p : Package) (x : X) → Fact p → Last p x → Answer p x) → Asks {X = X} {E = E} CanAsk Stays Shows Answer a c r
+      → ((p : Package) (x : X) → Fact p → Last p x → Answer p x)
+      → Asks {X = X} {E = E} CanAsk Stays Shows Answer a c r
   answers_last Last (Ok x) first next so = answers (asked_then first (asked Last refl next))
       (λ p both. so p x both.0 both.1)
   answers_last Last (Err e) first next so = fails (Err e) refl (asked_then first (stayed next))

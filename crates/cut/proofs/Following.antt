@@ -1,5 +1,6 @@
 -- A list whose items were all asked is the least closed set.
-use Rattle.std.specs.Prelude.{◌≡◌, ℕ, Bool, true, false, ◌&&◌, ◌||◌, List, [], ◌∷◌, flat_map, take, refl, bytes_eq}
+use Rattle.std.specs.Prelude.{◌≡◌, ℕ, Bool, true, false, ◌&&◌, ◌||◌, List, [], ◌∷◌, flat_map}
+use Rattle.std.specs.Prelude.{take, refl, bytes_eq}
 use Rattle.std.proofs.Common.{sym, ap, subst, ◌∙◌, drop}
 use Rattle.std.proofs.lemmas.Bool.{and_from, and_parts}
 use Rattle.std.proofs.lemmas.Slice.Eq.{bytes_eq-Decides}
@@ -38,7 +39,8 @@ pub link_found : (p : Package) (order : List (List ℕ)) (l : Relation) (id : Li
 link_found p order l id member among at =
     let k : (k : List ℕ) × In k order × (bytes_eq k id ≡ true) = any_at (λ k. bytes_eq k id) order among in
     let e : k.0 ≡ id = (bytes_eq-Decides k.0 id).0 k.2 in
-    In-flat_map (links_of p) k.0 l order k.1 (In-filter (has_end k.0) l p.links member (ap (λ z. has_end z l) e ∙ at))
+    In-flat_map (links_of p) k.0 l order k.1 (In-filter (has_end k.0) l p.links member
+    (ap (λ z. has_end z l) e ∙ at))
 
 at_base : (l : Relation) → has_end l.base l ≡ true
 at_base l = ap (λ b. b || bytes_eq l.other l.base) (bytes_eq_itself l.base)
@@ -59,7 +61,8 @@ beq_is false true h = h
 beq_is false false h = refl
 
 -- what passes as a whole passes each
-pub each_passes : {X : Type 0} (p : X → Bool) (xs : List X) → list_all p xs ≡ true → AllByRecursion (λ x. p x ≡ true) xs
+pub each_passes : {X : Type 0} (p : X → Bool) (xs : List X) → list_all p xs ≡ true
+    → AllByRecursion (λ x. p x ≡ true) xs
 each_passes p [] h = tt
 each_passes p (x ∷ xs) h = let parts : (p x ≡ true) × (list_all p xs ≡ true) =
     and_parts (p x) (list_all p xs) h in (parts.0, each_passes p xs parts.1)
@@ -70,11 +73,13 @@ pub all_among : (start : List (List ℕ)) (test : List ℕ → Bool)
 all_among start test h = all_from test start (All-weaker (λ id. In id start) (λ id. test id ≡ true)
     (λ id i. h id (any_in (λ k. bytes_eq k id) id start i (bytes_eq_itself id))) start (In-all start))
 
-pub among_all : (start : List (List ℕ)) (test : List ℕ → Bool) → list_all test start ≡ true → (id : List ℕ)
+pub among_all : (start : List (List ℕ)) (test : List ℕ → Bool) → list_all test start ≡ true
+    → (id : List ℕ)
     → is_among start id ≡ true → test id ≡ true
 among_all start test h id among =
     let k : (k : List ℕ) × In k start × (bytes_eq k id ≡ true) = any_at (λ k. bytes_eq k id) start among in
-    ap test (sym ((bytes_eq-Decides k.0 id).0 k.2)) ∙ All-In (λ x. test x ≡ true) k.0 start (each_passes test start h)
+    ap test (sym ((bytes_eq-Decides k.0 id).0 k.2)) ∙ All-In (λ x. test x ≡ true) k.0 start
+    (each_passes test start h)
     k.1
 
 -- all of them were asked
@@ -88,7 +93,8 @@ followed p start order links k walked all has id = both_ways (is_among order id)
     together l member = both_ways (is_among order l.base) (is_among order l.other)
         (λ h. (ends l.base h (at_base l)).1) (λ h. (ends l.other h (at_media l)).0)
       where
-        ends : (k' : List ℕ) → is_among order k' ≡ true → has_end k' l ≡ true → (is_among order l.base ≡ true)
+        ends : (k' : List ℕ) → is_among order k' ≡ true → has_end k' l ≡ true
+            → (is_among order l.base ≡ true)
             × (is_among order l.other ≡ true)
         ends k' among at = All-In (λ x. (is_among order x.base ≡ true) × (is_among order x.other ≡ true)) l links
             walked.ends
@@ -104,7 +110,8 @@ followed p start order links k walked all has id = both_ways (is_among order id)
         (All-weaker (λ l. beq (is_among s l.base) (is_among s l.other) ≡ true)
         (λ l. is_among s l.base ≡ is_among s l.other) (λ l e. beq_is (is_among s l.base) (is_among s l.other) e)
         p.links (each_passes (λ l. beq (is_among s l.base) (is_among s l.other)) p.links parts.1)) id h)
-        (closed_sets p start) (filter_passes (λ s. holds_all start s && is_closed p s) (sublists (identities p.items))))
+        (closed_sets p start) (filter_passes (λ s. holds_all start s && is_closed p s)
+        (sublists (identities p.items))))
 
     least : in_each p start id ≡ true → is_among order id ≡ true
     least h = follow_is_least p start (is_among order) id has.items

@@ -1,5 +1,6 @@
 -- The least of some identities.
-use Rattle.std.specs.Prelude.{◌≡◌, ℕ, ◌+◌, ◌<◌, Bool, true, false, cond, ◌||◌, List, [], ◌∷◌, ◌++◌, find, take}
+use Rattle.std.specs.Prelude.{◌≡◌, ℕ, ◌+◌, ◌<◌, Bool, true, false, cond, ◌||◌, List, []}
+use Rattle.std.specs.Prelude.{◌∷◌, ◌++◌, find, take}
 use Rattle.std.specs.Prelude.{length, refl, Option, None, Some, bytes_eq}
 use Rattle.std.proofs.Common.{sym, ap, subst, ◌∙◌, get_or}
 use Rattle.std.proofs.lemmas.Bool.{true≢false}
@@ -102,12 +103,14 @@ none_among : (ids : List (List ℕ)) (k : List ℕ) → ids ≡ [] → is_among 
 none_among ids k none among = true≢false (sym among ∙ ap (λ l. is_among l k) none)
 
 -- the same identities have one least
-pub one_least : (xs ys : List (List ℕ)) (a b : Option (List ℕ)) → AreSame xs ys → IsLeast xs a → IsLeast ys b → a ≡ b
+pub one_least : (xs ys : List (List ℕ)) (a b : Option (List ℕ)) → AreSame xs ys → IsLeast xs a
+    → IsLeast ys b → a ≡ b
 one_least xs ys None None same h g = refl
 one_least xs ys None (Some k) same h g = absurd (none_among xs k h (same k ∙ g.0))
 one_least xs ys (Some k) None same h g = absurd (none_among ys k g (sym (same k) ∙ h.0))
 one_least xs ys (Some k) (Some m) same h g = ap Some (elim (bytes_eq k m) as (λ v. bytes_eq k m ≡ v → k ≡ m) [
   | true ↦ λ e. (bytes_eq-Decides k m).0 e
-  | false ↦ λ e. absurd (true≢false (sym (before_other_way k m (not_before_least ys m k g.1 (sym (same k) ∙ h.0)) e)
+  | false ↦ λ e. absurd (true≢false (sym (before_other_way k m
+      (not_before_least ys m k g.1 (sym (same k) ∙ h.0)) e)
       ∙ not_before_least xs k m h.1 (same m ∙ g.0)))
 ] refl)

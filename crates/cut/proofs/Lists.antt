@@ -1,5 +1,6 @@
 -- What a loop over a list has seen so far.
-use Rattle.std.specs.Prelude.{◌≡◌, ℕ, ◌+◌, ◌<◌, ◌≤◌, Bool, true, false, List, [], ◌∷◌, ◌++◌, map, filter, flat_map}
+use Rattle.std.specs.Prelude.{◌≡◌, ℕ, ◌+◌, ◌<◌, ◌≤◌, Bool, true, false, List, [], ◌∷◌}
+use Rattle.std.specs.Prelude.{◌++◌, map, filter, flat_map}
 use Rattle.std.specs.Prelude.{length, take, refl}
 use Rattle.std.proofs.Common.{sym, ap, ◌∙◌, get_or, arith}
 use Rattle.std.proofs.Math.Seq.{take-length}
@@ -18,14 +19,16 @@ taken_all xs i most least = ap (λ n. take n xs) (omega (arith, most, least)) �
 
 -- lists of each, with those of one more
 pub flat_more : {X Y : Type 0} (f : X → List Y) (xs : List X) (i : ℕ) (x : X) (made now : List Y) → i < length xs
-    → x ≡ get_or xs i x → made ≡ flat_map f (take i xs) → now ≡ made ++ f x → now ≡ flat_map f (take (i + 1) xs)
+    → x ≡ get_or xs i x → made ≡ flat_map f (take i xs) → now ≡ made ++ f x
+    → now ≡ flat_map f (take (i + 1) xs)
 flat_more f xs i x made now less is before pushed =
     pushed ∙ ap (λ l. l ++ f x) before ∙ ap (λ l. flat_map f (take i xs) ++ l) (sym (append-nil (f x)))
     ∙ sym (flat_map-append f (take i xs) (x ∷ [])) ∙ ap (flat_map f) (taken_more xs i x less is)
 
 -- what a test takes, with one more that passes
 pub filter_taken : {X Y : Type 0} (t : X → Bool) (f : X → Y) (xs : List X) (i : ℕ) (x : X) (made now : List Y)
-    → i < length xs → x ≡ get_or xs i x → made ≡ map f (filter t (take i xs)) → now ≡ made ++ f x ∷ [] → t x ≡ true
+    → i < length xs → x ≡ get_or xs i x → made ≡ map f (filter t (take i xs)) → now ≡ made ++ f x ∷ []
+    → t x ≡ true
     → now ≡ map f (filter t (take (i + 1) xs))
 filter_taken t f xs i x made now less is before pushed passes =
     let one : filter t (x ∷ []) ≡ x ∷ [] = rw passes refl in

@@ -1,5 +1,6 @@
 -- Identities that came in one after the other, and the sorted ones beside them.
-use Rattle.std.specs.Prelude.{◌≡◌, ℕ, Bool, true, false, cond, ◌||◌, List, [], ◌∷◌, ◌++◌, refl, bytes_eq}
+use Rattle.std.specs.Prelude.{◌≡◌, ℕ, Bool, true, false, cond, ◌||◌, List, [], ◌∷◌, ◌++◌, refl}
+use Rattle.std.specs.Prelude.{bytes_eq}
 use Rattle.std.proofs.Common.{sym, ap, ◌∙◌, append_assoc}
 use Rattle.std.proofs.lemmas.List.{append-nil}
 use Rattle.std.proofs.lemmas.List.Folds.{list_any-append}
@@ -34,7 +35,8 @@ sorted_arranged (k ∷ ks) h = (
 )
 
 -- one more is among them
-pub among-append : (xs ys : List (List ℕ)) (id : List ℕ) → is_among (xs ++ ys) id ≡ (is_among xs id || is_among ys id)
+pub among-append : (xs ys : List (List ℕ)) (id : List ℕ) → is_among (xs ++ ys) id
+    ≡ (is_among xs id || is_among ys id)
 among-append xs ys id = list_any-append (λ x. bytes_eq x id) xs ys
 
 or_swap : (a b : Bool) → (a || b) ≡ (b || a)
@@ -88,11 +90,13 @@ or_assoc true b c = refl
 or_assoc false b c = refl
 
 -- some, and then others
-pub enters_then : (xs ys : List (List ℕ)) (a b c : Group) → Enters xs a b → Enters ys b c → Enters (xs ++ ys) a c
+pub enters_then : (xs ys : List (List ℕ)) (a b c : Group) → Enters xs a b → Enters ys b c
+    → Enters (xs ++ ys) a c
 enters_then xs ys a b c first second = record {
   same = second.same;
   more = first.more ++ second.more;
-  behind = second.behind ∙ ap (λ l. l ++ second.more) first.behind ∙ append_assoc a.order.items first.more second.more;
+  behind = second.behind ∙ ap (λ l. l ++ second.more) first.behind
+      ∙ append_assoc a.order.items first.more second.more;
   members = λ q. second.members q ∙ ap (λ v. v || is_among ys q) (first.members q)
       ∙ or_assoc (is_among a.order.items q) (is_among xs q) (is_among ys q)
       ∙ ap (λ v. is_among a.order.items q || v) (sym (among-append xs ys q));
@@ -104,6 +108,5 @@ enters_nobody a same = record {
   same = same;
   more = [];
   behind = sym (append-nil a.order.items);
-  members =
-      λ q. sym (or-false (is_among a.order.items q));
+  members = λ q. sym (or-false (is_among a.order.items q));
 }

@@ -22,12 +22,14 @@ AskedOf g Fact = Asked (λ c. Rests (state g c)) (λ was now. Stays (state g was
     (λ c. ShowsPackage (state g c)) Fact
 
 -- the store was only read
-pub asked_stays : {S : Type 0} (g : Ghosts S) {Fact : Package → Type 0} {a b : Held S} → Stays (state g a) (state g a)
+pub asked_stays : {S : Type 0} (g : Ghosts S) {Fact : Package → Type 0} {a b : Held S}
+    → Stays (state g a) (state g a)
     → AskedOf g Fact a b → Stays (state g a) (state g b)
 asked_stays g {a = a} itself it = it.stays a itself
 
 -- and it answers still
-pub asked_sees : {S X Y E F : Type 0} (g : Ghosts S) (Answer : Package → X → Type 0) (Last : Tables → Y → Type 0)
+pub asked_sees : {S X Y E F : Type 0} (g : Ghosts S) (Answer : Package → X → Type 0)
+    (Last : Tables → Y → Type 0)
     {a b : Held S} (c : Held S) {x : X} {y : Y} {r : Result Y F} → Stays (state g a) (state g a)
     → AskedOf g (λ p. Answer p x) a b
     → r ≡ Ok y → Looks {X = Y} {E = F} (Answers Last) (state g b) (state g c) r
@@ -46,8 +48,7 @@ asked_sees g Answer Last {a} {b} c {y = y} itself first is looks = record {
             clean = before;
             is_open = is_open;
             frame = f;
-            reads =
-                subst (Reads f p) (sym now) reads;
+            reads = subst (Reads f p) (sym now) reads;
           }),
         ),
       );

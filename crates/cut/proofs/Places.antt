@@ -1,5 +1,6 @@
 -- The tiles of a zoom, the zooms in turn, and the rows: what lies inside.
-use Rattle.std.specs.Prelude.{◌≡◌, ℕ, ℤ, pos, ◌+ℤ◌, ◌<ℤ◌, int_lt, int_le, Bool, true, false, ◌&&◌, ◌||◌, List, []}
+use Rattle.std.specs.Prelude.{◌≡◌, ℕ, ℤ, pos, ◌+ℤ◌, ◌<ℤ◌, int_lt, int_le, Bool, true, false}
+use Rattle.std.specs.Prelude.{◌&&◌, ◌||◌, List, []}
 use Rattle.std.specs.Prelude.{◌∷◌, ◌++◌, filter, refl, bytes_eq}
 use Rattle.std.proofs.Common.{sym, ap, ◌∙◌, arith}
 use Rattle.std.proofs.lemmas.Bool.{and_parts}
@@ -103,7 +104,8 @@ next_zoom f r z (Row x y code label) = refl
 pub among_either : (p : Package) (s t : Content → Bool) (xs ys : List (List ℕ))
     → AreSame xs (identities (filter (λ i. s i.content) p.items))
     → AreSame ys (identities (filter (λ i. t i.content) p.items))
-    → (id : List ℕ) → is_among (xs ++ ys) id ≡ list_any (λ i. (s i.content || t i.content) && bytes_eq i.identity id)
+    → (id : List ℕ) → is_among (xs ++ ys) id ≡ list_any (λ i. (s i.content || t i.content) && bytes_eq
+    i.identity id)
     p.items
 among_either p s t xs ys same other id =
     among-append xs ys id ∙ ap (λ b. b || is_among ys id) (same id
@@ -181,9 +183,11 @@ pub start_is : (f : Frame) (r : Rect) (p : Package) (tiles : List (List ℕ))
 start_is f r p tiles same order id =
     among_either p (is_tile_below f r (f.first_zoom +ℤ f.levels)) (lies_on (block_ground f r)) tiles
     (rows_in p (block_ground f r)) same (λ k. refl) id
-    ∙ any_alike (λ i. (is_tile_below f r (f.first_zoom +ℤ f.levels) i.content || lies_on (block_ground f r) i.content)
+    ∙ any_alike (λ i. (is_tile_below f r (f.first_zoom +ℤ f.levels) i.content || lies_on (block_ground f r)
+    i.content)
     && bytes_eq i.identity id) (λ i. lies_inside f r i.content && bytes_eq i.identity id) p.items
-    (All-weaker (λ i. HasPlace f i.content) (λ i. ((is_tile_below f r (f.first_zoom +ℤ f.levels) i.content || lies_on
+    (All-weaker (λ i. HasPlace f i.content) (λ i. ((is_tile_below f r (f.first_zoom +ℤ f.levels) i.content ||
+    lies_on
     (block_ground f r) i.content) && bytes_eq i.identity id)
     ≡ (lies_inside f r i.content && bytes_eq i.identity id))
     (λ i h. ap (λ b. b && bytes_eq i.identity id) (inside_is f r i.content h)) p.items order.places)

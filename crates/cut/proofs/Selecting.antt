@@ -1,5 +1,6 @@
 -- What was gathered and sorted is the cut, and what was found in its way is the refusal.
-use Rattle.std.specs.Prelude.{◌≡◌, ℕ, Bool, true, false, cond, ◌&&◌, ◌||◌, List, [], ◌∷◌, map, filter, length, nat_le}
+use Rattle.std.specs.Prelude.{◌≡◌, ℕ, Bool, true, false, cond, ◌&&◌, ◌||◌, List, [], ◌∷◌, map}
+use Rattle.std.specs.Prelude.{filter, length, nat_le}
 use Rattle.std.specs.Prelude.{refl, bytes_eq, Option, None, Some}
 use Rattle.std.proofs.Common.{sym, ap, ap₂, subst, ◌∙◌, arith}
 use Rattle.std.proofs.lemmas.Bool.{true≢false, and_parts}
@@ -42,7 +43,8 @@ among_from : (k : List ℕ) (xs : List (List ℕ)) → In k xs → is_among xs k
 among_from k xs i = any_in (λ x. bytes_eq x k) k xs i (bytes_eq_itself k)
 
 -- sorted identities are a set
-pub one_set : (xs ys : List (List ℕ)) → IsArranged (λ k. k) xs → IsArranged (λ k. k) ys → AreSame xs ys → xs ≡ ys
+pub one_set : (xs ys : List (List ℕ)) → IsArranged (λ k. k) xs → IsArranged (λ k. k) ys → AreSame xs ys
+    → xs ≡ ys
 one_set xs ys a b same = same_list (λ k. k) xs ys a b (λ k i. in_from k ys (sym (same k) ∙ among_from k xs i))
     (λ k i. in_from k xs (same k ∙ among_from k ys i))
 
@@ -117,14 +119,16 @@ brought_same p Follow xs ys same id = ap (λ sets. list_all (λ s. is_among s id
     (λ h. all_among xs (is_among s) (λ k i. among_all ys (is_among s) h k (sym (same k) ∙ i))))))
 
 -- the start is of items
-pub start_items : (f : Frame) (r : Rect) (p : Package) (ids : List (List ℕ)) → AreSame ids (identities (start f r p))
+pub start_items : (f : Frame) (r : Rect) (p : Package) (ids : List (List ℕ))
+    → AreSame ids (identities (start f r p))
     → IsInOrder f p → HasStart p ids
 start_items f r p ids same order = record {
   ends = order.ends;
   items = all_among ids (is_among (identities p.items)) (λ k i. item k (sym (same k) ∙ i));
 }
   where
-    item : (k : List ℕ) → is_among (identities (start f r p)) k ≡ true → is_among (identities p.items) k ≡ true
+    item : (k : List ℕ) → is_among (identities (start f r p)) k ≡ true
+        → is_among (identities p.items) k ≡ true
     item k among =
         let i = any_at (λ i. lies_inside f r i.content && bytes_eq i.identity k) p.items
         (sym (among_those (λ i. i.identity) (λ i. lies_inside f r i.content) p.items k) ∙ among) in
@@ -140,7 +144,8 @@ cut_is f p Strict r = refl
 cut_is f p Follow r = refl
 
 pub selects : (f : Frame) (p : Package) (mode : Mode) (r : Rect) (ids : List (List ℕ)) (g : Gathered) (s : Selection)
-    → IsInOrder f p → AreSame ids (identities (start f r p)) → Gathers p (brought_along p mode ids) g → Sorts g s
+    → IsInOrder f p → AreSame ids (identities (start f r p)) → Gathers p (brought_along p mode ids) g
+    → Sorts g s
     → Selects (cut f p mode r) s
 selects f p mode r ids g s order same gathers sorts =
     subst (λ c. Selects c s) (ap (λ set. cut_out p set (touches set))
@@ -173,12 +178,15 @@ some_there (x ∷ xs) ids same some = grind arith
 pub link_cut : (f : Frame) (p : Package) (mode : Mode) (r : Rect) (ids : List (List ℕ)) (id : List ℕ)
     → AreSame ids (identities (start f r p)) → (ids ≡ [] → ⊥) → torn f p mode r ≡ Some id
     → refused f p mode r ≡ Some (CutLink id)
-link_cut f p mode r ids id same some tears = ap₂ (λ b o. first_row ((b, NothingToLend) ∷ carrying CutLink o ∷ []))
+link_cut f p mode r ids id same some tears = ap₂ (λ b o. first_row
+    ((b, NothingToLend) ∷ carrying CutLink o ∷ []))
     (some_there (start f r p) ids same some) tears
 
 pub nothing_refused : (f : Frame) (p : Package) (mode : Mode) (r : Rect) (ids : List (List ℕ))
-    → AreSame ids (identities (start f r p)) → (ids ≡ [] → ⊥) → torn f p mode r ≡ None → refused f p mode r ≡ None
-nothing_refused f p mode r ids same some whole = ap₂ (λ b o. first_row ((b, NothingToLend) ∷ carrying CutLink o ∷ []))
+    → AreSame ids (identities (start f r p)) → (ids ≡ [] → ⊥) → torn f p mode r ≡ None
+    → refused f p mode r ≡ None
+nothing_refused f p mode r ids same some whole = ap₂ (λ b o. first_row
+    ((b, NothingToLend) ∷ carrying CutLink o ∷ []))
     (some_there (start f r p) ids same some) whole
 
 -- what was found torn is what the model tears

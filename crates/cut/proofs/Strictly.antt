@@ -23,7 +23,8 @@ media_found p ids id =
     let test : Relation → Bool = λ l. leads_to_media l && is_among ids l.base in
     among_those (λ l. l.other) test (flat_map (links_of p) ids) id
     ∙ any_links (λ l. test l && bytes_eq l.other id) p.links ids
-    ∙ any_same (λ l. (test l && bytes_eq l.other id) && touches (is_among ids) l) (λ l. test l && bytes_eq l.other id)
+    ∙ any_same (λ l. (test l && bytes_eq l.other id) && touches (is_among ids) l)
+    (λ l. test l && bytes_eq l.other id)
     p.links (λ l. absorbs (leads_to_media l) (is_among ids l.base) (is_among ids l.other) (bytes_eq l.other id))
     ∙ sym (among_those (λ l. l.other) test p.links id)
 

@@ -1,5 +1,6 @@
 -- Tests of a list's elements, and of what is made of it.
-use Rattle.std.specs.Prelude.{◌≡◌, ℕ, Bool, true, false, cond, ◌&&◌, ◌||◌, List, [], ◌∷◌, map, filter, flat_map, refl}
+use Rattle.std.specs.Prelude.{◌≡◌, ℕ, Bool, true, false, cond, ◌&&◌, ◌||◌, List, [], ◌∷◌, map}
+use Rattle.std.specs.Prelude.{filter, flat_map, refl}
 use Rattle.std.specs.Prelude.{bytes_eq}
 use Rattle.std.proofs.Common.{sym, ap, ◌∙◌}
 use Rattle.std.proofs.lemmas.Bool.{and_from}
@@ -17,10 +18,12 @@ both_ways false true h g = g refl
 both_ways false false h g = refl
 
 -- tests that agree on each element
-pub any_same : {X : Type 0} (p q : X → Bool) (xs : List X) → ((x : X) → p x ≡ q x) → list_any p xs ≡ list_any q xs
+pub any_same : {X : Type 0} (p q : X → Bool) (xs : List X) → ((x : X) → p x ≡ q x)
+    → list_any p xs ≡ list_any q xs
 any_same p q xs h = ap (λ t. list_any t xs) (λ n. λ x. h x n)
 
-pub filter_alike : {X : Type 0} (p q : X → Bool) (xs : List X) → ((x : X) → p x ≡ q x) → filter p xs ≡ filter q xs
+pub filter_alike : {X : Type 0} (p q : X → Bool) (xs : List X) → ((x : X) → p x ≡ q x)
+    → filter p xs ≡ filter q xs
 filter_alike p q xs h = ap (λ t. filter t xs) (λ n. λ x. h x n)
 
 shuffle : (a b c d : Bool) → ((a || b) || (c || d)) ≡ ((a || c) || (b || d))
@@ -33,7 +36,8 @@ shuffle false false c d = refl
 pub any_or : {X : Type 0} (p q : X → Bool) (xs : List X) → list_any (λ x. p x || q x) xs
     ≡ (list_any p xs || list_any q xs)
 any_or p q [] = refl
-any_or p q (x ∷ xs) = ap (λ b. (p x || q x) || b) (any_or p q xs) ∙ shuffle (p x) (q x) (list_any p xs) (list_any q xs)
+any_or p q (x ∷ xs) = ap (λ b. (p x || q x) || b) (any_or p q xs)
+    ∙ shuffle (p x) (q x) (list_any p xs) (list_any q xs)
 
 -- a test that none passes
 pub any_none : {X : Type 0} (xs : List X) → list_any (λ x. false) xs ≡ false
@@ -62,7 +66,8 @@ pub among_those : {X : Type 0} (f : X → List ℕ) (t : X → Bool) (xs : List 
 among_those f t xs id = any_mapped (λ k. bytes_eq k id) f (filter t xs) ∙ any_filtered (λ x. bytes_eq (f x) id) t xs
 
 -- each passes
-pub all_from : {X : Type 0} (p : X → Bool) (xs : List X) → AllByRecursion (λ x. p x ≡ true) xs → list_all p xs ≡ true
+pub all_from : {X : Type 0} (p : X → Bool) (xs : List X) → AllByRecursion (λ x. p x ≡ true) xs
+    → list_all p xs ≡ true
 all_from p [] h = refl
 all_from p (x ∷ xs) h = and_from (p x) (list_all p xs) h.0 (all_from p xs h.1)
 

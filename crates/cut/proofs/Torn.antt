@@ -1,5 +1,6 @@
 -- Which item a strict cut would tear, by the links of what was gathered; and that what is brought along is of items.
-use Rattle.std.specs.Prelude.{◌≡◌, ℕ, Bool, true, false, cond, not, ◌&&◌, ◌||◌, List, [], ◌∷◌, filter, flat_map, refl}
+use Rattle.std.specs.Prelude.{◌≡◌, ℕ, Bool, true, false, cond, not, ◌&&◌, ◌||◌, List, [], ◌∷◌}
+use Rattle.std.specs.Prelude.{filter, flat_map, refl}
 use Rattle.std.specs.Prelude.{bytes_eq, Option, None, Some}
 use Rattle.std.proofs.Common.{sym, ap, ap₂, subst, ◌∙◌}
 use Rattle.std.proofs.lemmas.Bool.{true≢false, false≢true, and_parts, and_from}
@@ -32,12 +33,14 @@ any_flat q f [] = refl
 any_flat q f (x ∷ xs) = list_any-append q (f x) (flat_map f xs) ∙ ap (λ b. list_any q (f x) || b) (any_flat q f xs)
 
 -- a test that holds of all or of none
-any_fixed : {X : Type 0} (c : Bool) (q : X → Bool) (xs : List X) → list_any (λ x. c && q x) xs ≡ (c && list_any q xs)
+any_fixed : {X : Type 0} (c : Bool) (q : X → Bool) (xs : List X)
+    → list_any (λ x. c && q x) xs ≡ (c && list_any q xs)
 any_fixed true q xs = refl
 any_fixed false q xs = any_none xs
 
 -- the end that is torn, where this is it
-torn_at : (sb sm si eb em : Bool) → (eb ≡ true → sb ≡ si) → (em ≡ true → sm ≡ si) → (b m : List ℕ) (q : List ℕ → Bool)
+torn_at : (sb sm si eb em : Bool) → (eb ≡ true → sb ≡ si) → (em ≡ true → sm ≡ si)
+    → (b m : List ℕ) (q : List ℕ → Bool)
     → q b ≡ eb → q m ≡ em
     → list_any q (option_to_list (cond sb (cond sm None (Some b)) (cond sm (Some m) None)))
     ≡ (si && ((eb || em) && ((sb || sm) && not (sb && sm))))
@@ -103,7 +106,8 @@ end_there p ends l id member at =
     → is_among (identities p.items) id ≡ true) [
       | true ↦ λ same _. subst (λ k. is_among (identities p.items) k ≡ true) ((bytes_eq-Decides l.base id).0 same)
           (item_there p (base_kind l.mapping) l.base e.0)
-      | false ↦ λ _ same. subst (λ k. is_among (identities p.items) k ≡ true) ((bytes_eq-Decides l.other id).0 same)
+      | false ↦ λ _ same. subst (λ k. is_among (identities p.items) k ≡ true)
+          ((bytes_eq-Decides l.other id).0 same)
           (item_there p (other_kind l.mapping) l.other e.1)
     ] refl at
 
@@ -133,7 +137,8 @@ any_item t p id =
     ] refl
 
 -- the torn item of the model is the least of them
-pub torn_is : (p : Package) (start order : List (List ℕ)) (o : Option (List ℕ)) → AllByRecursion (HasEnds p) p.links
+pub torn_is : (p : Package) (start order : List (List ℕ)) (o : Option (List ℕ))
+    → AllByRecursion (HasEnds p) p.links
     → ((id : List ℕ) → is_among order id ≡ strict_set p start id)
     → IsLeast (torn_ends (is_among order) (flat_map (links_of p) order)) o → o ≡ torn_item p start
 torn_is p start order o ends same it = one_least (torn_ends (is_among order) (flat_map (links_of p) order)) torn o
@@ -190,6 +195,7 @@ brought_items p Follow start has id h = follow_is_least p start (is_among (ident
     (all_from (λ l. beq (is_among (identities p.items) l.base) (is_among (identities p.items) l.other)) p.links
     (All-weaker (HasEnds p) (λ l. beq (is_among (identities p.items) l.base) (is_among (identities p.items) l.other)
     ≡ true)
-    (λ l e. ap₂ beq (item_there p (base_kind l.mapping) l.base e.0) (item_there p (other_kind l.mapping) l.other e.1))
+    (λ l e. ap₂ beq (item_there p (base_kind l.mapping) l.base e.0)
+    (item_there p (other_kind l.mapping) l.other e.1))
     p.links has.ends))
     h

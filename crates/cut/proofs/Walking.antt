@@ -1,5 +1,6 @@
 -- A list of items that grows by the ends of links, while each of its items is asked for its links.
-use Rattle.std.specs.Prelude.{◌≡◌, ℕ, ◌+◌, ◌<◌, Bool, true, false, ◌||◌, List, [], ◌∷◌, ◌++◌, flat_map, length, take}
+use Rattle.std.specs.Prelude.{◌≡◌, ℕ, ◌+◌, ◌<◌, Bool, true, false, ◌||◌, List, [], ◌∷◌}
+use Rattle.std.specs.Prelude.{◌++◌, flat_map, length, take}
 use Rattle.std.specs.Prelude.{refl, bytes_eq}
 use Rattle.std.proofs.Common.{zero, suc, sym, ap, subst, ◌∙◌, get_or, arith, length-append}
 use Rattle.std.proofs.Math.ListN.{get_or-append}
@@ -91,14 +92,17 @@ both_in : (set : List ℕ → Bool) (id : List ℕ) (l : Relation) → set id �
     → set l.base ≡ set l.other → (set l.base ≡ true) × (set l.other ≡ true)
 both_in set id l member at same = either (bytes_eq l.base id) (bytes_eq l.other id)
     ((set l.base ≡ true) × (set l.other ≡ true)) at
-    (λ e. let base : set l.base ≡ true = ap set ((bytes_eq-Decides l.base id).0 e) ∙ member in (base, sym same ∙ base))
-    (λ e. let media : set l.other ≡ true = ap set ((bytes_eq-Decides l.other id).0 e) ∙ member in (same ∙ media, media))
+    (λ e. let base : set l.base ≡ true = ap set ((bytes_eq-Decides l.base id).0 e)
+    ∙ member in (base, sym same ∙ base))
+    (λ e. let media : set l.other ≡ true = ap set ((bytes_eq-Decides l.other id).0 e)
+    ∙ member in (same ∙ media, media))
 
 -- an element by its place is among them
 pub among_place : (xs : List (List ℕ)) (k : ℕ) (id : List ℕ) → k < length xs → id ≡ get_or xs k id
     → is_among xs id ≡ true
 among_place [] k id less is = absurd (omega (arith, less))
-among_place (x ∷ xs) zero id less is = or_left (bytes_eq x id) (is_among xs id) (ap (bytes_eq x) is ∙ bytes_eq_itself x)
+among_place (x ∷ xs) zero id less is = or_left (bytes_eq x id) (is_among xs id)
+    (ap (bytes_eq x) is ∙ bytes_eq_itself x)
 among_place (x ∷ xs) (suc k) id less is = or_right (bytes_eq x id) (is_among xs id)
     (among_place xs k id (omega (arith, less)) is)
 
@@ -115,7 +119,8 @@ walked_more p start old new links found all k id walked less is told enters push
       (walked.starts q h);
   ends = subst (AllByRecursion (λ l. (is_among new.order.items l.base ≡ true)
       × (is_among new.order.items l.other ≡ true))) (sym pushed)
-      (All-append (λ l. (is_among new.order.items l.base ≡ true) × (is_among new.order.items l.other ≡ true)) links
+      (All-append (λ l. (is_among new.order.items l.base ≡ true) × (is_among new.order.items l.other ≡ true))
+      links
       found
       (All-weaker (λ l. (is_among old.order.items l.base ≡ true) × (is_among old.order.items l.other ≡ true))
       (λ l. (is_among new.order.items l.base ≡ true) × (is_among new.order.items l.other ≡ true))

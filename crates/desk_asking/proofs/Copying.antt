@@ -1,5 +1,6 @@
 -- What was read and written so far, frame by frame and piece by piece.
-use Rattle.std.proofs.Common.{◌≡◌, ◌≢◌, ◌≤◌, ◌+◌, ◌-◌, ℕ, List, [], ◌∷◌, ◌++◌, length, true, Option, Result, Ok, Err}
+use Rattle.std.proofs.Common.{◌≡◌, ◌≢◌, ◌≤◌, ◌+◌, ◌-◌, ℕ, List, [], ◌∷◌, ◌++◌}
+use Rattle.std.proofs.Common.{length, true, Option, Result, Ok, Err}
 use Rattle.std.proofs.Common.{inl, inr, refl, sym, ◌∙◌, subst, arith}
 use Rattle.std.specs.Prelude.{All, IfOk, codes, flat_map, nat_eq}
 use Rattle.std.specs.Io.KnownBytes.{Appends, Consumes}
@@ -13,7 +14,8 @@ use Rattle.desk_asking.specs.declared.answers.Answer.{Answer}
 use Rattle.desk_asking.specs.declared.answers.Answer.TheVariants.{Ended, NotHere}
 
 -- bytes that were taken, and more behind them
-pub taken_then : (a b c : Option (List ℕ)) (bs cs ds : List ℕ) → Consumes a b bs → Consumes b c cs → ds ≡ bs ++ cs
+pub taken_then : (a b c : Option (List ℕ)) (bs cs ds : List ℕ) → Consumes a b bs → Consumes b c cs
+    → ds ≡ bs ++ cs
     → Consumes a c ds
 taken_then a b c bs cs ds p q e = subst (Consumes a c) (sym e) (Consumes-trans a b c bs cs p q)
 
@@ -87,7 +89,8 @@ none_yet left out err = record {
   many = refl;
 }
 
-flat_one : (f : Frame → List ℕ) (fs : List Frame) (x : Frame) → flat_map f (fs ++ x ∷ []) ≡ flat_map f fs ++ f x
+flat_one : (f : Frame → List ℕ) (fs : List Frame) (x : Frame)
+    → flat_map f (fs ++ x ∷ []) ≡ flat_map f fs ++ f x
 flat_one f fs x = sym (flat_map_more f [] fs x)
 
 -- a frame more
@@ -206,7 +209,8 @@ pub fields_end : (left left1 left2 : Option (List ℕ)) (line : List ℕ) → Fi
 fields_end left left1 left2 line so more is = (
   flat_map line_text so.fields ++ line_text (13 ∷ []),
   record { fields = so.fields; is = refl; none_empty = so.none_empty },
-  Consumes-trans left left1 left2 _ _ so.taken (subst (λ (l : List ℕ). Consumes left1 left2 (l ++ 10 ∷ [])) is more),
+  Consumes-trans left left1 left2 _ _ so.taken (subst (λ (l : List ℕ). Consumes left1 left2 (l ++ 10 ∷ [])) is
+      more),
 )
 
 -- a status line, and the fields behind it
@@ -220,7 +224,8 @@ head_of left left1 left2 status taken good rest =
 -- frames behind a head
 pub behind_head : {F : Type 0} (r : Result Answer F) (left left1 left2 out out' err err' : Option (List ℕ))
     → (head : List ℕ) × IsHead head × Consumes left left1 head
-    → IfOk r (λ answer. Copies (λ bytes output errors. AreFrames bytes output errors answer) left1 left2 out out' err
+    → IfOk r (λ answer. Copies (λ bytes output errors. AreFrames bytes output errors answer) left1 left2 out out'
+    err
     err')
     → IfOk r (λ answer. Copies (λ bytes output errors. IsAnswer bytes output errors answer) left left2 out out' err
     err')

@@ -1,5 +1,6 @@
 -- Texts of a few bytes, of a number, and where a desk listens.
-use Rattle.std.proofs.Common.{true, nat_eq, ◌≡◌, ◌≤◌, ◌<◌, ◌+◌, ◌^◌, ℕ, List, [], ◌∷◌, ◌++◌, length, get_or, take}
+use Rattle.std.proofs.Common.{true, nat_eq, ◌≡◌, ◌≤◌, ◌<◌, ◌+◌, ◌^◌, ℕ, List, [], ◌∷◌}
+use Rattle.std.proofs.Common.{◌++◌, length, get_or, take}
 use Rattle.std.proofs.Common.{drop, Option, Result, Ok, refl, sym, ap, ◌∙◌, subst, append_assoc, arith}
 use Rattle.std.specs.Io.KnownBytes.{Consumes}
 use Rattle.std.specs.List.{list_all}
@@ -32,7 +33,8 @@ pub byte_taken : (a b : Option (List ℕ)) (xs : List ℕ) → length xs ≡ 1 �
 byte_taken a b xs one taken = subst (Consumes a b) (one_of xs one) taken
 
 -- a line that says a frame's head was taken
-pub head_taken : (a b : Option (List ℕ)) (line : List ℕ) (kind size : ℕ) → line ≡ kind ∷ (32 ∷ decimal size)
+pub head_taken : (a b : Option (List ℕ)) (line : List ℕ) (kind size : ℕ)
+    → line ≡ kind ∷ (32 ∷ decimal size)
     → Consumes a b (line ++ 10 ∷ []) → Consumes a b (frame_head kind size)
 head_taken a b line kind size is taken = subst (λ (l : List ℕ). Consumes a b (l ++ 10 ∷ [])) is taken
 
@@ -41,26 +43,32 @@ pub decimal_is_text : (n : ℕ) (text : List ℕ) → n < 2 ^ 64 → text ≡ de
 decimal_is_text n text fits is = subst IsUtf8 (sym is) (IsUtf8-from_ascii (decimal n) (IsAscii-decimal n fits))
 
 -- and parses to it
-pub decimal_parses : {F : Type 0} (n : ℕ) (text : List ℕ) (r : Result ℕ F) → n < 2 ^ 64 → ParsesUnsigned 64 10 text r
+pub decimal_parses : {F : Type 0} (n : ℕ) (text : List ℕ) (r : Result ℕ F) → n < 2 ^ 64
+    → ParsesUnsigned 64 10 text r
     → text ≡ decimal n → r ≡ Ok n
 decimal_parses n text r fits parses is = parse-decimal 64 n text r fits fits is parses
 
 -- ---- where a desk listens
 
 desk_shape : (port key : List ℕ) → port ++ (32 ∷ (key ++ 10 ∷ [])) ≡ ((port ++ 32 ∷ []) ++ key) ++ 10 ∷ []
-desk_shape port key = sym (append_assoc (port ++ 32 ∷ []) key (10 ∷ []) ∙ append_assoc port (32 ∷ []) (key ++ 10 ∷ []))
+desk_shape port key = sym (append_assoc (port ++ 32 ∷ []) key (10 ∷ [])
+    ∙ append_assoc port (32 ∷ []) (key ++ 10 ∷ []))
 
 -- a text of these parts
-pub text_of_desk : (text line front key : List ℕ) (port : ℕ) → text ≡ line ++ 10 ∷ [] → line ≡ front ++ key
+pub text_of_desk : (text line front key : List ℕ) (port : ℕ) → text ≡ line ++ 10 ∷ []
+    → line ≡ front ++ key
     → front ≡ decimal port ++ 32 ∷ [] → text ≡ desk_text port key
 text_of_desk text line front key port p q r =
-    p ∙ ap (λ (l : List ℕ). l ++ 10 ∷ []) (q ∙ ap (λ (f : List ℕ). f ++ key) r) ∙ sym (desk_shape (decimal port) key)
+    p ∙ ap (λ (l : List ℕ). l ++ 10 ∷ []) (q ∙ ap (λ (f : List ℕ). f ++ key) r)
+    ∙ sym (desk_shape (decimal port) key)
 
 -- what stands before its end
-pub line_of_desk : (text line : List ℕ) (port : ℕ) (key : List ℕ) → text ≡ desk_text port key → text ≡ line ++ 10 ∷ []
+pub line_of_desk : (text line : List ℕ) (port : ℕ) (key : List ℕ) → text ≡ desk_text port key
+    → text ≡ line ++ 10 ∷ []
     → line ≡ (decimal port ++ 32 ∷ []) ++ key
 line_of_desk text line port key p q =
-    append_cancel_right line ((decimal port ++ 32 ∷ []) ++ key) (10 ∷ []) (sym q ∙ p ∙ desk_shape (decimal port) key)
+    append_cancel_right line ((decimal port ++ 32 ∷ []) ++ key) (10 ∷ [])
+    (sym q ∙ p ∙ desk_shape (decimal port) key)
 
 -- and the whole of it
 pub end_of_desk : (text : List ℕ) (port : ℕ) (key : List ℕ) → text ≡ desk_text port key
@@ -106,7 +114,8 @@ key_long key good =
     grind (arith, nat_tests, first)
 
 -- its line is no shorter than a key
-pub line_long : (text line : List ℕ) (port : ℕ) (key : List ℕ) → text ≡ line ++ 10 ∷ [] → is_key key ≡ true
+pub line_long : (text line : List ℕ) (port : ℕ) (key : List ℕ) → text ≡ line ++ 10 ∷ []
+    → is_key key ≡ true
     → text ≡ desk_text port key → 32 ≤ length line
 line_long text line port key cut good is =
     let whole = line_of_desk text line port key is cut in
@@ -124,7 +133,8 @@ line_parts text line front back port key cut split long good is =
     (long ∙ sym (key_long key good))
 
 -- three texts that were put one after the other
-pub three_put : (a b c d x y z : List ℕ) → b ≡ a ++ x → c ≡ b ++ y → d ≡ c ++ z → d ≡ a ++ (x ++ (y ++ z))
+pub three_put : (a b c d x y z : List ℕ) → b ≡ a ++ x → c ≡ b ++ y → d ≡ c ++ z
+    → d ≡ a ++ (x ++ (y ++ z))
 three_put a b c d x y z p q r =
     r ∙ ap (λ (l : List ℕ). l ++ z) (q ∙ ap (λ (l : List ℕ). l ++ y) p) ∙ append_assoc (a ++ x) y z
     ∙ append_assoc a x (y ++ z)

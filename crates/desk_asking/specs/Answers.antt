@@ -1,5 +1,6 @@
 -- The bytes of a desk's answer: the head of a response (RFC 9112), and frames. Profile.
-use Rattle.std.specs.Prelude.{◌≡◌, ◌≢◌, ◌≤◌, ◌⊎◌, ℕ, List, [], ◌∷◌, ◌++◌, length, flat_map, codes, decimal, All}
+use Rattle.std.specs.Prelude.{◌≡◌, ◌≢◌, ◌≤◌, ◌⊎◌, ℕ, List, [], ◌∷◌, ◌++◌, length}
+use Rattle.std.specs.Prelude.{flat_map, codes, decimal, All}
 use Rattle.std.specs.Prelude.{if◌then◌else◌, nat_eq, true, Option}
 use Rattle.std.specs.List.{starts_with}
 use Rattle.std.specs.Io.KnownBytes.{Consumes, Appends}
@@ -23,7 +24,8 @@ IsHead bytes =
     × (starts_with nat_eq status (codes "HTTP/1.1 200 ") ≡ true) × AreFields rest
 
 -- so many bytes went from a reader to a writer
-abbrev pub Moves : ℕ → Option (List ℕ) → Option (List ℕ) → Option (List ℕ) → Option (List ℕ) → Type 0
+abbrev pub Moves : ℕ → Option (List ℕ) → Option (List ℕ) → Option (List ℕ) → Option (List ℕ)
+    → Type 0
 Moves size left left' out out' =
     (bytes : List ℕ) × (length bytes ≡ size) × Consumes left left' bytes × Appends out out' bytes
 
@@ -72,10 +74,12 @@ pub record AreFrames (bytes output errors : List ℕ) (answer : Answer) : Type 0
 -- The same behind the head of a response.
 abbrev pub IsAnswer : List ℕ → List ℕ → List ℕ → Answer → Type 0
 IsAnswer bytes output errors answer =
-    (head : List ℕ) × (rest : List ℕ) × (bytes ≡ head ++ rest) × IsHead head × AreFrames rest output errors answer
+    (head : List ℕ) × (rest : List ℕ) × (bytes ≡ head ++ rest) × IsHead head
+    × AreFrames rest output errors answer
 
 -- What a reader gave and what two writers got stand so to each other.
-abbrev pub Copies : (List ℕ → List ℕ → List ℕ → Type 0) → Option (List ℕ) → Option (List ℕ) → Option (List ℕ)
+abbrev pub Copies : (List ℕ → List ℕ → List ℕ → Type 0) → Option (List ℕ) → Option (List ℕ)
+    → Option (List ℕ)
     → Option (List ℕ) → Option (List ℕ) → Option (List ℕ) → Type 0
 Copies Says left left' out out' err err' =
     (bytes : List ℕ) × (output : List ℕ) × (errors : List ℕ) × Says bytes output errors

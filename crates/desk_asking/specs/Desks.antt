@@ -1,5 +1,6 @@
 -- The text that says where a desk listens, and the key of those who may ask it. Profile.
-use Rattle.std.specs.Prelude.{ℕ, List, [], ◌∷◌, ◌++◌, length, decimal, Bool, ◌&&◌, ◌||◌, nat_eq, nat_le}
+use Rattle.std.specs.Prelude.{ℕ, List, [], ◌∷◌, ◌++◌, length, decimal, Bool, ◌&&◌, ◌||◌, nat_eq}
+use Rattle.std.specs.Prelude.{nat_le}
 use Rattle.std.specs.List.{list_all}
 
 -- a hexadecimal digit, letters in lower case

@@ -1,5 +1,6 @@
 //! Where a desk listens and the word that it knows its askers by, as a text that its folder holds.
-ghost use Rattle.std.specs.Prelude.{◌≡◌, ◌≢◌, ◌<◌, ◌^◌, ◌∷◌, ◌++◌, [], ℕ, List, length, IfOk, IfSome, IfNone, true};
+ghost use Rattle.std.specs.Prelude.{◌≡◌, ◌≢◌, ◌<◌, ◌^◌, ◌∷◌, ◌++◌, [], ℕ, List};
+ghost use Rattle.std.specs.Prelude.{length, IfOk, IfSome, IfNone, true};
 ghost use Rattle.std.specs.Prelude.{string_bytes, decimal};
 ghost use Rattle.std.specs.List.{list_all};
 ghost use Rattle.desk_asking.specs.Desks.{desk_text, is_key, is_key_digit};

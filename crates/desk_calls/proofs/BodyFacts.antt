@@ -1,5 +1,6 @@
 -- What an input that has grown says of the bytes after a head.
-use Rattle.std.proofs.Common.{◌≡◌, ◌≤◌, ◌<◌, ◌+◌, ◌-◌, ℕ, List, ◌++◌, Option, Some, None, IfSome, length, drop}
+use Rattle.std.proofs.Common.{◌≡◌, ◌≤◌, ◌<◌, ◌+◌, ◌-◌, ℕ, List, ◌++◌, Option, Some}
+use Rattle.std.proofs.Common.{None, IfSome, length, drop}
 use Rattle.std.proofs.Common.{slice_range, refl, sym, ap, arith, inl, inr}
 use Rattle.std.proofs.lemmas.List.{append_assoc, drop-append-le, take-append-le, length-append, length-drop}
 use Rattle.std.specs.Io.KnownBytes.{IsAtEnd}
@@ -11,7 +12,8 @@ use Rattle.desk_calls.specs.declared.calls.Flaw.TheVariants.{BadRequest}
 use Rattle.desk_calls.specs.declared.calls.Asked.TheVariants.{Body}
 
 -- the bytes after the head are those of the input after it, and what is left
-rest_of : (old more zs ys new : List ℕ) (start : ℕ) → start ≤ length old → new ≡ old ++ more → ys ≡ more ++ zs
+rest_of : (old more zs ys new : List ℕ) (start : ℕ) → start ≤ length old → new ≡ old ++ more
+    → ys ≡ more ++ zs
     → drop start old ++ ys ≡ drop start new ++ zs
 rest_of old more zs ys new start within grown taken =
     rw (grown, taken, drop-append-le start old more within) (sym (append_assoc (drop start old) more zs))

@@ -21,7 +21,8 @@ uuid_named front back path text None e f = λ other is. rw (append_cancel_right 
     (append_cancel_left front (other ++ back) (text ++ back) (sym is ∙ e))) (sym f)
 
 -- what follows a head in all the bytes is what follows it in the input, and then what is left
-rest_is : (xs ys input front rest tail : List ℕ) → xs ≡ input ++ ys → input ≡ front ++ tail → xs ≡ front ++ rest
+rest_is : (xs ys input front rest tail : List ℕ) → xs ≡ input ++ ys → input ≡ front ++ tail
+    → xs ≡ front ++ rest
     → rest ≡ tail ++ ys
 rest_is xs ys input front rest tail taken read whole = append_cancel_left front rest (tail ++ ys)
     (sym whole ∙ taken ∙ ap (λ l. l ++ ys) read ∙ append_assoc front tail ys)

@@ -1,6 +1,8 @@
 -- What a beginning of a reader's bytes says of them all.
-use Rattle.std.proofs.Common.{◌≡◌, ◌≢◌, ◌≤◌, ◌+◌, ◌-◌, ◌∙◌, ℕ, List, [], ◌∷◌, ◌++◌, Option, Some, None, IfSome}
-use Rattle.std.proofs.Common.{length, take, drop, refl, sym, ap, arith, append-nil, false, ◌==◌, ◌⊎◌, inl, inr}
+use Rattle.std.proofs.Common.{◌≡◌, ◌≢◌, ◌≤◌, ◌+◌, ◌-◌, ◌∙◌, ℕ, List, [], ◌∷◌}
+use Rattle.std.proofs.Common.{◌++◌, Option, Some, None, IfSome}
+use Rattle.std.proofs.Common.{length, take, drop, refl, sym, ap, arith, append-nil, false, ◌==◌, ◌⊎◌, inl}
+use Rattle.std.proofs.Common.{inr}
 use Rattle.std.proofs.KnownBytes.{Consumes-trans}
 use Rattle.std.proofs.lemmas.List.{length-map, length-append, length-take}
 use Rattle.std.proofs.Math.Seq.{take-append_seam, take-append-add}
@@ -18,7 +20,8 @@ front_nil [] b e = refl
 front_nil (x ∷ a) b e = cc e
 
 -- of two ways to cut a list the shorter front is a front of the longer one
-front_of : (a b c d : List ℕ) → a ++ b ≡ c ++ d → length c ≤ length a → a ≡ c ++ take (length a - length c) d
+front_of : (a b c d : List ℕ) → a ++ b ≡ c ++ d → length c ≤ length a
+    → a ≡ c ++ take (length a - length c) d
 front_of a b c d e h =
     let n : length a ≡ length c + (length a - length c) = omega arith in
     sym (take-append_seam a b) ∙ ap (take (length a)) e ∙ ap (λ k. take k (c ++ d)) n
@@ -43,7 +46,8 @@ whole_gathers (Some xs) (Some ys) input headers spans p short room (h, at) =
       at,
     )
 
-pub never_gathers : (o after : Option (List ℕ)) (input : List ℕ) (headers : List HeaderSpan) → Consumes o after input
+pub never_gathers : (o after : Option (List ℕ)) (input : List ℕ) (headers : List HeaderSpan)
+    → Consumes o after input
     → input ≢ []
     → RequestOverflows 64 input → IfSome o (λ xs. Gathers xs input headers Bad)
 never_gathers None after input headers p some over = tt
@@ -54,7 +58,8 @@ never_gathers (Some xs) (Some ys) input headers p some over = (
       over ys h rest (rw p at is.reads) in let few = is.few in absurd (omega arith),
 )
 
-pub full_gathers : (o after : Option (List ℕ)) (input : List ℕ) (headers : List HeaderSpan) → Consumes o after input
+pub full_gathers : (o after : Option (List ℕ)) (input : List ℕ) (headers : List HeaderSpan)
+    → Consumes o after input
     → 16384 ≤ length input → input ≢ []
     → HasNoRequest input → IfSome o (λ xs. Gathers xs input headers Bad)
 full_gathers None after input headers p full some none = tt
@@ -65,7 +70,8 @@ full_gathers (Some xs) (Some ys) input headers p full some none = (
       none h _ (is.reads.0, front_of input ys (print_request h) rest (sym p ∙ is.reads.1) (omega arith)),
 )
 
-pub ended_gathers : (o after : Option (List ℕ)) (input : List ℕ) (headers : List HeaderSpan) → Consumes o after input
+pub ended_gathers : (o after : Option (List ℕ)) (input : List ℕ) (headers : List HeaderSpan)
+    → Consumes o after input
     → IsAtEnd after → input ≢ []
     → HasNoRequest input → IfSome o (λ xs. Gathers xs input headers Bad)
 ended_gathers None after input headers p end some none = tt
@@ -79,9 +85,11 @@ pub nothing_gathers : (o after : Option (List ℕ)) (input : List ℕ) (headers 
     → IfSome o (λ xs. Gathers xs input headers Nothing)
 nothing_gathers None after input headers p end none = tt
 nothing_gathers (Some xs) None input headers p end none = absurd p
-nothing_gathers (Some xs) (Some ys) input headers p end none = p ∙ ap (λ l. input ++ l) end ∙ append-nil input ∙ none
+nothing_gathers (Some xs) (Some ys) input headers p end none =
+    p ∙ ap (λ l. input ++ l) end ∙ append-nil input ∙ none
 
-pub grown : (o a b : Option (List ℕ)) (old new bs : List ℕ) → Consumes o a old → new ≡ old ++ bs → Consumes a b bs
+pub grown : (o a b : Option (List ℕ)) (old new bs : List ℕ) → Consumes o a old → new ≡ old ++ bs
+    → Consumes a b bs
     → Consumes o b new
 grown o a b old new bs p e q = rw e (Consumes-trans o a b old bs p q)
 
@@ -108,6 +116,7 @@ pub room_within : (old new n : ℕ) → new ≤ old + (16384 - n) → n ≡ old 
 room_within old new n h e small = omega arith
 
 -- a piece that is not empty makes the input longer
-pub one_more : (old new bs : List ℕ) (turn n : ℕ) → turn ≤ length old → n ≢ 0 → n ≡ length bs → new ≡ old ++ bs
+pub one_more : (old new bs : List ℕ) (turn n : ℕ) → turn ≤ length old → n ≢ 0 → n ≡ length bs
+    → new ≡ old ++ bs
     → turn + 1 ≤ length new
 one_more old new bs turn n h some size e = let sum = ap length e in omega (arith, sum, length-append old bs)

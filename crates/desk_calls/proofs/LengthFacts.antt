@@ -1,5 +1,6 @@
 -- Fields one after the other, and the digits of a length.
-use Rattle.std.proofs.Common.{◌≡◌, ◌≤◌, ◌<◌, ◌+◌, ◌*◌, ◌∙◌, ℕ, Bool, true, false, List, [], ◌∷◌, ◌++◌, length, map}
+use Rattle.std.proofs.Common.{◌≡◌, ◌≤◌, ◌<◌, ◌+◌, ◌*◌, ◌∙◌, ℕ, Bool, true, false}
+use Rattle.std.proofs.Common.{List, [], ◌∷◌, ◌++◌, length, map}
 use Rattle.std.proofs.Common.{take, get_or, refl, ap, arith, nat_lt, nat_le}
 use Rattle.std.specs.List.{list_all}
 use Rattle.std.specs.Char.{digit_value, is_ascii_digit}
@@ -17,11 +18,13 @@ use Rattle.desk_calls.specs.declared.lengths.Values.{Values}
 use Rattle.desk_calls.specs.declared.lengths.Values.TheVariants.{More}
 
 -- a second value
-pub second : (before : List (List ℕ)) (one value : List ℕ) → before ≡ one ∷ [] → AreValues (before ++ value ∷ []) More
+pub second : (before : List (List ℕ)) (one value : List ℕ) → before ≡ one ∷ []
+    → AreValues (before ++ value ∷ []) More
 second before one value e = (one, value, [], ap (λ l. l ++ value ∷ []) e)
 
 -- one more of many
-pub yet_more : (before : List (List ℕ)) (value : List ℕ) → AreValues before More → AreValues (before ++ value ∷ []) More
+pub yet_more : (before : List (List ℕ)) (value : List ℕ) → AreValues before More
+    → AreValues (before ++ value ∷ []) More
 yet_more before value (one, other, more, e) = (one, other, more ++ value ∷ [], ap (λ l. l ++ value ∷ []) e)
 
 -- the values of fields and more fields
@@ -66,7 +69,8 @@ goes_up n [] = omega arith
 goes_up n (c ∷ digits) = let up = goes_up (n * 10 + digit_value c) digits in omega arith
 
 -- a number that is too large before its last digit
-pub too_large : (n : ℕ) (digits text : List ℕ) → 2200000 < n → digits_value_after 10 n digits ≡ digits_value 10 text
+pub too_large : (n : ℕ) (digits text : List ℕ) → 2200000 < n
+    → digits_value_after 10 n digits ≡ digits_value 10 text
     → Now (Refused TooLarge) ≡ digits_ask text
 too_large n digits text large same =
     let up = goes_up n digits in

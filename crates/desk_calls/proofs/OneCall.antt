@@ -1,5 +1,6 @@
 -- A connection asks one call at most.
-use Rattle.std.proofs.Common.{◌≡◌, ◌∙◌, ℕ, Bool, true, false, List, [], ◌++◌, Option, Some, None, take, refl, sym, ap}
+use Rattle.std.proofs.Common.{◌≡◌, ◌∙◌, ℕ, Bool, true, false, List, [], ◌++◌, Option, Some, None}
+use Rattle.std.proofs.Common.{take, refl, sym, ap}
 use Rattle.std.proofs.Common.{arith, inl, inr, codes}
 use Rattle.std.specs.Prelude.{bytes_eq}
 use Rattle.std.proofs.lemmas.List.{append_cancel_left, append_cancel_right}
@@ -47,7 +48,8 @@ by_path : (to : Option Route) (h : RequestHead) (a b : Asked) → PathAsks to h 
 by_path None h a b x y = x ∙ sym y
 by_path (Some to) h a b x y = by_method (bytes_eq h.method (method_of to)) to h a b x y
 
-by_origin : (passes : Bool) (h : RequestHead) (a b : Asked) → OriginAsks passes h a → OriginAsks passes h b → a ≡ b
+by_origin : (passes : Bool) (h : RequestHead) (a b : Asked) → OriginAsks passes h a → OriginAsks passes h b
+    → a ≡ b
 by_origin true h a b x y = by_path (route_of (path_of h.target)) h a b x y
 by_origin false h a b x y = x ∙ sym y
 
@@ -69,7 +71,8 @@ one_of_body body (Apply request) Packages x y = absurd y
 one_of_body body (Apply request) (Manifest id) x y = absurd y
 one_of_body body (Apply request) (Receipt id) x y = absurd y
 
-one_of_rest : (asked : Asked) (rest : List ℕ) (a b : Call) → RestAsks asked rest a → RestAsks asked rest b → a ≡ b
+one_of_rest : (asked : Asked) (rest : List ℕ) (a b : Call) → RestAsks asked rest a → RestAsks asked rest b
+    → a ≡ b
 one_of_rest (Now call) rest a b x y = x ∙ sym y
 one_of_rest (Body size) rest a b (inl (short, is)) (inl (shorter, also)) = is ∙ sym also
 one_of_rest (Body size) rest a b (inl (short, is)) (inr (enough, asks)) = absurd (omega arith)

@@ -1,6 +1,7 @@
 -- What the bytes of a connection ask of the desk: the checks, in their order. Profile, over RFC 9112 for fields and
 -- RFC 9562 for UUIDs.
-use Rattle.std.specs.Prelude.{◌≡◌, ◌≢◌, ◌≤◌, ◌<◌, ◌⊎◌, ℕ, Bool, true, false, ◌&&◌, nat_le, nat_lt, if◌then◌else◌}
+use Rattle.std.specs.Prelude.{◌≡◌, ◌≢◌, ◌≤◌, ◌<◌, ◌⊎◌, ℕ, Bool, true, false, ◌&&◌}
+use Rattle.std.specs.Prelude.{nat_le, nat_lt, if◌then◌else◌}
 use Rattle.std.specs.Prelude.{List, [], ◌∷◌, ◌++◌, length, take, map, codes, bytes_eq, Option, Some, None}
 use Rattle.std.specs.List.{list_all}
 use Rattle.std.specs.Char.{is_ascii_digit}
@@ -32,13 +33,15 @@ is_named name field = str_eq_ignore_ascii_case field.0 name
 -- the values of the fields of this name, which is in lower case
 abbrev pub values_of : List ℕ → List (List ℕ × List ℕ) → List (List ℕ)
 values_of name [] = []
-values_of name (field ∷ fields) = if is_named name field then field.1 ∷ values_of name fields else values_of name fields
+values_of name (field ∷ fields) = if is_named name field then field.1
+    ∷ values_of name fields else values_of name fields
 
 -- how many values there are, and which where there is one
 abbrev pub AreValues : List (List ℕ) → Values → Type 0
 AreValues found values.None = found ≡ []
 AreValues found (values.One value) = found ≡ value.now ∷ []
-AreValues found values.More = (one : List ℕ) × (other : List ℕ) × (more : List (List ℕ)) × (found ≡ one ∷ other ∷ more)
+AreValues found values.More = (one : List ℕ) × (other : List ℕ) × (more : List (List ℕ))
+    × (found ≡ one ∷ other ∷ more)
 
 -- one to nine digits
 abbrev pub is_length : List ℕ → Bool
@@ -85,7 +88,8 @@ method_of route.Receipt = codes "GET"
 abbrev pub NamesBetween : List ℕ → List ℕ → List ℕ → Option (List ℕ) → Type 0
 NamesBetween front back path (Some id) = (text : List ℕ) × (path ≡ front ++ (text ++ back))
     × (parsed_hyphenated text ≡ Some id)
-NamesBetween front back path None = (text : List ℕ) → path ≡ front ++ (text ++ back) → parsed_hyphenated text ≡ None
+NamesBetween front back path None = (text : List ℕ) → path ≡ front ++ (text ++ back)
+    → parsed_hyphenated text ≡ None
 
 -- what a head asks on its route, whose method it has
 abbrev pub RouteAsks : Route → RequestHead → Asked → Type 0
@@ -106,9 +110,8 @@ abbrev pub PathAsks : Option Route → RequestHead → Asked → Type 0
 PathAsks None h asked = asked ≡ Now (Refused NoSuchPath)
 PathAsks (Some to) h asked = MethodAsks (bytes_eq h.method (method_of to)) to h asked
 
--- Whether the Origin fields of a request let it pass (RFC 6454, section 7): it has none, as that of a program that is
--- no
--- browser, or the only one is the desk's own address.
+-- Whether the Origin fields of a request let it pass (RFC 6454, section 7): it has none, as that of
+-- a program that is no browser, or the only one is the desk's own address.
 abbrev pub origins_pass : List ℕ → List (List ℕ) → Bool
 origins_pass own [] = true
 origins_pass own (origin ∷ []) = bytes_eq origin own
@@ -147,7 +150,8 @@ RestAsks (Body size) rest asked = ((length rest < size) × (asked ≡ Refused Ba
 
 -- a head and what follows it ask this of a desk with this address
 abbrev pub WholeAsks : List ℕ → List ℕ → Call → Type 0
-WholeAsks own xs call = (h : RequestHead) × (rest : List ℕ) × HeadIs xs h rest × (asked : Asked) × HeadAsks own h asked
+WholeAsks own xs call = (h : RequestHead) × (rest : List ℕ) × HeadIs xs h rest × (asked : Asked)
+    × HeadAsks own h asked
     × RestAsks asked rest call
 
 -- what all the bytes of a connection ask, where there is one

@@ -1,6 +1,7 @@
 -- The head of a request at the front of some bytes (RFC 9112, as `httparse` reads it), and the routes of its path (as
 -- `matchit` reads them). Limits and routes are profile.
-use Rattle.std.specs.Prelude.{◌≡◌, ◌≢◌, ◌≤◌, ℕ, List, [], length, codes, Result, Ok, Err, Option, option_map, nat_eq}
+use Rattle.std.specs.Prelude.{◌≡◌, ◌≢◌, ◌≤◌, ℕ, List, [], length, codes, Result, Ok, Err, Option}
+use Rattle.std.specs.Prelude.{option_map, nat_eq}
 use Rattle.std.specs.List.{before_first}
 use Rattle.httparse.specs.Grammar.{RequestHead, ReadsRequest, HasNoRequest, print_request}
 use Rattle.httparse.specs.Spans.{IsRequestAt, IsRequestOf, IsRequestWithin, RequestOverflows}

@@ -1,5 +1,6 @@
 //! The head of a request, gathered from a source.
-ghost use Rattle.std.specs.Prelude.{◌≡◌, ◌≢◌, ◌≤◌, ◌<◌, ◌+◌, ◌++◌, ℕ, List, [], length, Err, IfOk, OnOk, OnErr};
+ghost use Rattle.std.specs.Prelude.{◌≡◌, ◌≢◌, ◌≤◌, ◌<◌, ◌+◌, ◌++◌, ℕ, List, []};
+ghost use Rattle.std.specs.Prelude.{length, Err, IfOk, OnOk, OnErr};
 ghost use Rattle.std.specs.Prelude.{IfSome, IsSome, MatchOption};
 ghost use Rattle.std.specs.Io.KnownBytes.{Consumes, IsAtEnd, Keeps};
 ghost use Rattle.desk_calls.specs.Heads.{Gathers, IsJudged, LiesWithin};
@@ -84,7 +85,8 @@ pub fn gather_head<R: Source>(
     requires fresh { input.old.items ≡ [] }
     requires fields { length headers.old ≡ 64 }
     ensures taken { OnOk result (Consumes (R.remaining source.old) (R.remaining source.new) input.new.items) }
-    ensures head { IfOk result (λ g. IfSome (R.remaining source.old) (λ xs. Gathers xs input.new.items headers.new g)) }
+    ensures head { IfOk result (λ g. IfSome (R.remaining source.old)
+        (λ xs. Gathers xs input.new.items headers.new g)) }
     ensures within { IfOk result (LiesWithin input.new.items headers.new) }
     ensures short { OnOk result (length input.new.items ≤ 16384) }
     ensures sound { R.never_fails source.old → result ≢ Err Failed }

@@ -63,7 +63,8 @@ fn path_asks(
     path: &str,
 ) -> Result<Asked, OutOfMemory>
     requires { All (IsHeaderWithin (length input.now)) headers.now }
-    ensures asks { IfOk result (λ asked. (h : RequestHead) → method.now ≡ h.method → path.now ≡ path_of h.target
+    ensures asks { IfOk result (λ asked. (h : RequestHead) → method.now ≡ h.method
+        → path.now ≡ path_of h.target
         → map (header_bytes input.now) headers.now ≡ map name_and_value h.fields
         → PathAsks (route_of (path_of h.target)) h asked) }
     ensures small { IfOk result IsSmall }

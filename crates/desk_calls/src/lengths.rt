@@ -1,5 +1,6 @@
 //! How long a body is by the fields of its head.
-ghost use Rattle.std.specs.Prelude.{◌≡◌, ◌≤◌, ◌++◌, ◌∷◌, [], ℕ, List, map, length, All, IsTrue, ◌↔◌};
+ghost use Rattle.std.specs.Prelude.{◌≡◌, ◌≤◌, ◌++◌, ◌∷◌, [], ℕ, List, map, length, All};
+ghost use Rattle.std.specs.Prelude.{IsTrue, ◌↔◌};
 ghost use Rattle.httparse.specs.Grammar.{AllPass};
 ghost use Rattle.std.specs.Char.{is_ascii_digit};
 ghost use Rattle.httparse.specs.Spans.{IsHeaderWithin, header_bytes};
@@ -30,7 +31,8 @@ fn is_named(input: &[u8], header: HeaderSpan, name: &[u8]) -> bool
 
 /// The same values and one behind them.
 fn with_one_more<'a>(found: Values<'a>, value: &'a [u8]) -> Values<'a>
-    ensures { (before : List (List ℕ)) → AreValues before found.entry → AreValues (before ++ value.now ∷ []) result }
+    ensures { (before : List (List ℕ)) → AreValues before found.entry
+        → AreValues (before ++ value.now ∷ []) result }
 {
     match found {
         Values::None => Values::One(value),

@@ -1,5 +1,6 @@
 -- What the world told is what is answered.
-use Rattle.std.proofs.Common.{◌≡◌, ◌⊎◌, ◌∙◌, ℕ, Bool, true, false, List, Option, Some, None, ap, sym, subst, inl, inr}
+use Rattle.std.proofs.Common.{◌≡◌, ◌⊎◌, ◌∙◌, ℕ, Bool, true, false, List, Option, Some, None, ap}
+use Rattle.std.proofs.Common.{sym, subst, inl, inr}
 use Rattle.std.specs.Bool.{then_some}
 use Rattle.sheet_types.proofs.Basics.{None≢Some, some_same}
 use Rattle.sheet_types.specs.Answers.{holdings_answer, receipt_answer}
@@ -33,11 +34,13 @@ manifest_by false w p items links out told is = absurd (None≢Some (sym told))
 
 pub manifest_told : (w : World) (p : List ℕ) (items : List Item) (links : List Relation) (out : List ℕ)
     → Some (items, links) ≡ holdings_answer w p
-    → out ≡ manifest_response (manifest_of items links) → IsAnswer w (call.Manifest (Some p)) out ⊎ IsFaultText out
+    → out ≡ manifest_response (manifest_of items links) → IsAnswer w (call.Manifest (Some p)) out
+    ⊎ IsFaultText out
 manifest_told w p items links out told is = inl (manifest_by (is_live w p) w p items links out told is)
 
 no_manifest_by : (b : Bool) (w : World) (p out : List ℕ)
-    → ◌≡◌ {A = Option (List Item × List Relation)} None (then_some b ((holdings w p).items, (holdings w p).links))
+    → ◌≡◌ {A = Option (List Item × List Relation)} None (then_some b
+    ((holdings w p).items, (holdings w p).links))
     → out ≡ fixed_response fixed.NoSuchPackage
     → out ≡ manifest_answer b w p
 no_manifest_by true w p out told is = absurd (None≢Some told)

@@ -1,5 +1,6 @@
 -- What was found of a request says what its bytes ask.
-use Rattle.std.proofs.Common.{◌≡◌, ◌≤◌, ◌+◌, ◌-◌, ◌∙◌, ℕ, List, ◌++◌, length, take, drop, slice_range}
+use Rattle.std.proofs.Common.{◌≡◌, ◌≤◌, ◌+◌, ◌-◌, ◌∙◌, ℕ, List, ◌++◌, length, take}
+use Rattle.std.proofs.Common.{drop, slice_range}
 use Rattle.std.proofs.Common.{Option, Some, None, IfSome, sym, ap, arith}
 use Rattle.std.proofs.lemmas.List.{append_assoc, append_cancel_left, drop-append-le, length-drop, length-take}
 use Rattle.std.proofs.lemmas.List.{take-append-drop}
@@ -14,12 +15,14 @@ use Rattle.desk_calls.specs.declared.heads.Gathered.TheVariants.{Head}
 use Rattle.desk_http.specs.Commands.{HeadPasses, IsCommand, IsRest}
 
 -- the bytes after the head are those of the input after it, and what is left
-rest_of : (old more zs ys new : List ℕ) (start : ℕ) → start ≤ length old → new ≡ old ++ more → ys ≡ more ++ zs
+rest_of : (old more zs ys new : List ℕ) (start : ℕ) → start ≤ length old → new ≡ old ++ more
+    → ys ≡ more ++ zs
     → drop start old ++ ys ≡ drop start new ++ zs
 rest_of old more zs ys new start within grown taken =
     rw (grown, taken, drop-append-le start old more within) (sym (append_assoc (drop start old) more zs))
 
-pub body_gathered : (own key : List ℕ) (o after : Option (List ℕ)) (old new : List ℕ) (start size : ℕ) (h : RequestHead)
+pub body_gathered : (own key : List ℕ) (o after : Option (List ℕ)) (old new : List ℕ) (start size : ℕ)
+    (h : RequestHead)
     → Grows o after old new → start ≤ length old → start + size ≤ length new → HeadPasses own key h size
     → IfSome o (λ ys. IsRest own key h (drop start old ++ ys) (slice_range new start (start + size)))
 body_gathered own key None after old new start size h grows within enough passes = tt
@@ -37,7 +40,8 @@ body_gathered own key (Some ys) (Some zs) old new start size h grows within enou
     }
 
 -- what follows a head in all the bytes is what follows it in the input, and then what is left
-rest_is : (xs ys input front rest tail : List ℕ) → xs ≡ input ++ ys → input ≡ front ++ tail → xs ≡ front ++ rest
+rest_is : (xs ys input front rest tail : List ℕ) → xs ≡ input ++ ys → input ≡ front ++ tail
+    → xs ≡ front ++ rest
     → rest ≡ tail ++ ys
 rest_is xs ys input front rest tail taken read whole =
     append_cancel_left front rest (tail ++ ys)

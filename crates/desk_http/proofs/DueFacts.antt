@@ -7,7 +7,8 @@ use Rattle.desk_calls.specs.declared.calls.Call.TheVariants as call
 use Rattle.desk_http.specs.Served.{DueIsServed}
 
 module _ {S : Type 0} (g : Ghosts S) where
-  still : (old new : Seen S) → (new ≡ old) ⊎ IsRead g old new → (w : World) → StandsFor g old w → StandsFor g new w
+  still : (old new : Seen S) → (new ≡ old) ⊎ IsRead g old new → (w : World) → StandsFor g old w
+      → StandsFor g new w
   still old new (inl same) w stands = subst (λ seen. StandsFor g seen w) (sym same) stands
   still old new (inr read) w stands = read.stands w stands
 

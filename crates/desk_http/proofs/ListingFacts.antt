@@ -1,5 +1,6 @@
 -- The list from what is told of each package is the list of the world's packages.
-use Rattle.std.proofs.Common.{◌≡◌, ◌∙◌, ◌<◌, ◌+◌, ℕ, Bool, true, false, List, [], ◌∷◌, ◌++◌, length, map, take}
+use Rattle.std.proofs.Common.{◌≡◌, ◌∙◌, ◌<◌, ◌+◌, ℕ, Bool, true, false, List, [], ◌∷◌}
+use Rattle.std.proofs.Common.{◌++◌, length, map, take}
 use Rattle.std.proofs.Common.{get_or, Option, Some, None, unwrap_or, find, refl, sym, ap}
 use Rattle.std.proofs.lemmas.List.{map-append, take_more}
 use Rattle.std.specs.Bool.{then_some}
@@ -35,7 +36,8 @@ each_listed : (w : World) (ps : List Package) → AllByRecursion (λ p. find (at
 each_listed w [] here = refl
 each_listed w (p ∷ ps) here =
     let first : listed_in w (sight w p) ≡ listed w p = ap (λ o. listed_from o (sight w p)) (sums_known w p here.0) in
-    ap (λ l. l ∷ map (listed_in w) (map (sight w) ps)) first ∙ ap (λ ls. listed w p ∷ ls) (each_listed w ps here.1)
+    ap (λ l. l ∷ map (listed_in w) (map (sight w) ps)) first
+    ∙ ap (λ ls. listed w p ∷ ls) (each_listed w ps here.1)
 
 pub all_told : (w : World) (sights : List PackageSight) → IsArranged package_key w.packages
     → sights ≡ package_sights w → map (listed_in w) sights ≡ all_listed w
@@ -55,4 +57,5 @@ one_listed w sights k less sight is list one so this =
     ap (λ t. map (listed_in w) (map sight_of t)) cut
     ∙ ap (map (listed_in w)) (map-append sight_of (take k sights) (sight ∷ []))
     ∙ map-append (listed_in w) (map sight_of (take k sights)) (sight_of sight ∷ []) in
-    ap (λ l. l ++ one ∷ []) so ∙ ap (λ o. map (listed_in w) (map sight_of (take k sights)) ++ o ∷ []) this ∙ sym told
+    ap (λ l. l ++ one ∷ []) so ∙ ap (λ o. map (listed_in w) (map sight_of (take k sights)) ++ o ∷ []) this
+    ∙ sym told

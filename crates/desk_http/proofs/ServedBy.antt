@@ -1,6 +1,7 @@
 -- What one connection makes of a world, and one after another.
 use Rattle.std.specs.Prelude.{◌≤◌, ℕ, zero, suc, true, false}
-use Rattle.std.proofs.Common.{◌≡◌, ◌⊎◌, ◌+◌, List, [], ◌∷◌, ◌++◌, length, Option, Result, Ok, Err, refl, sym, subst}
+use Rattle.std.proofs.Common.{◌≡◌, ◌⊎◌, ◌+◌, List, [], ◌∷◌, ◌++◌, length, Option, Result}
+use Rattle.std.proofs.Common.{Ok, Err, refl, sym, subst}
 use Rattle.std.proofs.Common.{inl, inr, arith, length-append}
 use Rattle.std.proofs.Math.Numerals.{suc-eq-add-one}
 use Rattle.sqlite.specs.Store.{Ghosts}
@@ -145,7 +146,8 @@ module _ {S : Type 0} (g : Ghosts S) where
   read_last old mid new first read = served_then 1 0 old mid new first (read_none mid new read)
 
   -- so many, of more that were to be served
-  served_up_to : (n most : ℕ) (old new : Seen S) → n ≤ most → IsServedBy g n old new → IsServedBy g most old new
+  served_up_to : (n most : ℕ) (old new : Seen S) → n ≤ most → IsServedBy g n old new
+      → IsServedBy g most old new
   served_up_to n most old new few it = record {
     requests = it.requests;
     few = let fit = it.few in omega (arith, few, fit);
@@ -163,7 +165,8 @@ module _ {S : Type 0} (g : Ghosts S) where
       (served_then n 1 old mid new (all_served n old mid front) last)
 
   -- a desk that ended after so many connections, in each of its ways
-  pub desk_served : (n most : ℕ) (old new : Seen S) → n ≤ most → AreServed g n old new → IsServedBy g most old new
+  pub desk_served : (n most : ℕ) (old new : Seen S) → n ≤ most → AreServed g n old new
+      → IsServedBy g most old new
   desk_served n most old new few each = served_up_to n most old new few (all_served n old new each)
 
   pub one_more : (n : ℕ) (old mid new : Seen S) → AreServed g n old mid → mid.has_failed ≡ false

@@ -28,7 +28,8 @@ module _ {S : Type 0} (g : Ghosts S) where
   -- So many connections were served one after the other, each over a world that could be used.
   abbrev pub AreServed : ℕ → Seen S → Seen S → Type 0
   AreServed zero old new = new ≡ old
-  AreServed (suc n) old new = (mid : Seen S) × AreServed n old mid × (mid.has_failed ≡ false) × IsServedBy 1 mid new
+  AreServed (suc n) old new = (mid : Seen S) × AreServed n old mid × (mid.has_failed ≡ false)
+      × IsServedBy 1 mid new
 
   -- How a desk ended that was to serve so many connections and served so many. It served all, and its world can be
   -- used; or its world has failed; or its listener has, and the world can be used.

@@ -1,5 +1,6 @@
 -- What the desk makes of a connection's bytes and of a world: the bytes that go out, and the world afterwards. Profile.
-use Rattle.std.specs.Prelude.{◌≡◌, ◌≢◌, ◌⊎◌, ◌≤◌, ℕ, Bool, true, false, List, [], Option, Some, None, Result, Ok, Err}
+use Rattle.std.specs.Prelude.{◌≡◌, ◌≢◌, ◌⊎◌, ◌≤◌, ℕ, Bool, true, false, List, [], Option}
+use Rattle.std.specs.Prelude.{Some, None, Result, Ok, Err}
 use Rattle.std.specs.Prelude.{IfSome}
 use Rattle.std.specs.Io.KnownBytes.{Appends}
 use Rattle.sqlite.specs.Held.{Held}
@@ -126,7 +127,8 @@ module _ {S : Type 0} (g : Ghosts S) where
 
   -- What was made of a connection. own is the desk's address, text all the bytes of the connection's reader; held and
   -- holds are what its writer has before and after.
-  abbrev pub Serving : List ℕ → Option (List ℕ) → Seen S → Seen S → ℕ → ℕ → Option (List ℕ) → Option (List ℕ)
+  abbrev pub Serving : List ℕ → Option (List ℕ) → Seen S → Seen S → ℕ → ℕ → Option (List ℕ)
+      → Option (List ℕ)
       → Result Served ServeFault → Type 0
   Serving own text old new before after held holds (Ok Nothing) = IfSome text (λ xs. xs ≡ []) × (new ≡ old)
   Serving own text old new before after held holds (Ok Answered) =

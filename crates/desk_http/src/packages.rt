@@ -63,7 +63,8 @@ fn each_listed<S: Alter + Drop>(
 
 /// What is told of each live package, by UUID.
 fn all_listed<S: Alter + Drop>(alloc: Global, world: &World<S>) -> Result<Vec<Listed>, OutOfMemory>
-    ensures { IfOk result (λ list. (w : ModelWorld) → StandsFor S.Store world.now w → list.items ≡ all_listed w) }
+    ensures { IfOk result (λ list. (w : ModelWorld) → StandsFor S.Store world.now w
+        → list.items ≡ all_listed w) }
 {
     let Ok(sights) = world.packages(alloc) else {
         return Err(OutOfMemory);

@@ -1,5 +1,6 @@
 -- The text of a list, a package at a time, and the list of a world.
-use Rattle.std.proofs.Common.{◌≡◌, ◌<◌, ◌+◌, ◌∙◌, ℕ, Bool, true, List, [], ◌∷◌, ◌++◌, length, map, drop, get_or}
+use Rattle.std.proofs.Common.{◌≡◌, ◌<◌, ◌+◌, ◌∙◌, ℕ, Bool, true, List, [], ◌∷◌, ◌++◌}
+use Rattle.std.proofs.Common.{length, map, drop, get_or}
 use Rattle.std.proofs.Common.{count_by, cond, refl, sym, ap}
 use Rattle.std.proofs.lemmas.List.{append_assoc, drop_more}
 use Rattle.serde_json.specs.Data.{array}
@@ -18,7 +19,8 @@ pub list_step : (text new whole : List ℕ) (is_later : Bool) (ps : List Listed)
     → i < length ps → p ≡ get_or ps i p → loans ≡ loans_among ps p.uuid
     → new ≡ text ++ (comma_if is_later ++ compact_text (listed_data p loans))
     → text ++ items_text is_later (items_of (map (λ x. listed_data x (loans_among ps x.uuid)) (drop i ps))) ≡ whole
-    → new ++ items_text true (items_of (map (λ x. listed_data x (loans_among ps x.uuid)) (drop (i + 1) ps))) ≡ whole
+    → new ++ items_text true (items_of (map (λ x. listed_data x (loans_among ps x.uuid)) (drop (i + 1) ps)))
+    ≡ whole
 list_step text new whole is_later ps i p loans within is counted grown so_far =
     let comma = comma_if is_later in
     let one = compact_text (listed_data p loans) in
@@ -29,7 +31,8 @@ list_step text new whole is_later ps i p loans within is counted grown so_far =
     (items_of (map (λ x. listed_data x (loans_among ps x.uuid)) xs)) in
     ap (λ l. l ++ after) grown ∙ append_assoc text (comma ++ one) after
     ∙ ap (λ l. text ++ l) (append_assoc comma one after)
-    ∙ ap (λ n. text ++ (comma ++ (compact_text (listed_data p n) ++ after))) counted ∙ ap whole_text (sym here) ∙ so_far
+    ∙ ap (λ n. text ++ (comma ++ (compact_text (listed_data p n) ++ after))) counted ∙ ap whole_text (sym here)
+    ∙ so_far
 
 -- the loans of a package are counted in the list as in the world
 loans_told : (w : World) (p : List ℕ) (others : List Package)

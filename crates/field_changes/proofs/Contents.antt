@@ -1,5 +1,6 @@
 -- When two keys are one, and which contents are.
-use Rattle.std.specs.Prelude.{◌≡◌, ℕ, Bool, true, false, ◌&&◌, List, bytes_eq, nat_eq, filter, count_by, refl}
+use Rattle.std.specs.Prelude.{◌≡◌, ℕ, Bool, true, false, ◌&&◌, List, bytes_eq, nat_eq, filter, count_by}
+use Rattle.std.specs.Prelude.{refl}
 use Rattle.std.proofs.Common.{sym, ap, ◌∙◌}
 use Rattle.std.proofs.lemmas.Slice.Eq.{bytes_eq-Decides}
 use Rattle.sheet_types.proofs.Basics.{bytes_eq_itself, bytes_eq_swap}
@@ -10,7 +11,8 @@ use Rattle.field_changes.specs.Keys.{content_key, same_content, rank_key}
 use Rattle.field_changes.specs.Naming.{alike, copies}
 
 -- keys of places are one where the places and the contents are
-pub rank_same : (r s : ℕ) (c d : Content) → bytes_eq (rank_key r c) (rank_key s d) ≡ (nat_eq r s && same_content c d)
+pub rank_same : (r s : ℕ) (c d : Content) → bytes_eq (rank_key r c) (rank_key s d)
+    ≡ (nat_eq r s && same_content c d)
 rank_same r s c d = refl
 
 pub same_itself : (c : Content) → same_content c c ≡ true

@@ -1,5 +1,6 @@
 -- Counts and places of contents, with one more.
-use Rattle.std.specs.Prelude.{◌≡◌, ◌+◌, ℕ, zero, suc, Bool, true, false, cond, ◌&&◌, List, [], ◌∷◌, ◌++◌, Option}
+use Rattle.std.specs.Prelude.{◌≡◌, ◌+◌, ℕ, zero, suc, Bool, true, false, cond, ◌&&◌, List, []}
+use Rattle.std.specs.Prelude.{◌∷◌, ◌++◌, Option}
 use Rattle.std.specs.Prelude.{Some, None, unwrap_or, length, map, filter, bytes_eq, nat_eq, count_by, slice_get, refl}
 use Rattle.std.proofs.Common.{sym, ap, subst, ◌∙◌, ◌≤◌, take, arith}
 use Rattle.std.proofs.lemmas.List.Sums.{count_by-le-length}
@@ -39,7 +40,8 @@ pub counted : {X : Type 0} (of : X → Content) (m new : BTreeMap (List ℕ) ℕ
 counted of m new xs x n was is step c =
     ap (λ o. unwrap_or o 0) (step (rank_key 0 c))
     ∙ elim (same_content (of x) c) as (λ b. same_content (of x) c ≡ b
-    → unwrap_or (cond b (Some (n + 1)) (get (slice_cmp nat_cmp) m (rank_key 0 c))) 0 ≡ copies of c (xs ++ x ∷ [])) [
+    → unwrap_or (cond b (Some (n + 1)) (get (slice_cmp nat_cmp) m (rank_key 0 c))) 0
+    ≡ copies of c (xs ++ x ∷ [])) [
       | true ↦ λ e.
           let same : n ≡ copies of c xs = is ∙ was (of x) ∙ copies_same of (of x) c xs e in
           let more : copies of c (xs ++ x ∷ []) ≡ copies of c xs + 1 =
@@ -90,7 +92,8 @@ and_true false = refl
 
 -- one more item, behind those like it
 pub placed : (m new : BTreeMap (List ℕ) (List ℕ)) (left : List Item) (i : Item) (n : ℕ)
-    → ((c : Content) (place : ℕ) → get (slice_cmp nat_cmp) m (rank_key place c) ≡ slice_get (alike c left) place)
+    → ((c : Content) (place : ℕ) → get (slice_cmp nat_cmp) m (rank_key place c)
+    ≡ slice_get (alike c left) place)
     → n ≡ copies (λ j. j.content) i.content left
     → ((q : List ℕ) → get (slice_cmp nat_cmp) new q ≡ cond (bytes_eq (rank_key n i.content) q) (Some i.identity)
     (get (slice_cmp nat_cmp) m q))

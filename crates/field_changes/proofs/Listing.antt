@@ -1,5 +1,6 @@
 -- Lists that a loop fills, with one element more.
-use Rattle.std.specs.Prelude.{◌≡◌, ◌+◌, ◌<◌, ℕ, zero, suc, Bool, List, [], ◌∷◌, ◌++◌, map, filter, length, take}
+use Rattle.std.specs.Prelude.{◌≡◌, ◌+◌, ◌<◌, ℕ, zero, suc, Bool, List, [], ◌∷◌, ◌++◌, map}
+use Rattle.std.specs.Prelude.{filter, length, take}
 use Rattle.std.proofs.Common.{sym, ap, subst, ◌∙◌, get_or, append_assoc, arith}
 use Rattle.std.specs.List.{AllZip}
 use Rattle.std.proofs.lemmas.List.{map-append, take_more}
@@ -17,7 +18,8 @@ filtered_more p xs i x now new lt is was step =
 
 -- and what was made of it
 pub mapped_more : {X Y : Type 0} (f : X → Y) (p : X → Bool) (xs : List X) (i : ℕ) (x : X) (now new : List Y)
-    → i < length xs → x ≡ get_or xs i x → now ≡ map f (filter p (take i xs)) → new ≡ now ++ map f (filter p (x ∷ []))
+    → i < length xs → x ≡ get_or xs i x → now ≡ map f (filter p (take i xs))
+    → new ≡ now ++ map f (filter p (x ∷ []))
     → new ≡ map f (filter p (take (i + 1) xs))
 mapped_more f p xs i x now new lt is was step =
     step ∙ ap (λ l. l ++ map f (filter p (x ∷ []))) was ∙ sym
@@ -26,8 +28,10 @@ mapped_more f p xs i x now new lt is was step =
     ∙ ap (λ l. map f (filter p l)) (sym (one_more xs i x lt is))
 
 -- one more command, behind what was there
-pub asked_more : {X C Y : Type 0} (f : C → Y) (g : X → C) (xs : List X) (i : ℕ) (x : X) (old now new : List Y) (y : Y)
-    → i < length xs → x ≡ get_or xs i x → now ≡ old ++ map f (map g (take i xs)) → new ≡ now ++ y ∷ [] → y ≡ f (g x)
+pub asked_more : {X C Y : Type 0} (f : C → Y) (g : X → C) (xs : List X) (i : ℕ) (x : X) (old now new : List Y)
+    (y : Y)
+    → i < length xs → x ≡ get_or xs i x → now ≡ old ++ map f (map g (take i xs)) → new ≡ now ++ y ∷ []
+    → y ≡ f (g x)
     → new ≡ old ++ map f (map g (take (i + 1) xs))
 asked_more f g xs i x old now new y lt is was step one =
     step ∙ ap (λ l. l ++ y ∷ []) was ∙ append_assoc old (map f (map g (take i xs))) (y ∷ [])
@@ -48,7 +52,8 @@ asked_next f g all rest left x now new y is step one was =
 
 -- one row more of those that a loop goes over, and what was made of it
 pub zip_more : {A B : Type 0} (R : A → B → Type 0) (rows : List A) (i : ℕ) (d row : A) (made now : List B) (x : B)
-    → i < length rows → row ≡ get_or rows i d → now ≡ made ++ x ∷ [] → AllZip R (take i rows) made → R row x
+    → i < length rows → row ≡ get_or rows i d → now ≡ made ++ x ∷ [] → AllZip R (take i rows) made
+    → R row x
     → AllZip R (take (i + 1) rows) now
 zip_more R rows i d row made now x less is pushed all one =
     let cut : take (i + 1) rows ≡ take i rows ++ row ∷ [] = take_more rows i d less
@@ -61,11 +66,13 @@ pub four_parts : {C Y : Type 0} (f : C → Y) (a b c d : List C) (none one two t
     → one ≡ none ++ map f a → two ≡ one ++ map f b → three ≡ two ++ map f c → four ≡ three ++ map f d
     → four ≡ map f (a ++ b ++ c ++ d)
 four_parts f a b c d none one two three four z i j k l =
-    l ∙ ap (λ x. x ++ map f d) (k ∙ ap (λ x. x ++ map f c) (j ∙ ap (λ x. x ++ map f b) (i ∙ ap (λ x. x ++ map f a) z)
+    l ∙ ap (λ x. x ++ map f d) (k ∙ ap (λ x. x ++ map f c) (j
+    ∙ ap (λ x. x ++ map f b) (i ∙ ap (λ x. x ++ map f a) z)
     ∙ sym (map-append f a b)) ∙ sym (map-append f (a ++ b) c)) ∙ sym (map-append f (a ++ b ++ c) d)
 
 -- what holds of each pair holds at each place
-pub all_at : {A B : Type 0} (R : A → B → Type 0) (xs : List A) (ys : List B) (i : ℕ) (d : A) (e : B) → AllZip R xs ys
+pub all_at : {A B : Type 0} (R : A → B → Type 0) (xs : List A) (ys : List B) (i : ℕ) (d : A) (e : B)
+    → AllZip R xs ys
     → i < length xs → R (get_or xs i d) (get_or ys i e)
 all_at R [] [] i d e all less = absurd (omega (arith, less))
 all_at R [] (y ∷ ys) i d e all less = absurd all

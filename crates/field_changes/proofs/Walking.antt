@@ -1,5 +1,6 @@
 -- The way through the items of a file, one item more.
-use Rattle.std.specs.Prelude.{◌≡◌, ◌≤◌, ◌+◌, ℕ, suc, Bool, true, false, cond, ◌||◌, List, [], ◌∷◌, ◌++◌, Option, Some}
+use Rattle.std.specs.Prelude.{◌≡◌, ◌≤◌, ◌+◌, ℕ, suc, Bool, true, false, cond, ◌||◌, List, []}
+use Rattle.std.specs.Prelude.{◌∷◌, ◌++◌, Option, Some}
 use Rattle.std.specs.Prelude.{unwrap_or, bytes_eq, length, refl}
 use Rattle.std.specs.List.{list_any}
 use Rattle.std.specs.Ordering.{nat_cmp}
@@ -45,16 +46,19 @@ others_snoc items before (x ∷ xs) h =
 pub names_snoc : (p : List ℕ) (n : ℕ) (items : List Item) (file before xs : List HeldItem) (h : HeldItem)
     → names_behind p n items file before (xs ++ h ∷ []) ≡ names_behind p n items file before xs
     ++ known_as p n h (name_of items file (before ++ xs) h) ∷ []
-names_snoc p n items file before [] h = ap (λ b. known_as p n h (name_of items file b h) ∷ []) (sym (append-nil before))
+names_snoc p n items file before [] h = ap (λ b. known_as p n h (name_of items file b h) ∷ [])
+    (sym (append-nil before))
 names_snoc p n items file before (x ∷ xs) h =
     ap (λ l. known_as p n x (name_of items file before x) ∷ l)
-    (names_snoc p n items file (before ++ x ∷ []) xs h ∙ ap (λ b. names_behind p n items file (before ++ x ∷ []) xs
+    (names_snoc p n items file (before ++ x ∷ []) xs h ∙ ap (λ b. names_behind p n items file
+    (before ++ x ∷ []) xs
     ++ known_as p n h (name_of items file b h) ∷ []) (append_assoc before (x ∷ []) xs))
 
 pub others_long : (items : List Item) (before xs : List HeldItem) → length (others items before xs) ≤ length xs
 others_long items before [] = omega arith
 others_long items before (x ∷ xs) =
-    let rest : length (others items (before ++ x ∷ []) xs) ≤ length xs = others_long items (before ++ x ∷ []) xs in
+    let rest : length (others items (before ++ x ∷ []) xs) ≤ length xs =
+    others_long items (before ++ x ∷ []) xs in
     elim (is_own items before x) as (λ b. length (cond b (others items (before ++ x ∷ []) xs)
     (x.content ∷ others items (before ++ x ∷ []) xs)) ≤ suc (length xs)) [
       | true ↦ omega (arith, rest)
@@ -93,7 +97,8 @@ seen_more before h s t was step q = step q ∙ ap (λ b. b || is_marked q h) (wa
 
 pub walk_own : (items : List Item) (file before : List HeldItem) (h : HeldItem) (w : Walk) (seen : BTreeSet (List ℕ))
     → is_own items before h ≡ true
-    → ((q : List ℕ) → contains (slice_cmp nat_cmp) seen q ≡ (contains (slice_cmp nat_cmp) w.seen q || is_marked q h))
+    → ((q : List ℕ) → contains (slice_cmp nat_cmp) seen q ≡ (contains (slice_cmp nat_cmp) w.seen q ||
+    is_marked q h))
     → IsWalk items file before w → IsWalk items file (before ++ h ∷ []) (record w { seen = seen })
 walk_own items file before h w seen own step is =
     let same : others items [] (before ++ h ∷ []) ≡ others items [] before =
@@ -108,11 +113,13 @@ walk_own items file before h w seen own step is =
 
 pub walk_other : (items : List Item) (file before : List HeldItem) (h : HeldItem) (w : Walk)
     (seen : BTreeSet (List ℕ)) (counts : BTreeMap (List ℕ) ℕ) (n : ℕ) → is_own items before h ≡ false
-    → ((q : List ℕ) → contains (slice_cmp nat_cmp) seen q ≡ (contains (slice_cmp nat_cmp) w.seen q || is_marked q h))
+    → ((q : List ℕ) → contains (slice_cmp nat_cmp) seen q ≡ (contains (slice_cmp nat_cmp) w.seen q ||
+    is_marked q h))
     → n ≡ unwrap_or (get (slice_cmp nat_cmp) w.counts (rank_key 0 h.content)) 0
     → ((q : List ℕ) → get (slice_cmp nat_cmp) counts q ≡ cond (bytes_eq (rank_key 0 h.content) q) (Some (n + 1))
     (get (slice_cmp nat_cmp) w.counts q))
-    → IsWalk items file before w → IsWalk items file (before ++ h ∷ []) (record w { seen = seen; counts = counts })
+    → IsWalk items file before w → IsWalk items file (before ++ h ∷ [])
+    (record w { seen = seen; counts = counts })
 walk_other items file before h w seen counts n own step was after is =
     let more : others items [] (before ++ h ∷ []) ≡ others items [] before ++ h.content ∷ [] =
     others_snoc items [] before h ∙ ap (λ b. others items [] before ++ cond b [] (h.content ∷ [])) own in

@@ -23,13 +23,13 @@ item_text p ticket copy content = spaced (codes "sheetdesk" ∷ codes "item" ∷
 -- the text of a request: the package and its ticket, and the line of the command. It has no moment, so that a list of
 -- a ticket is one list
 abbrev pub request_text : List ℕ → ℕ → List ℕ → List ℕ
-request_text p ticket words = spaced (codes "sheetdesk" ∷ codes "request" ∷ uuid_text p ∷ decimal ticket ∷ words ∷ [])
+request_text p ticket words = spaced (codes "sheetdesk" ∷ codes "request" ∷ uuid_text p ∷ decimal ticket
+    ∷ words ∷ [])
 
 -- the request for a command, at this moment
 abbrev pub request_of : List ℕ → ℕ → List ℕ → Command → Request
 request_of p ticket moment command = record {
   id = derived (request_text p ticket (line command));
-  at =
-      moment;
+  at = moment;
   command = command;
 }

@@ -1,5 +1,6 @@
 -- What tells contents apart: a list of numbers from which a content can be read, byte by byte. Profile.
-use Rattle.std.specs.Prelude.{ℕ, ℤ, pos, negsuc, unsigned_abs, Bool, List, [], ◌∷◌, ◌++◌, length, bytes_eq}
+use Rattle.std.specs.Prelude.{ℕ, ℤ, pos, negsuc, unsigned_abs, Bool, List, [], ◌∷◌, ◌++◌, length}
+use Rattle.std.specs.Prelude.{bytes_eq}
 use Rattle.uuid.specs.Parts.{zero_bytes}
 use Rattle.sheet_types.specs.declared.command.Content.{Content}
 use Rattle.sheet_types.specs.declared.command.Content.TheVariants.{Tile, Media, Row}
@@ -12,7 +13,8 @@ sign (pos n) = 0
 sign (negsuc n) = 1
 
 abbrev pub numbered : ℕ → ℤ → ℤ → ℤ → List ℕ
-numbered kind a b c = kind ∷ sign a ∷ unsigned_abs a ∷ sign b ∷ unsigned_abs b ∷ sign c ∷ unsigned_abs c ∷ []
+numbered kind a b c = kind ∷ sign a ∷ unsigned_abs a ∷ sign b ∷ unsigned_abs b ∷ sign c ∷ unsigned_abs c
+    ∷ []
 
 -- seven numbers: the kind, and those of a tile or a row, or the length of a content type
 abbrev pub head_of : Content → List ℕ

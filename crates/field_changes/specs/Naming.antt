@@ -3,7 +3,8 @@
 -- name
 --     2  else the least identity of this content that nothing in the file is marked as, and that no item before it has
 --     3  else a new one
-use Rattle.std.specs.Prelude.{ℕ, ◌-◌, Bool, true, false, not, ◌&&◌, List, [], ◌∷◌, ◌++◌, filter, Option, unwrap_or}
+use Rattle.std.specs.Prelude.{ℕ, ◌-◌, Bool, true, false, not, ◌&&◌, List, [], ◌∷◌, ◌++◌, filter}
+use Rattle.std.specs.Prelude.{Option, unwrap_or}
 use Rattle.std.specs.Prelude.{option_map, if◌then◌else◌, bytes_eq, count_by, slice_get}
 use Rattle.std.specs.List.{list_any}
 use Rattle.std.specs.Option.{option_map_or}
@@ -67,12 +68,12 @@ known_as p ticket h (Old id) = record { kind = kind_of h.content; number = h.num
 known_as p ticket h (New copy) = record {
   kind = kind_of h.content;
   number = h.number;
-  identity =
-      derived (item_text p ticket copy h.content);
+  identity = derived (item_text p ticket copy h.content);
   is_new = true;
 }
 
-abbrev pub names_behind : List ℕ → ℕ → List Item → List HeldItem → List HeldItem → List HeldItem → List Named
+abbrev pub names_behind : List ℕ → ℕ → List Item → List HeldItem → List HeldItem → List HeldItem
+    → List Named
 names_behind p ticket items file before [] = []
 names_behind p ticket items file before (h ∷ hs) = known_as p ticket h (name_of items file before h)
     ∷ names_behind p ticket items file (before ++ h ∷ []) hs

@@ -1,5 +1,6 @@
 //! What the items of a file are called in the package.
-ghost use Rattle.std.specs.Prelude.{◌≡◌, ◌||◌, ◌+◌, ◌-◌, ◌<◌, ◌++◌, ◌^◌, ◌∷◌, [], true, false, not, ℕ, List, Some};
+ghost use Rattle.std.specs.Prelude.{◌≡◌, ◌||◌, ◌+◌, ◌-◌, ◌<◌, ◌++◌, ◌^◌, ◌∷◌, []};
+ghost use Rattle.std.specs.Prelude.{true, false, not, ℕ, List, Some};
 ghost use Rattle.std.specs.Prelude.{MatchOption, bytes_eq, filter, if◌then◌else◌, unwrap_or, IfOk, length};
 ghost use Rattle.std.specs.List.{list_any};
 ghost use Rattle.std.specs.Ordering.{nat_cmp};
@@ -34,7 +35,8 @@ pub enum Name {
 
 // The marks of the items of a package.
 fn marks_of<'a>(alloc: Global, items: &'a [Item]) -> Result<BTreeSet<Key<'a>>, OutOfMemory>
-    ensures { IfOk result (λ marks. (q : List ℕ) → contains (slice_cmp nat_cmp) marks q ≡ has item_mark q items.now) }
+    ensures { IfOk result (λ marks. (q : List ℕ) → contains (slice_cmp nat_cmp) marks q
+        ≡ has item_mark q items.now) }
 {
     let mut marks = BTreeSet::new(alloc);
     for item in items {
@@ -90,7 +92,8 @@ fn count_up<'a>(
     content: &'a Content,
 ) -> Result<u64, OutOfMemory>
     requires { unwrap_or (get (slice_cmp nat_cmp) counts.old (rank_key 0 content.now)) 0 < 2 ^ 64 - 1 }
-    ensures before { IfOk result (λ n. n ≡ unwrap_or (get (slice_cmp nat_cmp) counts.old (rank_key 0 content.now)) 0) }
+    ensures before { IfOk result (λ n. n ≡ unwrap_or (get (slice_cmp nat_cmp) counts.old (rank_key 0 content.now))
+        0) }
     ensures after { IfOk result (λ n. (q : List ℕ) → get (slice_cmp nat_cmp) counts.new q
         ≡ (if bytes_eq (rank_key 0 content.now) q then Some (n + 1) else get (slice_cmp nat_cmp) counts.old q)) }
 {

@@ -1,5 +1,6 @@
 //! What the file has beyond the package, and the package beyond the file.
-ghost use Rattle.std.specs.Prelude.{◌≡◌, ◌++◌, ◌∷◌, [], not, ℕ, List, IfOk, IfErr, bytes_eq, filter, map};
+ghost use Rattle.std.specs.Prelude.{◌≡◌, ◌++◌, ◌∷◌, [], not, ℕ, List, IfOk, IfErr, bytes_eq, filter};
+ghost use Rattle.std.specs.Prelude.{map};
 ghost use Rattle.std.specs.Prelude.{IsPermutation};
 ghost use Rattle.std.specs.List.{AllByRecursion, IsDistinct};
 ghost use Rattle.std.specs.Ordering.{nat_cmp};
@@ -27,7 +28,8 @@ pub struct Twice;
 
 // The keys of links.
 fn keys_of(alloc: Global, links: &[Relation]) -> Result<BTreeSet<LinkKey>, OutOfMemory>
-    ensures { IfOk result (λ keys. (q : List ℕ) → contains (slice_cmp nat_cmp) keys q ≡ has link_key q links.now) }
+    ensures { IfOk result (λ keys. (q : List ℕ) → contains (slice_cmp nat_cmp) keys q
+        ≡ has link_key q links.now) }
 {
     let mut keys = BTreeSet::new(alloc);
     for link in links {
@@ -58,7 +60,8 @@ fn without_keys(
     keys: &BTreeSet<LinkKey>,
     links: &[Relation],
 ) -> Result<Vec<Relation>, OutOfMemory>
-    ensures { IfOk result (λ left. left.items ≡ filter (λ l. not (contains (slice_cmp nat_cmp) keys.now (link_key l)))
+    ensures { IfOk result (λ left. left.items ≡ filter (λ l. not
+        (contains (slice_cmp nat_cmp) keys.now (link_key l)))
         links.now) }
 {
     let mut left = Vec::new(alloc);

@@ -1,5 +1,6 @@
 -- Entries that are no whole list.
-use Rattle.std.proofs.Common.{◌≡◌, ◌∙◌, ℕ, ◌<◌, List, [], ◌∷◌, map, length, true, false, true≢false, refl, ap, sym}
+use Rattle.std.proofs.Common.{◌≡◌, ◌∙◌, ℕ, ◌<◌, List, [], ◌∷◌, map, length, true, false}
+use Rattle.std.proofs.Common.{true≢false, refl, ap, sym}
 use Rattle.std.proofs.Common.{Option, Some, None, Result, Ok, Err, IfOk, arith}
 use Rattle.std.specs.Prelude.{◌↔◌, Bool, IsTrue, bytes_eq}
 use Rattle.std.specs.declared.cmp.Ordering.{Ordering}
@@ -21,7 +22,8 @@ use Rattle.field_faults.specs.Files.{bad_in, closes, export_in, frame_in, held_k
 use Rattle.field_faults.specs.Files.{IsHeld, IsOnly, LeadUnlessBad}
 
 apart_from : {X : Type 0} (key : X → List ℕ) (k : List ℕ) (xs : List X)
-    → AllByRecursion (λ y. is_before k (key y) ≡ true) xs → AllByRecursion (λ k'. bytes_eq k k' ≡ false) (map key xs)
+    → AllByRecursion (λ y. is_before k (key y) ≡ true) xs → AllByRecursion (λ k'. bytes_eq k k' ≡ false)
+    (map key xs)
 apart_from key k [] h = tt
 apart_from key k (y ∷ ys) h = (before-differs k (key y) h.0, apart_from key k ys h.1)
 
@@ -51,7 +53,8 @@ module _ (entries : List Listed) (h : Held) where
   two_frames less held = many (filter_map frame_in entries) h.frame less held.frame
 
   pub none_lead : (bads : List BadRecord) (items : List HeldItem) (links : List HeldLink) (all : Bool)
-      → bads ≡ filter_map bad_in entries → items ≡ filter_map item_in entries → links ≡ filter_map link_in entries
+      → bads ≡ filter_map bad_in entries → items ≡ filter_map item_in entries
+      → links ≡ filter_map link_in entries
       → (IsTrue all ↔ LeadUnlessBad bads items links) → all ≡ false → IsHeld entries h → ⊥
   none_lead bads items links true b i l it none held = true≢false none
   none_lead bads items links false b i l it none held =

@@ -125,9 +125,11 @@ same_place z c r zoom column row =
 
 module _ (f : Frame) (h : HeldItem) where
   -- a tile that could be held is put in
-  pub noted : (z c r : ℤ) (bytes : List ℕ) → h.content ≡ Tile z c r bytes → (s t : BTreeSet (List ℕ)) (k : List ℕ)
+  pub noted : (z c r : ℤ) (bytes : List ℕ) → h.content ≡ Tile z c r bytes
+      → (s t : BTreeSet (List ℕ)) (k : List ℕ)
       (fits : Bool) → k ≡ place_key z c r → fits ≡ is_none (reason_of f h.content)
-      → ((q : List ℕ) → contains (slice_cmp nat_cmp) t q ≡ (contains (slice_cmp nat_cmp) s q || (bytes_eq k q && fits)))
+      → ((q : List ℕ) → contains (slice_cmp nat_cmp) t q ≡ (contains (slice_cmp nat_cmp) s q ||
+      (bytes_eq k q && fits)))
       → (zoom column row : ℤ) → contains (slice_cmp nat_cmp) t (place_key zoom column row)
       ≡ (contains (slice_cmp nat_cmp) s (place_key zoom column row) || is_good_at f zoom column row h)
   noted z c r bytes is s t k fits key fit step zoom column row =
@@ -152,7 +154,8 @@ where_fit true true e = refl
 
 module _ (f : Frame) (items : List Item) (more exported : Bool) (before : List HeldItem) (h : HeldItem) where
   pub of_tile : (z c r : ℤ) (bytes : List ℕ) → h.content ≡ Tile z c r bytes → (twice taken : Bool)
-      → twice ≡ list_any (is_good_at f z c r) before → taken ≡ (more && list_any (is_other_at z c r bytes) items)
+      → twice ≡ list_any (is_good_at f z c r) before → taken
+      ≡ (more && list_any (is_other_at z c r bytes) items)
       → first_row ((twice, Twice) ∷ (taken, Taken) ∷ []) ≡ reason_among f items more exported before h h.content
   of_tile z c r bytes is twice taken one two =
       ap (λ b. first_row ((b, Twice) ∷ (taken, Taken) ∷ [])) one
@@ -186,7 +189,8 @@ module _ (f : Frame) (items : List HeldItem) (i : ℕ) (h : HeldItem) (within : 
   lines_more held more exported text now line sent due =
       ap (λ l. text ++ item_lines f held more exported (take i items) l) (drop_more items i h within
       ∙ ap (λ x. x ∷ drop (i + 1) items) (sym is))
-      ∙ ap (λ l. text ++ (l ++ item_lines f held more exported (take i items ++ h ∷ []) (drop (i + 1) items))) (sym due)
+      ∙ ap (λ l. text ++ (l ++ item_lines f held more exported (take i items ++ h ∷ []) (drop (i + 1) items)))
+      (sym due)
       ∙ ap (λ b. text ++ (line ++ item_lines f held more exported b (drop (i + 1) items)))
       (sym (one_more items i h within is))
       ∙ sym (append_assoc text line (item_lines f held more exported (take (i + 1) items) (drop (i + 1) items)))
@@ -229,7 +233,8 @@ pub tile_noted : (z c r : ℤ) (bytes : List ℕ) (i : Item) → i.content ≡ T
     → (s t : BTreeMap (List ℕ) Lying) (k : List ℕ) (lying : Lying) → k ≡ place_key z c r
     → ((mine : List ℕ) → has_other (Some lying) mine ≡ (has_other (get (slice_cmp nat_cmp) s k) mine || not
     (bytes_eq bytes mine)))
-    → ((q : List ℕ) → get (slice_cmp nat_cmp) t q ≡ cond (bytes_eq k q) (Some lying) (get (slice_cmp nat_cmp) s q))
+    → ((q : List ℕ) → get (slice_cmp nat_cmp) t q ≡ cond (bytes_eq k q) (Some lying)
+    (get (slice_cmp nat_cmp) s q))
     → (zoom column row : ℤ) (mine : List ℕ)
     → has_other (get (slice_cmp nat_cmp) t (place_key zoom column row)) mine
     ≡ (has_other (get (slice_cmp nat_cmp) s (place_key zoom column row)) mine || is_other_at zoom column row mine i)
@@ -238,7 +243,8 @@ tile_noted z c r bytes i is s t k lying key with step zoom column row mine =
     let at : bytes_eq k q ≡ is_at zoom column row (Tile z c r bytes) =
     ap (λ l. bytes_eq l q) key ∙ same_place z c r zoom column row in
     ap (λ o. has_other o mine) (step q)
-    ∙ elim (bytes_eq k q) as (λ b. bytes_eq k q ≡ b → has_other (cond b (Some lying) (get (slice_cmp nat_cmp) s q)) mine
+    ∙ elim (bytes_eq k q) as (λ b. bytes_eq k q ≡ b → has_other
+    (cond b (Some lying) (get (slice_cmp nat_cmp) s q)) mine
     ≡ (has_other (get (slice_cmp nat_cmp) s q) mine || (is_at zoom column row (Tile z c r bytes) && not
     (bytes_eq bytes mine)))) [
       | true ↦ λ e.
@@ -253,7 +259,8 @@ tile_noted z c r bytes i is s t k lying key with step zoom column row mine =
     (is_at zoom column row x && not (bytes_eq (bytes_of x) mine))) (sym is)
 
 -- any other is not
-pub no_tile_noted : (i : Item) (x : Content) → i.content ≡ x → ((zoom column row : ℤ) → is_at zoom column row x ≡ false)
+pub no_tile_noted : (i : Item) (x : Content) → i.content ≡ x
+    → ((zoom column row : ℤ) → is_at zoom column row x ≡ false)
     → (b : Bool) (zoom column row : ℤ) (mine : List ℕ) → b ≡ (b || is_other_at zoom column row mine i)
 no_tile_noted i x is other b zoom column row mine = sym (or-false b)
     ∙ ap (λ v. b || (v && not (bytes_eq (bytes_of i.content) mine)))
@@ -262,7 +269,8 @@ no_tile_noted i x is other b zoom column row mine = sym (or-false b)
 -- the tiles so far, and one more
 pub tiles_more : (items : List Item) (n : ℕ) (i : Item) → n < length items → i ≡ get_or items n i
     → (s t : BTreeMap (List ℕ) Lying) → HasTiles (take n items) s
-    → ((zoom column row : ℤ) (mine : List ℕ) → has_other (get (slice_cmp nat_cmp) t (place_key zoom column row)) mine
+    → ((zoom column row : ℤ) (mine : List ℕ) → has_other (get (slice_cmp nat_cmp) t
+    (place_key zoom column row)) mine
     ≡ (has_other (get (slice_cmp nat_cmp) s (place_key zoom column row)) mine || is_other_at zoom column row mine i))
     → HasTiles (take (n + 1) items) t
 tiles_more items n i within is s t was step zoom column row mine =

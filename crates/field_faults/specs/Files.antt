@@ -1,5 +1,6 @@
 -- What a file holds, of the entries of its list. Profile.
-use Rattle.std.specs.Prelude.{◌≡◌, ℕ, ◌-◌, ℤ, Bool, true, false, ◌&&◌, List, [], ◌∷◌, Option, Some, None, map, length}
+use Rattle.std.specs.Prelude.{◌≡◌, ℕ, ◌-◌, ℤ, Bool, true, false, ◌&&◌, List, [], ◌∷◌, Option}
+use Rattle.std.specs.Prelude.{Some, None, map, length}
 use Rattle.std.specs.Prelude.{count_by, nat_eq, slice_get, IsPermutation}
 use Rattle.std.specs.List.{AllZip, filter_map}
 use Rattle.std.specs.Option.{option_map_or}

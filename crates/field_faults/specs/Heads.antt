@@ -1,5 +1,6 @@
 -- Whether a file is one of this package as it is. Profile.
-use Rattle.std.specs.Prelude.{ℕ, ◌^◌, Bool, true, false, not, ◌&&◌, ◌||◌, List, [], ◌∷◌, Option, Some, None, ℤ, pos}
+use Rattle.std.specs.Prelude.{ℕ, ◌^◌, Bool, true, false, not, ◌&&◌, ◌||◌, List, [], ◌∷◌, Option}
+use Rattle.std.specs.Prelude.{Some, None, ℤ, pos}
 use Rattle.std.specs.Prelude.{◌*ℤ◌, int_le, nat_eq, unsigned_abs, bytes_eq, codes, take}
 use Rattle.std.specs.List.{list_any}
 use Rattle.sheet_types.specs.Matrix.{is_within, first_row, is_good_frame, tile_span_x, tile_span_y}

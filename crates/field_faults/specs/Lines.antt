@@ -1,5 +1,6 @@
 -- The records of a file that a package cannot hold, a line each. Profile.
-use Rattle.std.specs.Prelude.{◌≡◌, ℕ, ◌-◌, ◌==◌, Bool, true, false, not, ◌&&◌, ◌||◌, List, [], ◌∷◌, ◌++◌, filter}
+use Rattle.std.specs.Prelude.{◌≡◌, ℕ, ◌-◌, ◌==◌, Bool, true, false, not, ◌&&◌, ◌||◌, List, []}
+use Rattle.std.specs.Prelude.{◌∷◌, ◌++◌, filter}
 use Rattle.std.specs.Prelude.{flat_map, Option, Some, None, ℤ, pos, int_lt, unsigned_abs, unwrap_or, is_none}
 use Rattle.std.specs.Prelude.{if◌then◌else◌, bytes_eq, codes, slice_get}
 use Rattle.std.specs.List.{list_any, before_first, after_first}
@@ -110,7 +111,8 @@ was_exported None = false
 was_exported (Some export) = true
 
 -- the first reason beside those that lie in the item alone: of an item, and those before it in the file
-abbrev pub reason_among : Frame → List Item → Bool → Bool → List HeldItem → HeldItem → Content → Option Reason
+abbrev pub reason_among : Frame → List Item → Bool → Bool → List HeldItem → HeldItem → Content
+    → Option Reason
 reason_among f items more exported before h (Tile zoom column row bytes) = first_row
     ((list_any (is_good_at f zoom column row) before, Twice)
     ∷ (more && list_any (is_other_at zoom column row bytes) items, Taken)

@@ -1,5 +1,6 @@
 //! What a file holds, of the entries of its list.
-ghost use Rattle.std.specs.Prelude.{◌≡◌, ◌<◌, ◌↔◌, ◌++◌, [], ◌∷◌, map, bytes_eq, count_by, length, IfOk, IfErr};
+ghost use Rattle.std.specs.Prelude.{◌≡◌, ◌<◌, ◌↔◌, ◌++◌, [], ◌∷◌, map, bytes_eq, count_by};
+ghost use Rattle.std.specs.Prelude.{length, IfOk, IfErr};
 ghost use Rattle.std.specs.Prelude.{IfSome, IfNone, IsTrue, IsPermutation};
 ghost use Rattle.std.specs.List.{filter_map, IsDistinct};
 ghost use Rattle.sheet_types.specs.Ordered.{is_before, IsArranged};

@@ -1,5 +1,6 @@
 //! Whether a file is one of this package as it is.
-ghost use Rattle.std.specs.Prelude.{◌≡◌, ◌^◌, ◌*ℤ◌, ◌≤ℤ◌, pos, unsigned_abs, bytes_eq, codes, take, IsTrue};
+ghost use Rattle.std.specs.Prelude.{◌≡◌, ◌^◌, ◌*ℤ◌, ◌≤ℤ◌, pos, unsigned_abs, bytes_eq, codes};
+ghost use Rattle.std.specs.Prelude.{take, IsTrue};
 ghost use Rattle.std.specs.List.{list_any};
 ghost use Rattle.sheet_types.specs.Matrix.{is_good_frame};
 ghost use Rattle.field_faults.specs.Heads.{is_number, is_of, is_same, is_stale, has_kind, has_system, width_at_zero};

@@ -326,7 +326,8 @@ fn at_number(ids: &[Uuid], number: i64) -> Option<Uuid>
 
 /// Whether an item names one of the package, and stands under the number of another.
 fn is_renumbered(ids: &[Uuid], known: &BTreeSet<Uuid>, item: &HeldItem) -> bool
-    ensures { (items : List ModelItem) → ids.now ≡ ids_of (kind_of item.now.content) items → IsKnownIn items known.now
+    ensures { (items : List ModelItem) → ids.now ≡ ids_of (kind_of item.now.content) items
+        → IsKnownIn items known.now
         → result ≡ is_renumbered items item.now }
 {
     let Some(id) = item.identity else {
@@ -343,7 +344,8 @@ fn is_renumbered(ids: &[Uuid], known: &BTreeSet<Uuid>, item: &HeldItem) -> bool
 
 /// The same of an item of an export.
 fn is_renumbered_in(exported: bool, ids: &[Uuid], known: &BTreeSet<Uuid>, item: &HeldItem) -> bool
-    ensures { (items : List ModelItem) → ids.now ≡ ids_of (kind_of item.now.content) items → IsKnownIn items known.now
+    ensures { (items : List ModelItem) → ids.now ≡ ids_of (kind_of item.now.content) items
+        → IsKnownIn items known.now
         → result ≡ (exported && is_renumbered items item.now) }
 {
     exported && is_renumbered(ids, known, item)
@@ -477,8 +479,7 @@ fn was_exported(export: &Option<Export>) -> bool
 }
 
 /// A line for each record of a file that a package cannot hold: its kind, its number and a word.
-/// First those that could not be listed, in their order,
-/// then the items of the file in theirs.
+/// First those that could not be listed, in their order, then the items of the file in theirs.
 ///
 /// # Errors
 ///

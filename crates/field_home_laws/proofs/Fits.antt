@@ -137,7 +137,8 @@ a_line h (Some reason) e =
     (nil_parts (kind_word (kind_of h.content) ++ codes " " ++ signed_decimal h.number ++ codes " "
     ++ reason_word reason) (codes "\n") e).1)
 
-row_passed : {X : Type 0} (b : Bool) (x : X) (o : Option X) → cond b (Some x) o ≡ None → (b ≡ false) × (o ≡ None)
+row_passed : {X : Type 0} (b : Bool) (x : X) (o : Option X) → cond b (Some x) o ≡ None → (b ≡ false)
+    × (o ≡ None)
 row_passed true x o e = absurd (None≢Some (sym e))
 row_passed false x o e = (refl, e)
 
@@ -188,7 +189,8 @@ fits f (Row x y code label) e =
     (in_frame f x y) both.0 (not_false (is_length_within 0 200 label) both.1)
     (not_false (is_within (pos 0) (pos 999999) code) number.0) (not_false (in_frame f x y) point.0)
   where
-    marks : (a b d p : Bool) → a ≡ false → b ≡ true → d ≡ true → p ≡ true → ((not a && (b && d)) && p) ≡ true
+    marks : (a b d p : Bool) → a ≡ false → b ≡ true → d ≡ true → p ≡ true
+        → ((not a && (b && d)) && p) ≡ true
     marks false true true true h1 h2 h3 h4 = refl
     marks true b d p h1 h2 h3 h4 = absurd (true≢false h1)
     marks false false d p h1 h2 h3 h4 = absurd (false≢true h2)
@@ -225,7 +227,8 @@ module _ (f : Frame) (items : List Item) (more exported : Bool) where
 
   -- with `more` none is at a place where the package has other bytes
   abbrev IsUntaken : HeldItem → Type 0
-  IsUntaken h = (zoom column row : ℤ) (bytes : List ℕ) → h.content ≡ Tile zoom column row bytes → more ≡ true
+  IsUntaken h = (zoom column row : ℤ) (bytes : List ℕ) → h.content ≡ Tile zoom column row bytes
+      → more ≡ true
       → list_any (is_other_at zoom column row bytes) items ≡ false
 
   untaken : (before : List HeldItem) (h : HeldItem) (c : Content) → c ≡ h.content
@@ -274,7 +277,8 @@ itself a z e = subst (λ v. is_same v a ≡ true) (sym e) (one a)
     one b = let so : true ≡ int_le b b = omega (arith, ints) in and_from (int_le b b) (int_le b b) (sym so) (sym so)
 
 -- numbers that are not below 0 are told by how far they are from it
-same_abs : (a b : ℤ) → int_le (pos 0) a ≡ true → int_le (pos 0) b ≡ true → unsigned_abs a ≡ unsigned_abs b → a ≡ b
+same_abs : (a b : ℤ) → int_le (pos 0) a ≡ true → int_le (pos 0) b ≡ true
+    → unsigned_abs a ≡ unsigned_abs b → a ≡ b
 same_abs (pos m) (pos n) low low' e = ap pos e
 same_abs (pos m) (negsuc n) low low' e = absurd (false≢true low')
 same_abs (negsuc m) b low low' e = absurd (false≢true low)
@@ -394,7 +398,8 @@ module _ (f : Frame) (good : GoodFrame f) where
   module _ (items : List Item) (more exported : Bool) where
     next : (before : List HeldItem) (h : HeldItem) (c : Content) → c ≡ h.content → has_twice (tile_places before)
         ≡ false → AllByRecursion (IsHeldBy f) before → reason_of f c ≡ None
-        → reason_among f items more exported before h c ≡ None → has_twice (tile_places before ++ place_list c) ≡ false
+        → reason_among f items more exported before h c ≡ None
+        → has_twice (tile_places before ++ place_list c) ≡ false
     next before h (Tile z c r b) is once held good_one told =
         let first = row_passed (list_any (is_good_at f z c r) before) Twice
         (first_row ((more && list_any (is_other_at z c r b) items, Taken) ∷ [])) told in
@@ -448,9 +453,11 @@ fewer k p to (h ∷ hs) =
           ))
       | false ↦ λ e.
           elim (is_tile_of h) as
-          (λ u. count_by p (h ∷ hs) ≤ count_by (lies_at k) (cond u (h ∷ filter is_tile_of hs) (filter is_tile_of hs))) [
+          (λ u. count_by p (h ∷ hs) ≤ count_by (lies_at k) (cond u (h ∷ filter is_tile_of hs)
+          (filter is_tile_of hs))) [
             | true ↦ elim (lies_at k h) as
-                (λ b. lies_at k h ≡ b → count_by p (h ∷ hs) ≤ count_by (lies_at k) (h ∷ filter is_tile_of hs)) [
+                (λ b. lies_at k h ≡ b → count_by p (h ∷ hs) ≤ count_by (lies_at k)
+                (h ∷ filter is_tile_of hs)) [
                   | true ↦ λ m. omega (
                     arith,
                     fewer k p to hs,
@@ -530,7 +537,8 @@ module _ (p : List ℕ) (ticket : ℕ) (more : Bool) (x : Package) (file : List 
       ∙ bytes_eq_itself (content_key d) in
       omega (
         arith,
-        any_some (λ j. same_content d j.content) x.items (any_in (λ j. same_content d j.content) i.0 x.items i.1 here),
+        any_some (λ j. same_content d j.content) x.items (any_in (λ j. same_content d j.content) i.0 x.items i.1
+            here),
         any_some (λ j. same_content d j.content) (new_items ns file)
             (any_in (λ j. same_content d j.content) a (new_items ns file) new there),
         one_of zoom column row bytes,

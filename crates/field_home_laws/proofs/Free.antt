@@ -1,5 +1,6 @@
 -- Requests that are free by themselves are free in their four parts, so a file comes home.
-use Rattle.std.specs.Prelude.{◌≡◌, ◌≤◌, ◌+◌, ◌-◌, ◌&&◌, ℕ, Bool, true, false, cond, not, nat_le, List, [], ◌∷◌, ◌++◌}
+use Rattle.std.specs.Prelude.{◌≡◌, ◌≤◌, ◌+◌, ◌-◌, ◌&&◌, ℕ, Bool, true, false, cond, not}
+use Rattle.std.specs.Prelude.{nat_le, List, [], ◌∷◌, ◌++◌}
 use Rattle.std.specs.Prelude.{map, filter, flat_map, length, bytes_eq, count_by, sum_by, if◌then◌else◌, refl}
 use Rattle.std.proofs.Common.{sym, ap, subst, ◌∙◌, inl, inr, arith, length-append}
 use Rattle.std.specs.List.{list_any, AllByRecursion}
@@ -292,7 +293,8 @@ module _ (w : World) (p : List ℕ) (n : ℕ) (moment : List ℕ) (more : Bool) 
   named : requests ≡ made
   named = changes.asked
 
-  world_part : (not (too_many w) ≡ true) × (nat_le (length (receipts_of w) + length requests) greatest_receipts ≡ true)
+  world_part : (not (too_many w) ≡ true) × (nat_le (length (receipts_of w) + length requests) greatest_receipts
+      ≡ true)
       × (keeps_package requests here.items here.links ≡ true)
   world_part =
       let last = and_parts (not (too_many w) && nat_le (length (receipts_of w) + length requests) greatest_receipts)
@@ -383,7 +385,8 @@ none_new : (w : World) (requests : List Request) → requests ≡ [] → AreNew 
 none_new w requests none = subst (AreNew w) (sym none) (record { unkept = refl; apart = refl })
 
 -- where nothing is asked for, the package holds what the file has
-empty_holds : (more : Bool) (w : World) (p : List ℕ) (n : ℕ) (moment : List ℕ) (h : Held) (requests : List Request)
+empty_holds : (more : Bool) (w : World) (p : List ℕ) (n : ℕ) (moment : List ℕ) (h : Held)
+    (requests : List Request)
     (replies : List Reply) (next : World) → IsRegister w → is_live w p ≡ true
     → (changes : ChangesOf w p n moment more h requests) → AreNew w requests → Run w requests replies next
     → AreGiven replies → HoldsFile w next p n moment more h requests changes

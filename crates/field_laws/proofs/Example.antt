@@ -16,7 +16,8 @@ use Rattle.field_changes.specs.Ids.{request_of}
 use Rattle.field_run_laws.specs.Lists.{has_twice}
 use Rattle.field_laws.specs.Example.{archive, sheet, morning, town, asked, EmptyArchiveTakes}
 
-four : (a : List Relation) (b : List (List ℕ)) (c : List Item) (d : List Relation) → a ≡ [] → b ≡ [] → c ≡ town ∷ []
+four : (a : List Relation) (b : List (List ℕ)) (c : List Item) (d : List Relation) → a ≡ [] → b ≡ []
+    → c ≡ town ∷ []
     → d ≡ []
     → asked ≡ map (request_of archive 0 morning) (map (unlinking archive) a ++ map (deleting archive) b
     ++ map (adding archive) c ++ map (linking archive) d)
@@ -61,10 +62,10 @@ empty_archive_takes parts no_unlinks no_deletes one no_links = (
           ap (λ l. is_overfull (record no_package {
             uuid = archive;
             items = l ++ [];
-            links =
-                parts.links.items ++ [];
+            links = parts.links.items ++ [];
           })) one
-          ∙ ap (λ l. is_overfull (record no_package { uuid = archive; items = town ∷ []; links = l ++ [] })) no_links;
+          ∙ ap (λ l. is_overfull (record no_package { uuid = archive; items = town ∷ []; links = l ++ [] }))
+          no_links;
     },
   ),
 )

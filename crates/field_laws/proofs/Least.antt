@@ -1,7 +1,9 @@
 -- Only what differs is asked for: of each content as many items are added, or deleted, as there are more or fewer of
 -- it.
-use Rattle.std.specs.Prelude.{◌≡◌, ◌-◌, ◌≤◌, ◌<◌, ◌+◌, ℕ, zero, suc, Bool, true, false, cond, not, ◌&&◌, ◌||◌, List}
-use Rattle.std.specs.Prelude.{[], ◌∷◌, ◌++◌, Option, Some, None, filter, option_map, unwrap_or, length, bytes_eq}
+use Rattle.std.specs.Prelude.{◌≡◌, ◌-◌, ◌≤◌, ◌<◌, ◌+◌, ℕ, zero, suc, Bool, true, false}
+use Rattle.std.specs.Prelude.{cond, not, ◌&&◌, ◌||◌, List}
+use Rattle.std.specs.Prelude.{[], ◌∷◌, ◌++◌, Option, Some, None, filter, option_map, unwrap_or, length}
+use Rattle.std.specs.Prelude.{bytes_eq}
 use Rattle.std.specs.Prelude.{count_by, sum_by, slice_get, refl}
 use Rattle.std.proofs.Common.{sym, ap, subst, ◌∙◌, inl, inr, arith, append_assoc, drop}
 use Rattle.std.specs.List.{list_any, AllZip, IsDistinct}
@@ -129,7 +131,8 @@ length_filter t (x ∷ xs) = elim (t x) as (λ v. t x ≡ v → length (cond v (
       | false ↦ λ e. omega (arith, length_filter t xs, count-cons t x xs false e)
     ] refl
 
-count_same : {X : Type 0} (p q : X → Bool) → ((x : X) → p x ≡ q x) → (xs : List X) → count_by p xs ≡ count_by q xs
+count_same : {X : Type 0} (p q : X → Bool) → ((x : X) → p x ≡ q x) → (xs : List X)
+    → count_by p xs ≡ count_by q xs
 count_same p q e xs = sum_by-same (λ x. cond (p x) 1 0) (λ x. cond (q x) 1 0) (λ x. ap (λ b. cond b 1 0) (e x)) xs
 
 false_by : (b : Bool) → (b ≡ true → ⊥) → b ≡ false
@@ -149,7 +152,8 @@ before_end (y ∷ xs) (suc k) x e = omega (arith, before_end xs k x e)
 
 -- ---- marks
 
-same_marks : (a b : List ℕ) (c d : Content) → key_of 0 a c ≡ key_of 0 b d → (a ≡ b) × (content_key c ≡ content_key d)
+same_marks : (a b : List ℕ) (c d : Content) → key_of 0 a c ≡ key_of 0 b d → (a ≡ b)
+    × (content_key c ≡ content_key d)
 same_marks a b c d e =
     let long : length a ≡ length b = cc in
     let rest : a ++ content_key c ≡ b ++ content_key d = cc in
@@ -243,7 +247,8 @@ module _ (items : List Item) (file : List HeldItem) (distinct : IsDistinct bytes
             (bytes_eq-Decides j.identity o.id).1 (sym (same_marks by.0 j.identity h.content j.content by.2).0 ∙ same))
             items in
             omega (arith, some, few, distinct_counts (λ j. j.identity) o.id items distinct)
-        | false ↦ λ e. count_none (newly before h) items (All-weaker (λ j. In j items) (λ j. newly before h j ≡ false)
+        | false ↦ λ e. count_none (newly before h) items (All-weaker (λ j. In j items)
+            (λ j. newly before h j ≡ false)
             (λ j there. false_by (newly before h j) (λ f.
             let k = newly_parts (is_c j.content) (marked before j) (is_marked (item_mark j) h) f in
             let by = marked_by (item_mark j) h.content h.identity k.2 in
@@ -258,7 +263,8 @@ module _ (items : List Item) (file : List HeldItem) (distinct : IsDistinct bytes
             ap (λ x. option_map_or (λ m. has item_mark m items && not (list_any (is_marked m) before))
             (option_map (λ k. key_of 0 k h.content) x) false) by.1
             ∙ ap (λ b. b && not (list_any (is_marked (key_of 0 by.0 h.content)) before)) item ∙ ap not first in
-            true≢false (sym (and_from (is_own items before h) (is_c h.content) own is_of) ∙ e))) items (In-all items))
+            true≢false (sym (and_from (is_own items before h) (is_c h.content) own is_of) ∙ e))) items
+            (In-all items))
       ] refl
 
   marked_more : (before : List HeldItem) (h : HeldItem) → count_by
@@ -278,7 +284,11 @@ module _ (items : List Item) (file : List HeldItem) (distinct : IsDistinct bytes
 
   marked_all : (before hs : List HeldItem) → count_by (λ i. is_c i.content && marked (before ++ hs) i) items
       ≡ count_by (λ i. is_c i.content && marked before i) items + own_count before hs
-  marked_all before [] = omega (arith, ap (λ l. count_by (λ i. is_c i.content && marked l i) items) (append-nil before))
+  marked_all before [] = omega (
+    arith,
+    ap (λ l. count_by (λ i. is_c i.content && marked l i) items)
+        (append-nil before),
+  )
   marked_all before (h ∷ hs) =
       omega (
         arith,
@@ -380,17 +390,20 @@ module _ (items : List Item) (file : List HeldItem) (distinct : IsDistinct bytes
 
         one : (x : Name) → name_of items file before h ≡ x
             → new_of (before ++ h ∷ []) hs + (others_before (before ++ h ∷ []) - copies (λ i. i.content) c pool)
-            ≡ (others_before (before ++ h ∷ []) + copies (λ x. x) c (others items (before ++ h ∷ []) hs)) - copies
+            ≡ (others_before (before ++ h ∷ []) + copies (λ x. x) c (others items (before ++ h ∷ []) hs)) -
+            copies
             (λ i. i.content) c pool
             → count_by (λ i. is_c i.content) (new_items (known_as p n h x
             ∷ names_behind p n items file (before ++ h ∷ []) hs) (h ∷ hs)) +
             (others_before before - copies (λ i. i.content) c pool)
-            ≡ (others_before before + copies (λ x. x) c (others items before (h ∷ hs))) - copies (λ i. i.content) c pool
+            ≡ (others_before before + copies (λ x. x) c (others items before (h ∷ hs))) - copies
+            (λ i. i.content) c pool
         one (Old id) e rest = elim (naming.came_from items file before h id e) [
           | inl own ↦ omega (arith, rest, next_count true own.0, all_count true own.0)
           | inr left ↦ elim (is_c h.content) as (λ v. is_c h.content ≡ v
               → new_of (before ++ h ∷ []) hs + (others_before before - copies (λ i. i.content) c pool)
-              ≡ (others_before before + copies (λ x. x) c (others items before (h ∷ hs))) - copies (λ i. i.content) c
+              ≡ (others_before before + copies (λ x. x) c (others items before (h ∷ hs))) - copies
+              (λ i. i.content) c
               pool) [
                 | true ↦ λ same.
                     let less : others_before before < copies (λ i. i.content) c pool =
@@ -423,7 +436,8 @@ module _ (items : List Item) (file : List HeldItem) (distinct : IsDistinct bytes
             elim (is_c h.content) as (λ v. is_c h.content ≡ v
             → count_by (λ j. is_c j.content) (i ∷ new_items (names_behind p n items file (before ++ h ∷ []) hs)
             hs) + (others_before before - copies (λ j. j.content) c pool)
-            ≡ (others_before before + copies (λ x. x) c (others items before (h ∷ hs))) - copies (λ j. j.content) c
+            ≡ (others_before before + copies (λ x. x) c (others items before (h ∷ hs))) - copies
+            (λ j. j.content) c
             pool) [
               | true ↦ λ same.
                   let past : copies (λ j. j.content) c pool ≤ others_before before =
@@ -464,7 +478,8 @@ old_items (n ∷ ns) (h ∷ hs) = cond n.is_new [] (record { identity = n.identi
     ++ old_items ns hs
 
 -- each item of the file is new or old
-all_count_of : (R : HeldItem → Named → Type 0) (c : Content) (hs : List HeldItem) (ns : List Named) → AllZip R hs ns
+all_count_of : (R : HeldItem → Named → Type 0) (c : Content) (hs : List HeldItem) (ns : List Named)
+    → AllZip R hs ns
     → copies (λ h. h.content) c hs ≡ count_by (λ i. same_content c i.content) (new_items ns hs) + count_by
     (λ i. same_content c i.content) (old_items ns hs)
 all_count_of R c [] [] all = omega arith
@@ -519,7 +534,8 @@ old_one R [] [] i all there = absurd there
 old_one R [] (n ∷ ns) i all there = absurd all
 old_one R (h ∷ hs) [] i all there = absurd all
 old_one R (h ∷ hs) (n ∷ ns) i all there =
-    elim n.is_new as (λ v. n.is_new ≡ v → In i (cond v [] (record { identity = n.identity; content = h.content } ∷ [])
+    elim n.is_new as (λ v. n.is_new ≡ v → In i (cond v [] (record { identity = n.identity; content = h.content }
+    ∷ [])
     ++ old_items ns hs) → OldOne R (n ∷ ns) i) [
       | true ↦ λ _ later. behind (old_one R hs ns i all.1 later)
       | false ↦ λ e here. elim here [
@@ -531,7 +547,8 @@ old_one R (h ∷ hs) (n ∷ ns) i all there =
     behind : OldOne R ns i → OldOne R (n ∷ ns) i
     behind o = record { beside = o.beside; name = o.name; there = inr o.there; fits = o.fits; old = o.old; is = o.is }
 
-old_at : (R : HeldItem → Named → Type 0) (hs : List HeldItem) (ns : List Named) (n : Named) → AllZip R hs ns → In n ns
+old_at : (R : HeldItem → Named → Type 0) (hs : List HeldItem) (ns : List Named) (n : Named) → AllZip R hs ns
+    → In n ns
     → n.is_new ≡ false
     → (h : HeldItem) × R h n × In (record { identity = n.identity; content = h.content }) (old_items ns hs)
 old_at R [] [] n all i old = absurd i
@@ -608,7 +625,8 @@ module _ (p : List ℕ) (ticket : ℕ) (items : List Item) (file : List HeldItem
       In-filter stays i items held (and_from (same_content c i.content) (has (λ n. n.identity) i.identity ns) it.1
       named)
 
-  by_identity : (xs : List Item) → ((k : List ℕ) → count_by (λ i. bytes_eq i.identity k) xs ≤ 1) → (k : List ℕ)
+  by_identity : (xs : List Item) → ((k : List ℕ) → count_by (λ i. bytes_eq i.identity k) xs ≤ 1)
+      → (k : List ℕ)
       → count_by (λ i. bytes_eq (item_key i) k) xs ≤ 1
   by_identity xs once k = omega (
     arith,

@@ -1,5 +1,6 @@
 -- What a package holds after the changes for a file: the four parts in a closed form, and what they come to.
-use Rattle.std.specs.Prelude.{◌≡◌, ◌≤◌, ◌+◌, ℕ, ℤ, Bool, true, false, cond, not, List, [], ◌∷◌, ◌++◌, Option, Some}
+use Rattle.std.specs.Prelude.{◌≡◌, ◌≤◌, ◌+◌, ℕ, ℤ, Bool, true, false, cond, not, List, []}
+use Rattle.std.specs.Prelude.{◌∷◌, ◌++◌, Option, Some}
 use Rattle.std.specs.Prelude.{None, map, filter, option_map, bytes_eq, count_by, length, refl}
 use Rattle.std.proofs.Common.{sym, ap, subst, ◌∙◌, inl, inr, arith}
 use Rattle.std.specs.List.{AllByRecursion, AllZip}
@@ -80,7 +81,8 @@ module _ (of : Command → Request) (made : (c : Command) → (of c).command ≡
       map_itself [] = refl
       map_itself (k ∷ ks) = ap (λ l. k ∷ l) (map_itself ks)
 
-  pub links_closed : (a : List Relation) (b : List (List ℕ)) (c : List Item) (d : List Relation) (links : List Relation)
+  pub links_closed : (a : List Relation) (b : List (List ℕ)) (c : List Item) (d : List Relation)
+      (links : List Relation)
       → links_through (map of (four a b c d)) links ≡ all_put link_key d (without link_key (map link_key a) links)
   links_closed a b c d links =
       let ua = map of (map (unlinking p) a) in
@@ -104,7 +106,8 @@ module _ (of : Command → Request) (made : (c : Command) → (of c).command ≡
 -- ---- items of the file, by pairs
 
 -- what stands beside a name
-pub zip_at : {A B : Type 0} (R : A → B → Type 0) (as' : List A) (bs : List B) (b : B) → AllZip R as' bs → In b bs
+pub zip_at : {A B : Type 0} (R : A → B → Type 0) (as' : List A) (bs : List B) (b : B) → AllZip R as' bs
+    → In b bs
     → (a : A) × R a b
 zip_at R [] [] b all i = absurd i
 zip_at R [] (y ∷ ys) b all i = absurd all
@@ -131,7 +134,8 @@ paired R (h ∷ hs) (m ∷ ms) n all i = elim i [
 ]
 
 -- one that is new is one of the file
-pub new_named : (ns : List Named) (hs : List HeldItem) (i : Item) → In i (new_items ns hs) → In i (named_items ns hs)
+pub new_named : (ns : List Named) (hs : List HeldItem) (i : Item) → In i (new_items ns hs)
+    → In i (named_items ns hs)
 new_named [] hs i there = absurd there
 new_named (n ∷ ns) [] i there = absurd there
 new_named (n ∷ ns) (h ∷ hs) i there = elim (In-of_append i (new_item n h) (new_items ns hs) there) [
@@ -161,7 +165,8 @@ each_named P R old (h ∷ hs) (n ∷ ns) all new =
     ] refl new
 
 -- those of one identity are new, or stand under an old name
-pub named_count : (R : HeldItem → Named → Type 0) (k : List ℕ) (hs : List HeldItem) (ns : List Named) → AllZip R hs ns
+pub named_count : (R : HeldItem → Named → Type 0) (k : List ℕ) (hs : List HeldItem) (ns : List Named)
+    → AllZip R hs ns
     → count_by (λ i. bytes_eq i.identity k) (named_items ns hs)
     ≡ count_by (λ i. bytes_eq i.identity k) (new_items ns hs) + count_by (λ n. bytes_eq n.identity k)
     (filter (λ n. not n.is_new) ns)
@@ -197,7 +202,8 @@ named_count R k (h ∷ hs) (n ∷ ns) all =
 pub each_of_once : (x : Relation) (ls : List Relation) → In x (each_once ls) → In x ls
 each_of_once x [] i = absurd i
 each_of_once x (l ∷ ls) i =
-    elim (has link_key (link_key l) ls) as (λ v. In x (cond v (each_once ls) (l ∷ each_once ls)) → In x (l ∷ ls)) [
+    elim (has link_key (link_key l) ls) as (λ v. In x (cond v (each_once ls) (l ∷ each_once ls))
+    → In x (l ∷ ls)) [
       | true ↦ λ j. inr (each_of_once x ls j)
       | false ↦ λ j. elim j [ inl e ↦ inl e | inr later ↦ inr (each_of_once x ls later) ]
     ] i
@@ -235,7 +241,8 @@ once_count k (l ∷ ls) =
         → count_by (λ x. bytes_eq (link_key x) k) (l ∷ each_once ls) ≤ 1
     one true e none rest =
         let lacks : AllByRecursion (λ x. bytes_eq (link_key x) k ≡ false) (each_once ls) =
-        All-weaker (λ x. In x (each_once ls)) (λ x. bytes_eq (link_key x) k ≡ false) (λ x i. other x i) (each_once ls)
+        All-weaker (λ x. In x (each_once ls)) (λ x. bytes_eq (link_key x) k ≡ false) (λ x i. other x i)
+        (each_once ls)
         (In-all (each_once ls)) in
         omega (
           arith,
@@ -275,7 +282,8 @@ same_link x y a b e =
     let other_is : x.other ≡ y.other = ends.1 in
     same_parts x.mapping y.mapping x.base y.base x.other y.other mapping_is base_is other_is
   where
-    same_parts : (m n : Mapping) (a b c d : List ℕ) → m ≡ n → a ≡ b → c ≡ d → relation m a c ≡ relation n b d
+    same_parts : (m n : Mapping) (a b c d : List ℕ) → m ≡ n → a ≡ b → c ≡ d
+        → relation m a c ≡ relation n b d
     same_parts m n a b c d e f g = ap (λ v. relation v a c) e ∙ ap (λ v. relation n v c) f ∙ ap (relation n b) g
 
 in_last : {X : Type 0} (x : X) (xs : List X) → In (last_or x xs) (x ∷ xs)
@@ -320,7 +328,8 @@ link_named names h l e = at (end_of names (base_kind h.mapping) h.base) (end_of 
   where
     at : (o q : Option (List ℕ)) → end_of names (base_kind h.mapping) h.base ≡ o
         → end_of names (other_kind h.mapping) h.other ≡ q
-        → option_and_then (λ base. option_map (λ other. relation h.mapping base other) q) o ≡ Some l → LinkNamed names l
+        → option_and_then (λ base. option_map (λ other. relation h.mapping base other) q) o ≡ Some l
+        → LinkNamed names l
     at None q a b is = absurd (None≢Some is)
     at (Some base) None a b is = absurd (None≢Some is)
     at (Some base) (Some other) a b is = subst (LinkNamed names) (some_same is) (record {

@@ -1,5 +1,6 @@
 -- What the changes for a file make, where each request got a receipt.
-use Rattle.std.specs.Prelude.{◌≡◌, ◌≤◌, ℕ, Bool, true, false, cond, not, ◌&&◌, List, [], ◌∷◌, ◌++◌, map, filter}
+use Rattle.std.specs.Prelude.{◌≡◌, ◌≤◌, ℕ, Bool, true, false, cond, not, ◌&&◌, List, [], ◌∷◌}
+use Rattle.std.specs.Prelude.{◌++◌, map, filter}
 use Rattle.std.specs.Prelude.{bytes_eq, count_by, length, IsPermutation, refl}
 use Rattle.std.proofs.Common.{sym, ap, subst, ◌∙◌, inl, inr, arith, drop}
 use Rattle.std.specs.List.{list_any, AllByRecursion, AllZip, IsDistinct}
@@ -147,7 +148,8 @@ module _ (w : World) (p : List ℕ) (ticket : ℕ) (moment : List ℕ) (more : B
   end_uuid : (kind : MovedKind) (id : List ℕ) → has_kind here kind id ≡ true → IsUuid id
   end_uuid kind id some =
       let it = any_at (λ i. bytes_eq (item_key i) (kind_number kind ∷ id)) here.items some in
-      let same : it.0.identity ≡ id = ap (drop 1) ((bytes_eq-Decides (item_key it.0) (kind_number kind ∷ id)).0 it.2) in
+      let same : it.0.identity ≡ id = ap (drop 1) ((bytes_eq-Decides (item_key it.0) (kind_number kind ∷ id)).0
+      it.2) in
       subst IsUuid same (All-In (λ j. IsUuid j.identity) it.0 here.items kept.uuids it.1)
 
   pub links_join : AllByRecursion JoinsUuids here.links
@@ -266,7 +268,8 @@ module _ (w : World) (p : List ℕ) (ticket : ℕ) (moment : List ℕ) (more : B
     order_items = subst (IsArranged item_key) (stage.items_are ∙ items_are) kept_next.items
 
     pub distinct_items : IsDistinct bytes_eq (identities items_made)
-    distinct_items = subst (λ l. IsDistinct bytes_eq (identities l)) (stage.items_are ∙ items_are) kept_next.identities
+    distinct_items = subst (λ l. IsDistinct bytes_eq (identities l)) (stage.items_are ∙ items_are)
+        kept_next.identities
 
     pub order_links : IsArranged link_key links_made
     order_links = subst (IsArranged link_key) (stage.links_are ∙ links_through_are) kept_next.links
@@ -280,7 +283,8 @@ module _ (w : World) (p : List ℕ) (ticket : ℕ) (moment : List ℕ) (more : B
 
 -- ---- where nothing is taken away
 
-all_stay : {X : Type 0} (key : X → List ℕ) (ks : List (List ℕ)) (xs : List X) → ks ≡ [] → without key ks xs ≡ xs
+all_stay : {X : Type 0} (key : X → List ℕ) (ks : List (List ℕ)) (xs : List X) → ks ≡ []
+    → without key ks xs ≡ xs
 all_stay key ks xs none = ap (λ l. without key l xs) none ∙ stay xs
   where
     stay : (ys : List _) → without key [] ys ≡ ys
@@ -352,16 +356,18 @@ module _ (items : List Item) (file : List HeldItem) (ns : List Named) (adds : Li
   stays i there =
       let it = of_filter (λ x. not (is_among (identities (gone ns items)) x.identity)) i items there in (
         it.0,
-        elim (has (λ n. n.identity) i.identity ns) as (λ v. has (λ n. n.identity) i.identity ns ≡ v → v ≡ true) [
-          | true ↦ λ _. refl
-          | false ↦ λ none.
-              let gone_in : In i (gone ns items) = In-filter (λ x. not (has (λ n. n.identity) x.identity ns)) i items
-              it.0 (ap not none) in
-              let among : is_among (identities (gone ns items)) i.identity ≡ true =
-              any_in (λ z. bytes_eq z i.identity) i.identity (identities (gone ns items))
-              (In-map (λ x. x.identity) i (gone ns items) gone_in) (bytes_eq_itself i.identity) in
-              absurd (true≢false (sym among ∙ not_true (is_among (identities (gone ns items)) i.identity) it.1))
-        ] refl,
+        elim (has (λ n. n.identity) i.identity ns) as (λ v. has (λ n. n.identity) i.identity ns ≡ v
+            → v ≡ true) [
+              | true ↦ λ _. refl
+              | false ↦ λ none.
+                  let gone_in : In i (gone ns items) = In-filter (λ x. not (has (λ n. n.identity) x.identity ns)) i
+                  items
+                  it.0 (ap not none) in
+                  let among : is_among (identities (gone ns items)) i.identity ≡ true =
+                  any_in (λ z. bytes_eq z i.identity) i.identity (identities (gone ns items))
+                  (In-map (λ x. x.identity) i (gone ns items) gone_in) (bytes_eq_itself i.identity) in
+                  absurd (true≢false (sym among ∙ not_true (is_among (identities (gone ns items)) i.identity) it.1))
+            ] refl,
       )
 
   stay : (i : Item) → In i items → has (λ n. n.identity) i.identity ns ≡ true → In i left
@@ -427,11 +433,13 @@ module _ (items : List Item) (file : List HeldItem) (ns : List Named) (adds : Li
     named_once k =
         let f : Item → ℕ = λ i. cond (bytes_eq i.identity k) 1 0 in
         let old : List Named = filter (λ n. not n.is_new) ns in
-        let all : count_by (λ i. bytes_eq i.identity k) whole ≤ 1 = distinct_counts (λ x. x.identity) k whole apart in
+        let all : count_by (λ i. bytes_eq i.identity k) whole ≤ 1 =
+        distinct_counts (λ x. x.identity) k whole apart in
         let sum = sum_put item_key f adds left in
         let same = sum_by-IsPermutation f (new_items ns file) adds moves in
         let count = named_count (HoldsUnder items) k file ns zip in
-        let few : count_by (λ n. bytes_eq n.identity k) old ≤ 1 = distinct_counts (λ n. n.identity) k old old_apart in
+        let few : count_by (λ n. bytes_eq n.identity k) old ≤ 1 =
+        distinct_counts (λ n. n.identity) k old old_apart in
         elim (list_any (λ n. bytes_eq n.identity k) old) as (λ v. list_any (λ n. bytes_eq n.identity k) old ≡ v
         → count_by (λ i. bytes_eq i.identity k) (named_items ns file) ≤ 1) [
           | true ↦ λ some.
@@ -501,7 +509,8 @@ module _ (linked fl adds : List Relation) (join : AllByRecursion JoinsUuids link
               let among : is_among (map link_key (beyond fl linked)) (link_key l) ≡ true =
               any_in (λ z. bytes_eq z (link_key l)) (link_key l) (map link_key (beyond fl linked))
               (In-map link_key l (beyond fl linked) out) (bytes_eq_itself (link_key l)) in
-              absurd (true≢false (sym among ∙ not_true (is_among (map link_key (beyond fl linked)) (link_key l)) it.1))
+              absurd (true≢false (sym among ∙ not_true (is_among (map link_key (beyond fl linked)) (link_key l))
+              it.1))
         ] refl
   ]
 

@@ -1,5 +1,6 @@
 -- A name that is not new is that of an item of the package with the content.
-use Rattle.std.specs.Prelude.{◌≡◌, ◌-◌, ℕ, zero, suc, Bool, true, false, cond, not, ◌&&◌, ◌||◌, List, [], ◌∷◌, ◌++◌}
+use Rattle.std.specs.Prelude.{◌≡◌, ◌-◌, ℕ, zero, suc, Bool, true, false, cond, not, ◌&&◌, ◌||◌}
+use Rattle.std.specs.Prelude.{List, [], ◌∷◌, ◌++◌}
 use Rattle.std.specs.Prelude.{Option, Some, None, length, filter, option_map, unwrap_or, bytes_eq, slice_get, refl}
 use Rattle.std.proofs.Common.{ap, subst, ◌∙◌}
 use Rattle.std.specs.List.{list_any, AllZip}
@@ -49,7 +50,8 @@ marked_item i id c t =
     let rest : i.identity ++ content_key i.content ≡ id ++ content_key c = cc in
     let parts = same_front i.identity id (content_key i.content) (content_key c) long rest in
     let one : bytes_eq i.identity id ≡ true = (bytes_eq-Decides i.identity id).1 parts.0 in
-    let two : same_content i.content c ≡ true = (bytes_eq-Decides (content_key i.content) (content_key c)).1 parts.1 in
+    let two : same_content i.content c ≡ true = (bytes_eq-Decides (content_key i.content) (content_key c)).1
+    parts.1 in
     ap (λ b. b && same_content i.content c) one ∙ two
 
 own_at : (items : List Item) (before : List HeldItem) (o : Option (List ℕ)) (c : Content)
@@ -85,18 +87,22 @@ got (i ∷ is) c k id e =
     at (suc n) later t rest = ap (λ b. is_item id c i || b) (later n rest) ∙ or_true (is_item id c i)
 
 -- what passes of those that are left passes of all
-left_of : (p t : Item → Bool) (items : List Item) → list_any p (filter t items) ≡ true → list_any p items ≡ true
+left_of : (p t : Item → Bool) (items : List Item) → list_any p (filter t items) ≡ true
+    → list_any p items ≡ true
 left_of p t [] some = some
 left_of p t (i ∷ is) some =
-    elim (t i) as (λ b. list_any p (cond b (i ∷ filter t is) (filter t is)) ≡ true → (p i || list_any p is) ≡ true) [
-      | true ↦ λ e. elim (p i) as (λ b. (b || list_any p (filter t is)) ≡ true → (b || list_any p is) ≡ true) [
-        | true ↦ λ _. refl
-        | false ↦ λ rest. left_of p t is rest
-      ] e
+    elim (t i) as (λ b. list_any p (cond b (i ∷ filter t is) (filter t is)) ≡ true
+    → (p i || list_any p is) ≡ true) [
+      | true ↦ λ e. elim (p i) as (λ b. (b || list_any p (filter t is)) ≡ true
+          → (b || list_any p is) ≡ true) [
+            | true ↦ λ _. refl
+            | false ↦ λ rest. left_of p t is rest
+          ] e
       | false ↦ λ rest. ap (λ b. p i || b) (left_of p t is rest) ∙ or_true (p i)
     ] some
 
-pub shared : (o : Option (List ℕ)) (m : ℕ) (id : List ℕ) → option_map_or Old o (New m) ≡ Old id → o ≡ Some id
+pub shared : (o : Option (List ℕ)) (m : ℕ) (id : List ℕ) → option_map_or Old o (New m) ≡ Old id
+    → o ≡ Some id
 shared None m id e = cc
 shared (Some x) m id e = cc
 
@@ -116,7 +122,8 @@ old_name items file before h id e =
     → list_any (is_item id h.content) items ≡ true) [
       | true ↦ λ own named.
           let same : unwrap_or h.identity [] ≡ id = cc in
-          subst (λ x. list_any (is_item x h.content) items ≡ true) same (own_at items before h.identity h.content own)
+          subst (λ x. list_any (is_item x h.content) items ≡ true) same
+          (own_at items before h.identity h.content own)
       | false ↦ λ _ named.
           left_of (is_item id h.content) (λ i. not (list_any (is_marked (item_mark i)) file)) items
           (got left h.content place id (shared (slice_get (alike h.content left) place)

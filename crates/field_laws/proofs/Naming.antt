@@ -1,6 +1,8 @@
 -- No two items of a file are called by one identity of the package.
-use Rattle.std.specs.Prelude.{◌≡◌, ◌⊎◌, ◌-◌, ◌≤◌, ◌+◌, ℕ, zero, suc, Bool, true, false, cond, not, ◌&&◌, List, []}
-use Rattle.std.specs.Prelude.{◌∷◌, ◌++◌, Option, Some, None, map, filter, option_map, unwrap_or, bytes_eq, count_by}
+use Rattle.std.specs.Prelude.{◌≡◌, ◌⊎◌, ◌-◌, ◌≤◌, ◌+◌, ℕ, zero, suc, Bool, true, false}
+use Rattle.std.specs.Prelude.{cond, not, ◌&&◌, List, []}
+use Rattle.std.specs.Prelude.{◌∷◌, ◌++◌, Option, Some, None, map, filter, option_map, unwrap_or, bytes_eq}
+use Rattle.std.specs.Prelude.{count_by}
 use Rattle.std.specs.Prelude.{slice_get, length, refl}
 use Rattle.std.proofs.Common.{sym, ap, subst, ◌∙◌, inl, inr, arith, append_assoc}
 use Rattle.std.specs.List.{list_any, AllByRecursion, IsDistinct}
@@ -97,14 +99,14 @@ stands_at c (i ∷ is) k id e =
     later : Stands is id c → Stands (i ∷ is) id c
     later s = record { item = s.item; there = inr s.there; identity_is = s.identity_is; key_is = s.key_is }
 
-    at : (n : ℕ) → same_content c i.content ≡ true → ((m : ℕ) → slice_get (alike c is) m ≡ Some id → Stands is id c)
+    at : (n : ℕ) → same_content c i.content ≡ true → ((m : ℕ) → slice_get (alike c is) m ≡ Some id
+        → Stands is id c)
         → slice_get (i.identity ∷ alike c is) n ≡ Some id → Stands (i ∷ is) id c
     at zero t behind here = record {
       item = i;
       there = inl refl;
       identity_is = some_same here;
-      key_is =
-          sym ((bytes_eq-Decides (content_key c) (content_key i.content)).0 t);
+      key_is = sym ((bytes_eq-Decides (content_key c) (content_key i.content)).0 t);
     }
     at (suc n) t behind rest = later (behind n rest)
 
@@ -137,7 +139,8 @@ came_from items file before h id e =
 
 module _ (items : List Item) (file : List HeldItem) (distinct : IsDistinct bytes_eq (identities items)) where
   -- an identity has one item, and so one content
-  one_item : (i j : Item) → In i items → In j items → (id : List ℕ) → i.identity ≡ id → j.identity ≡ id → i ≡ j
+  one_item : (i j : Item) → In i items → In j items → (id : List ℕ) → i.identity ≡ id
+      → j.identity ≡ id → i ≡ j
   one_item i j a b id e f = two_are_one (λ x. bytes_eq x.identity id) i j items
       (distinct_counts (λ x. x.identity) id items distinct) a b
       ((bytes_eq-Decides i.identity id).1 e) ((bytes_eq-Decides j.identity id).1 f)
@@ -158,7 +161,8 @@ module _ (items : List Item) (file : List HeldItem) (distinct : IsDistinct bytes
 
   -- one that stands among those that nothing is marked as is named by none
   own_shared : (before : List HeldItem) (g : HeldItem) (c : Content) (id : List ℕ) → In g file
-      → is_own items before g ≡ true → unwrap_or g.identity [] ≡ id → Stands (unmarked items file) id c → ⊥
+      → is_own items before g ≡ true → unwrap_or g.identity [] ≡ id → Stands (unmarked items file) id c
+      → ⊥
   own_shared before g c id there own is s =
       let o = owned items before g own in
       let same : o.id ≡ id = sym (ap (λ x. unwrap_or x []) o.says) ∙ is in
@@ -259,7 +263,8 @@ module _ (items : List Item) (file : List HeldItem) (distinct : IsDistinct bytes
           (marks h o.id (key_of 0 p.id g.content) o.says mark_is) in
           true≢false (sym some ∙ p.first)
       | inr left ↦ own_shared before h g.content id h_in own.0 own.1
-          (stands_at g.content (unmarked items file) (copies (λ c. c) g.content (others items [] (before ++ h ∷ mid)))
+          (stands_at g.content (unmarked items file) (copies (λ c. c) g.content
+          (others items [] (before ++ h ∷ mid)))
           id left.1)
     ]
     | inr left ↦ elim other [
@@ -277,7 +282,8 @@ module _ (items : List Item) (file : List HeldItem) (distinct : IsDistinct bytes
           (of_filter (λ j. not (list_any (is_marked (item_mark j)) file)) i items there).0 in
           let i_is : s.item ≡ t.item = one_item s.item t.item (whole s.item s.there) (whole t.item t.there) id
           s.identity_is t.identity_is in
-          let same : g.content ≡ c = same_key g.content c (sym t.key_is ∙ ap (λ i. content_key i.content) (sym i_is)
+          let same : g.content ≡ c = same_key g.content c (sym t.key_is
+          ∙ ap (λ i. content_key i.content) (sym i_is)
           ∙ s.key_is) in
           let there : slice_get (alike c pool) l ≡ Some id =
           subst (λ x. slice_get (alike x pool) (copies (λ y. y) x (others items [] (before ++ h ∷ mid)))

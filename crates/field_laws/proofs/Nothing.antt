@@ -1,5 +1,6 @@
 -- A file that lists what the package holds asks for nothing.
-use Rattle.std.specs.Prelude.{◌≡◌, ◌≤◌, ℕ, Bool, true, false, cond, not, ◌&&◌, List, [], ◌∷◌, ◌++◌, Option, Some}
+use Rattle.std.specs.Prelude.{◌≡◌, ◌≤◌, ℕ, Bool, true, false, cond, not, ◌&&◌, List, [], ◌∷◌}
+use Rattle.std.specs.Prelude.{◌++◌, Option, Some}
 use Rattle.std.specs.Prelude.{None, map, filter, option_map, unwrap_or, is_some, bytes_eq, count_by, length}
 use Rattle.std.specs.Prelude.{IsPermutation, refl}
 use Rattle.std.proofs.Common.{sym, ap, subst, ◌∙◌, inl, inr, arith, append_assoc}
@@ -36,7 +37,8 @@ use Rattle.field_laws.specs.Changing.{as_listed, listed_name, ListsItems, Nothin
 use Rattle.field_laws.proofs.Contents.{same_front}
 
 -- nothing passes a test that each fails
-none_left : {X : Type 0} (t : X → Bool) (xs : List X) → AllByRecursion (λ x. t x ≡ false) xs → filter t xs ≡ []
+none_left : {X : Type 0} (t : X → Bool) (xs : List X) → AllByRecursion (λ x. t x ≡ false) xs
+    → filter t xs ≡ []
 none_left t [] h = refl
 none_left t (x ∷ xs) h = ap (λ b. cond b (x ∷ filter t xs) (filter t xs)) h.0 ∙ none_left t xs h.1
 
@@ -51,7 +53,8 @@ other_mark : (id : List ℕ) (c d : Content) (o : Option (List ℕ)) → bytes_e
     → option_map_or (λ m. bytes_eq m (key_of 0 id c)) (option_map (λ k. key_of 0 k d) o) false ≡ false
 other_mark id c d None h = refl
 other_mark id c d (Some k) h =
-    elim (bytes_eq (key_of 0 k d) (key_of 0 id c)) as (λ v. bytes_eq (key_of 0 k d) (key_of 0 id c) ≡ v → v ≡ false) [
+    elim (bytes_eq (key_of 0 k d) (key_of 0 id c)) as (λ v. bytes_eq (key_of 0 k d) (key_of 0 id c) ≡ v
+    → v ≡ false) [
       | true ↦ λ e. absurd (false≢true (sym h ∙ (bytes_eq-Decides k id).1
           (same ((bytes_eq-Decides (key_of 0 k d) (key_of 0 id c)).0 e))))
       | false ↦ λ _. refl
@@ -100,7 +103,8 @@ listed_names p n items file before (h ∷ hs) once listed =
     none_any (is_marked (key_of 0 id h.content)) before (All-weaker (λ x. beside id x ≡ false)
     (λ x. is_marked (key_of 0 id h.content) x ≡ false) (λ x e. other_mark id h.content x.content x.identity e)
     before (none_counted (beside id) before none)) in
-    let own : is_own items before h ≡ true = own_listed items before h.identity h.content listed.0.0 listed.0.1 first in
+    let own : is_own items before h ≡ true = own_listed items before h.identity h.content listed.0.0 listed.0.1
+    first in
     ap (λ b. known_as p n h (cond b (Old id) (shared_name (unmarked items file) h.content
     (copies (λ c. c) h.content (others items [] before)))) ∷ names_behind p n items file (before ++ h ∷ []) hs)
     own
@@ -173,7 +177,8 @@ same_links names (h ∷ hs) (x ∷ xs) (y ∷ ys) a b =
     let rest : xs ≡ ys = same_links names hs xs ys a.1 b.1 in
     ap (λ z. z ∷ xs) first ∙ ap (λ zs. y ∷ zs) rest
 
-none_beyond : (others links : List Relation) → ((l : Relation) → In l links → In l others) → beyond others links ≡ []
+none_beyond : (others links : List Relation) → ((l : Relation) → In l links → In l others)
+    → beyond others links ≡ []
 none_beyond others links there = none_left (λ l. not (has link_key (link_key l) others)) links
     (All-weaker (λ l. In l links) (λ l. not (has link_key (link_key l) others) ≡ false)
     (λ l i. ap not (any_in (λ x. bytes_eq (link_key x) (link_key l)) l others (there l i)
@@ -207,7 +212,8 @@ nothing_to_do p ticket moment items linked more file held requests distinct list
     changes.asked ∙ ap (map (request_of p ticket moment)) (four changes.parts.unlinks.items
     changes.parts.deletes.items changes.parts.adds.items changes.parts.links.items unlinks deletes adds links)
   where
-    four : (a : List Relation) (b : List (List ℕ)) (c : List Item) (d : List Relation) → a ≡ [] → b ≡ [] → c ≡ []
+    four : (a : List Relation) (b : List (List ℕ)) (c : List Item) (d : List Relation) → a ≡ [] → b ≡ []
+        → c ≡ []
         → d ≡ []
         → map (unlinking p) a ++ map (deleting p) b ++ map (adding p) c ++ map (linking p) d ≡ []
     four [] [] [] [] a b c d = refl

@@ -1,5 +1,6 @@
 -- The requests for a file, each ready when its turn comes: the four parts.
-use Rattle.std.specs.Prelude.{◌≡◌, ◌≤◌, ◌+◌, ℕ, Bool, true, false, cond, not, ◌&&◌, ◌||◌, nat_lt, List, [], ◌∷◌, ◌++◌}
+use Rattle.std.specs.Prelude.{◌≡◌, ◌≤◌, ◌+◌, ℕ, Bool, true, false, cond, not, ◌&&◌, ◌||◌}
+use Rattle.std.specs.Prelude.{nat_lt, List, [], ◌∷◌, ◌++◌}
 use Rattle.std.specs.Prelude.{map, filter, bytes_eq, count_by, length, refl}
 use Rattle.std.proofs.Common.{sym, ap, subst, ◌∙◌, arith}
 use Rattle.std.specs.List.{list_any, AllByRecursion, IsDistinct}
@@ -82,10 +83,11 @@ within_room x e =
 
 pub filter_shorter : {X : Type 0} (t : X → Bool) (xs : List X) → length (filter t xs) ≤ length xs
 filter_shorter t [] = omega arith
-filter_shorter t (x ∷ xs) = elim (t x) as (λ v. length (cond v (x ∷ filter t xs) (filter t xs)) ≤ length (x ∷ xs)) [
-  | true ↦ omega (arith, filter_shorter t xs)
-  | false ↦ omega (arith, filter_shorter t xs)
-]
+filter_shorter t (x ∷ xs) = elim (t x) as (λ v. length (cond v (x ∷ filter t xs) (filter t xs)) ≤ length
+    (x ∷ xs)) [
+      | true ↦ omega (arith, filter_shorter t xs)
+      | false ↦ omega (arith, filter_shorter t xs)
+    ]
 
 -- fewer items, or fewer links, have room
 fewer_items : (t : Item → Bool) (items : List Item) (links : List Relation) → Room items links
@@ -103,8 +105,7 @@ fewer_links u items links r = record {
   tiles = r.tiles;
   media = r.media;
   rows = r.rows;
-  joins =
-      omega (arith, r.joins, filter_shorter u links);
+  joins = omega (arith, r.joins, filter_shorter u links);
 }
 
 -- room for some more
@@ -131,8 +132,7 @@ room_now : (more items : List Item) (links : List Relation) → RoomFor more ite
 room_now more items links r = record {
   tiles = omega (arith, r.tiles);
   media = omega (arith, r.media);
-  rows =
-      omega (arith, r.rows);
+  rows = omega (arith, r.rows);
   joins = r.joins;
 }
 
@@ -149,8 +149,10 @@ put_longer key x (y ∷ ys) = elim (is_before (key y) (key x)) as
 -- another key is still there
 still_has : {X : Type 0} (key : X → List ℕ) (k other : List ℕ) (xs : List X) → bytes_eq k other ≡ false
     → has key k xs ≡ true → has key k (without key (other ∷ []) xs) ≡ true
-still_has key k other xs apart some = any_filter (λ x. bytes_eq (key x) k) (λ x. not (is_among (other ∷ []) (key x))) xs
-    (λ x e. ap not (is_one key other x ∙ ap (λ z. bytes_eq z other) ((bytes_eq-Decides (key x) k).0 e) ∙ apart)) some
+still_has key k other xs apart some = any_filter (λ x. bytes_eq (key x) k)
+    (λ x. not (is_among (other ∷ []) (key x))) xs
+    (λ x e. ap not (is_one key other x ∙ ap (λ z. bytes_eq z other) ((bytes_eq-Decides (key x) k).0 e) ∙ apart))
+    some
 
 -- and is not there, where it was not
 still_lacks : {X : Type 0} (key : X → List ℕ) (k : List ℕ) (x : X) (xs : List X) → bytes_eq (key x) k ≡ false
@@ -169,7 +171,8 @@ HavePlaces [] = Unit {0}
 HavePlaces (a ∷ as') = AllByRecursion (λ b. AreApart a b.content) as' × HavePlaces as'
 
 still_free : (a : Item) (items : List Item) (links : List Relation) (c : Content) → AreApart a c
-    → takes_place (package_of items links) c ≡ false → takes_place (package_of (put item_key a items) links) c ≡ false
+    → takes_place (package_of items links) c ≡ false → takes_place (package_of (put item_key a items) links) c
+    ≡ false
 still_free a items links (Tile zoom column row bytes) one more =
     list_any-put item_key (λ i. is_at zoom column row i.content) a items
     ∙ or_false (is_at zoom column row a.content) (list_any (λ i. is_at zoom column row i.content) items)
@@ -197,7 +200,8 @@ module _ (w : World) (p : List ℕ) (ticket : ℕ) (moment : List ℕ) (timed : 
   ready_unlinks [] since items links rest room there apart behind = behind
   ready_unlinks (u ∷ us) since items links rest room there apart behind =
       let now : List Relation = without link_key (link_key u ∷ []) links in
-      let less : Room items now = fewer_links (λ l. not (is_among (link_key u ∷ []) (link_key l))) items links room in
+      let less : Room items now = fewer_links (λ l. not (is_among (link_key u ∷ []) (link_key l))) items links
+      room in
       let others : AllByRecursion (λ l. bytes_eq (link_key u) (link_key l) ≡ false) us =
       All-of_map (λ k. bytes_eq (link_key u) k ≡ false) link_key us
       (IsDistinct-head bytes_eq (link_key u) (map link_key us) apart) in
@@ -230,7 +234,8 @@ module _ (w : World) (p : List ℕ) (ticket : ℕ) (moment : List ℕ) (timed : 
       let later : AllByRecursion (λ k. has (λ i. i.identity) k now ≡ true) ds =
       All-both (λ k. has (λ (i : Item). i.identity) k items ≡ true) (λ k. bytes_eq d k ≡ false)
       (λ k. has (λ (i : Item). i.identity) k now ≡ true)
-      (λ k some other. still_has (λ i. i.identity) k d items (bytes_eq_swap k d ∙ other) some) ds there.1 others in (
+      (λ k some other. still_has (λ i. i.identity) k d items (bytes_eq_swap k d ∙ other) some) ds there.1
+      others in (
         timed,
         (there.0, untied.0),
         room_within now links less,
@@ -240,7 +245,8 @@ module _ (w : World) (p : List ℕ) (ticket : ℕ) (moment : List ℕ) (timed : 
 
   -- ---- items come
 
-  same_text : (identity : List ℕ) (c : Content) → bad_text (Add [] [] c) ≡ false → bad_text (Add p identity c) ≡ false
+  same_text : (identity : List ℕ) (c : Content) → bad_text (Add [] [] c) ≡ false
+      → bad_text (Add p identity c) ≡ false
   same_text identity (Tile zoom column row bytes) e = e
   same_text identity (Media content_type bytes) e = e
   same_text identity (Row x y code label) e = e
@@ -315,8 +321,7 @@ module _ (w : World) (p : List ℕ) (ticket : ℕ) (moment : List ℕ) (timed : 
         tiles = room.tiles;
         media = room.media;
         rows = room.rows;
-        joins =
-            omega (arith, few, longer);
+        joins = omega (arith, few, longer);
       } in
       let others : AllByRecursion (λ x. bytes_eq (link_key l) (link_key x) ≡ false) ls =
       All-of_map (λ k. bytes_eq (link_key l) k ≡ false) link_key ls

@@ -1,5 +1,6 @@
 -- No request for a file that a package can take is refused.
-use Rattle.std.specs.Prelude.{◌≡◌, ◌≤◌, ℕ, ℤ, Bool, true, false, cond, not, ◌&&◌, ◌||◌, int_le, List, [], ◌∷◌, ◌++◌}
+use Rattle.std.specs.Prelude.{◌≡◌, ◌≤◌, ℕ, ℤ, Bool, true, false, cond, not, ◌&&◌, ◌||◌}
+use Rattle.std.specs.Prelude.{int_le, List, [], ◌∷◌, ◌++◌}
 use Rattle.std.specs.Prelude.{map, filter, bytes_eq, count_by, unsigned_abs, refl}
 use Rattle.std.proofs.Common.{sym, ap, subst, ◌∙◌, inl, inr, arith, append_assoc}
 use Rattle.std.specs.List.{list_any, list_all, AllByRecursion, AllZip, IsDistinct}
@@ -126,7 +127,8 @@ same_within a z h =
     let parts = and_parts (int_le a z) (int_le z a) h in
     omega (arith, ints, parts.0, parts.1)
 
-at_is : (zoom column row : ℤ) (d : Content) → is_at zoom column row d ≡ true → (kind_is TileItem (kind_of d) ≡ true)
+at_is : (zoom column row : ℤ) (d : Content) → is_at zoom column row d ≡ true
+    → (kind_is TileItem (kind_of d) ≡ true)
     × (place_of d ≡ unsigned_abs zoom ∷ unsigned_abs column ∷ unsigned_abs row ∷ [])
 at_is zoom column row (Tile z c r bytes) h =
     let last = and_parts (is_within zoom zoom z && is_within column column c) (is_within row row r) h in
@@ -149,7 +151,8 @@ meet i (Media content_type bytes) h = absurd (false≢true h)
 meet i (Row x y code label) h = absurd (false≢true h)
 
 -- the tile that takes a place, and a place that a tile takes
-takes_one : (c : Content) (items : List Item) (links : List Relation) → takes_place (package_of items links) c ≡ true
+takes_one : (c : Content) (items : List Item) (links : List Relation)
+    → takes_place (package_of items links) c ≡ true
     → (i : Item) × In i items × (takes_place (package_of (i ∷ []) []) c ≡ true)
 takes_one (Tile zoom column row bytes) items links h =
     let it = any_at (λ i. is_at zoom column row i.content) items h in
@@ -157,7 +160,8 @@ takes_one (Tile zoom column row bytes) items links h =
 takes_one (Media content_type bytes) items links h = absurd (false≢true h)
 takes_one (Row x y code label) items links h = absurd (false≢true h)
 
-one_takes : (c : Content) (x : Package) (i : Item) → In i x.items → takes_place (package_of (i ∷ []) []) c ≡ true
+one_takes : (c : Content) (x : Package) (i : Item) → In i x.items
+    → takes_place (package_of (i ∷ []) []) c ≡ true
     → takes_place x c ≡ true
 one_takes (Tile zoom column row bytes) x i there h = any_in (λ j. is_at zoom column row j.content) i x.items there
     (sym (or-false (is_at zoom column row i.content)) ∙ h)
@@ -173,7 +177,8 @@ places_named R (h ∷ hs) (n ∷ ns) all =
     let i : Item = record { identity = n.identity; content = h.content } in
     elim (kind_is TileItem (kind_of h.content)) as (λ v. map (λ (j : Item). place_of j.content)
     (cond v (i ∷ filter is_tile (named_items ns hs)) (filter is_tile (named_items ns hs)))
-    ≡ map (λ (g : HeldItem). place_of g.content) (cond v (h ∷ filter (λ g. kind_is TileItem (kind_of g.content)) hs)
+    ≡ map (λ (g : HeldItem). place_of g.content) (cond v (h ∷ filter (λ g. kind_is TileItem (kind_of g.content))
+    hs)
     (filter (λ g. kind_is TileItem (kind_of g.content)) hs))) [
       | true ↦ ap (λ l. place_of h.content ∷ l) (places_named R hs ns all.1)
       | false ↦ places_named R hs ns all.1
@@ -193,7 +198,8 @@ fit_new f (n ∷ ns) (h ∷ hs) all =
 
 -- ---- lists
 
-lacks_part : {X : Type 0} (t u : X → Bool) (xs : List X) → list_any t xs ≡ false → list_any t (filter u xs) ≡ false
+lacks_part : {X : Type 0} (t u : X → Bool) (xs : List X) → list_any t xs ≡ false
+    → list_any t (filter u xs) ≡ false
 lacks_part t u xs none = none_any t (filter u xs) (All-filter (λ x. t x ≡ false) u xs (none_pass t xs none))
 
 same_keys : (ks : List (List ℕ)) → map (λ k. k) ks ≡ ks
@@ -228,7 +234,8 @@ module _ (ns : List Named) (items : List Item) where
           ∙ not_true (has (λ n. n.identity) j.0.identity ns) g.1)
 
   -- and one that stays is such a one
-  stays_named : (ds : List (List ℕ)) → ds ≡ goes false → (i : Item) → In i (without (λ i. i.identity) ds items)
+  stays_named : (ds : List (List ℕ)) → ds ≡ goes false → (i : Item)
+      → In i (without (λ i. i.identity) ds items)
       → has (λ n. n.identity) i.identity ns ≡ true
   stays_named ds is i there =
       let it = of_filter (λ x. not (is_among ds x.identity)) i items there in
@@ -246,7 +253,8 @@ module _ (ns : List Named) (items : List Item) where
   -- what goes is there, each once
   goes_there : (more : Bool) → AllByRecursion (λ d. has (λ i. i.identity) d items ≡ true) (goes more)
   goes_there true = tt
-  goes_there false = All-weaker (λ d. In d (identities (gone ns items))) (λ d. has (λ i. i.identity) d items ≡ true)
+  goes_there false = All-weaker (λ d. In d (identities (gone ns items)))
+      (λ d. has (λ i. i.identity) d items ≡ true)
       (λ d i.
       let j = In-of_map (λ x. x.identity) d (gone ns items) i in
       any_in (λ x. bytes_eq x.identity d) j.0 items (of_filter (λ x. not (has (λ n. n.identity) x.identity ns)) j.0
@@ -266,7 +274,8 @@ module _ (ns : List Named) (items : List Item) where
 
   -- no link that stays has an end that goes
   untied : (linked fl : List Relation) → AllByRecursion JoinsUuids linked → AllByRecursion JoinsUuids fl
-      → AllByRecursion (LinkNamed ns) fl → (more : Bool) (us : List Relation) → us ≡ cond more [] (beyond fl linked)
+      → AllByRecursion (LinkNamed ns) fl → (more : Bool) (us : List Relation)
+      → us ≡ cond more [] (beyond fl linked)
       → AllByRecursion (λ d. list_any (has_end d) (without link_key (map link_key us) linked) ≡ false) (goes more)
   untied linked fl join join_file named true us is = tt
   untied linked fl join join_file named false us is = All-weaker (λ d. In d (identities (gone ns items)))
@@ -305,7 +314,8 @@ module _ (ns : List Named) (items : List Item) where
           ((bytes_eq-Decides e.name.identity j.0.identity).1 there))
           ∙ not_true (has (λ n. n.identity) j.0.identity ns) g.1)
 
-      ends : (d : List ℕ) → In d (identities (gone ns items)) → (l : Relation) → In l fl → has_end d l ≡ true → ⊥
+      ends : (d : List ℕ) → In d (identities (gone ns items)) → (l : Relation) → In l fl
+          → has_end d l ≡ true → ⊥
       ends d i l there tied =
           let l_named : LinkNamed ns l = All-In (LinkNamed ns) l fl named there in
           elim (bytes_eq l.base d) as (λ v. bytes_eq l.base d ≡ v → (v || bytes_eq l.other d) ≡ true → ⊥) [
@@ -382,7 +392,8 @@ module _ (w : World) (p : List ℕ) (ticket : ℕ) (moment : List ℕ) (more : B
 
   -- a new item is not held
   not_held : (a : Item) → In a adds → In a x.items → ⊥
-  not_held a new there = true≢false (sym (used a there) ∙ All-In (λ b. is_used w b.identity ≡ false) a adds unused_all
+  not_held a new there = true≢false (sym (used a there) ∙ All-In (λ b. is_used w b.identity ≡ false) a adds
+      unused_all
       new)
 
   of_left : (i : Item) → In i left → In i x.items
@@ -400,7 +411,8 @@ module _ (w : World) (p : List ℕ) (ticket : ℕ) (moment : List ℕ) (more : B
   named : List Item
   named = named_items ns file
 
-  one_place : (q : List ℕ) → count_by (λ i. bytes_eq (place_of i.content) q) (filter is_tile (named_items ns file)) ≤ 1
+  one_place : (q : List ℕ) → count_by (λ i. bytes_eq (place_of i.content) q)
+      (filter is_tile (named_items ns file)) ≤ 1
   one_place q = distinct_counts (λ i. place_of i.content) q (filter is_tile (named_items ns file))
       (subst (λ l. IsDistinct bytes_eq l) (sym (places_named Fits file ns zipped))
       (are_distinct (tile_places file) can.places_apart))
@@ -443,7 +455,8 @@ module _ (w : World) (p : List ℕ) (ticket : ℕ) (moment : List ℕ) (more : B
       never more changes.for_file.deletes can.places_free a i it.0 it.1 it.2)) adds (In-all adds)
     where
       never : (v : Bool) → ds ≡ goes ns x.items v → (v && list_any (λ a. takes_place x a.content) adds) ≡ false
-          → (a : Item) → In a adds → (i : Item) → In i left → takes_place (package_of (i ∷ []) []) a.content ≡ true
+          → (a : Item) → In a adds → (i : Item) → In i left → takes_place (package_of (i ∷ []) [])
+          a.content ≡ true
           → ⊥
       never true is free a a_in i i_in taken =
           true≢false (sym (one_takes a.content x i (of_left i i_in) taken)
@@ -463,7 +476,8 @@ module _ (w : World) (p : List ℕ) (ticket : ℕ) (moment : List ℕ) (more : B
         let other : bytes_eq a.identity b.identity ≡ false =
         All-In (λ id. bytes_eq a.identity id ≡ false) b.identity (identities as')
         (IsDistinct-head bytes_eq a.identity (identities as') apart) (In-map (λ y. y.identity) b as' i) in
-        true≢false (sym (ap (λ y. bytes_eq a.identity y.identity) (sym same) ∙ bytes_eq_itself a.identity) ∙ other)))
+        true≢false (sym (ap (λ y. bytes_eq a.identity y.identity) (sym same) ∙ bytes_eq_itself a.identity)
+        ∙ other)))
         as' (In-all as'),
     new_places as' (λ b i. whole b (inr i)) (IsDistinct-tail bytes_eq a.identity (identities as') apart),
   )

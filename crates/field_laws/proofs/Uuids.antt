@@ -1,5 +1,6 @@
 -- An identity that a text gives is a UUID.
-use Rattle.std.specs.Prelude.{◌≡◌, ◌<◌, ◌+◌, ◌%◌, ℕ, zero, suc, List, [], ◌∷◌, length, take, slice_index, slice_set}
+use Rattle.std.specs.Prelude.{◌≡◌, ◌<◌, ◌+◌, ◌%◌, ℕ, zero, suc, List, [], ◌∷◌, length, take}
+use Rattle.std.specs.Prelude.{slice_index, slice_set}
 use Rattle.std.proofs.Common.{◌∙◌, arith}
 use Rattle.std.proofs.lemmas.List.{length-set, length-take-le}
 use Rattle.std.specs.Int.{to_be_bytes, w32}
@@ -47,7 +48,8 @@ derived_is_uuid text =
     let long : length front ≡ 16 = length-take-le 16 (sha256 text) (omega (arith, length-sha256 text)) in
     let varied : List ℕ = with_variant front RFC4122 in
     bytes_fit 16 (derived text)
-    (length-set varied 6 (slice_index varied 6 % 16 + 128) ∙ length-set front 8 (slice_index front 8 % 64 + 128) ∙ long)
+    (length-set varied 6 (slice_index varied 6 % 16 + 128) ∙ length-set front 8 (slice_index front 8 % 64 + 128)
+    ∙ long)
     (small_set varied 6 (slice_index varied 6 % 16 + 128) (omega arith)
     (small_set front 8 (slice_index front 8 % 64 + 128) (omega arith)
     (small_take 16 (sha256 text) (sha_small text))))

@@ -1,5 +1,6 @@
 -- Laws of the changes for a file: what they ask for, and what they make when a register carries them out. Profile.
-use Rattle.std.specs.Prelude.{◌≡◌, ◌⊎◌, ◌≤◌, ◌+◌, ◌-◌, ◌&&◌, ℕ, Bool, true, false, List, [], ◌++◌, length, map}
+use Rattle.std.specs.Prelude.{◌≡◌, ◌⊎◌, ◌≤◌, ◌+◌, ◌-◌, ◌&&◌, ℕ, Bool, true, false}
+use Rattle.std.specs.Prelude.{List, [], ◌++◌, length, map}
 use Rattle.std.specs.Prelude.{filter, not, unwrap_or, is_some, bytes_eq, count_by, IsPermutation}
 use Rattle.std.specs.List.{list_any, AllByRecursion, AllZip, IsDistinct}
 use Rattle.sheet_types.specs.Cut.{identities}
@@ -52,7 +53,8 @@ pub record ListsLinks (linked : List Relation) (file : List HeldItem) (held : Li
 
 -- then nothing is asked for
 abbrev pub NothingToDo : Type 0
-NothingToDo = (p : List ℕ) (ticket : ℕ) (moment : List ℕ) (items : List Item) (linked : List Relation) (more : Bool)
+NothingToDo = (p : List ℕ) (ticket : ℕ) (moment : List ℕ) (items : List Item) (linked : List Relation)
+    (more : Bool)
     (file : List HeldItem) (held : List HeldLink) (requests : List Request) →
     IsDistinct bytes_eq (identities items) → ListsItems items file → ListsLinks linked file held →
     AreChanges p ticket moment items linked more file held requests → requests ≡ []
@@ -87,7 +89,8 @@ OnlyWhatDiffers = (p : List ℕ) (ticket : ℕ) (items : List Item) (file : List
 -- ---- changes that were carried out
 
 -- the requests for a file, over what the package holds
-abbrev pub Changes : World → List ℕ → ℕ → List ℕ → Bool → List HeldItem → List HeldLink → List Request → Type 0
+abbrev pub Changes : World → List ℕ → ℕ → List ℕ → Bool → List HeldItem → List HeldLink
+    → List Request → Type 0
 Changes w p ticket moment more file held requests =
     AreChanges p ticket moment (holdings w p).items (holdings w p).links more file held requests
 
@@ -97,7 +100,8 @@ names_in w p ticket file = names_of p ticket (holdings w p).items file
 
 -- where each got a receipt, the package holds what the file has, and nothing else changed
 abbrev pub ChangesMake : Type 0
-ChangesMake = (w : World) (p : List ℕ) (ticket : ℕ) (moment : List ℕ) (file : List HeldItem) (held : List HeldLink)
+ChangesMake = (w : World) (p : List ℕ) (ticket : ℕ) (moment : List ℕ) (file : List HeldItem)
+    (held : List HeldLink)
     (requests : List Request) (replies : List Reply) (next : World) →
     IsRegister w → is_live w p ≡ true → (changes : Changes w p ticket moment false file held requests) →
     AreNew w requests → Run w requests replies next → AreGiven replies →
@@ -163,7 +167,8 @@ StoppedListComesAgain = (w : World) (xs ys : List Request)
 
 -- So changes that were stopped behind a part of them, and come again whole, make what they would have made at once.
 abbrev pub StoppedChangesComeHome : Type 0
-StoppedChangesComeHome = (w : World) (p : List ℕ) (ticket : ℕ) (moment : List ℕ) (more : Bool) (file : List HeldItem)
+StoppedChangesComeHome = (w : World) (p : List ℕ) (ticket : ℕ) (moment : List ℕ) (more : Bool)
+    (file : List HeldItem)
     (held : List HeldLink) (xs ys : List Request)
     (first : List Reply) (mid : World) (again : List Reply) (next : World) →
     IsRegister w → is_live w p ≡ true → (changes : Changes w p ticket moment more file held (xs ++ ys)) →

@@ -1,5 +1,6 @@
 -- What a caller looks at before it asks for changes. Where each test passes, no request is refused. Profile.
-use Rattle.std.specs.Prelude.{◌≡◌, ℕ, ◌+◌, ◌≤◌, Bool, true, false, not, ◌&&◌, List, [], map, filter, length}
+use Rattle.std.specs.Prelude.{◌≡◌, ℕ, ◌+◌, ◌≤◌, Bool, true, false, not, ◌&&◌, List, [], map}
+use Rattle.std.specs.Prelude.{filter, length}
 use Rattle.std.specs.List.{list_all, list_any}
 use Rattle.sheet_types.specs.Custody.{is_used}
 use Rattle.sheet_types.specs.Cut.{identities}

@@ -53,7 +53,8 @@ asked = request_of archive 0 morning (adding archive town) ∷ []
 -- parts that add this tile are those for the file, and the archive can take it
 abbrev pub EmptyArchiveTakes : Type 0
 EmptyArchiveTakes = (parts : Parts) →
-    parts.unlinks.items ≡ [] → parts.deletes.items ≡ [] → parts.adds.items ≡ town ∷ [] → parts.links.items ≡ [] →
+    parts.unlinks.items ≡ [] → parts.deletes.items ≡ [] → parts.adds.items ≡ town ∷ []
+    → parts.links.items ≡ [] →
     IsRegister (new_world archive sheet) × (is_live (new_world archive sheet) archive ≡ true)
     × ((changes : Changes (new_world archive sheet) archive 0 morning false (drawn ∷ []) [] asked)
     × CanTake (new_world archive sheet) archive morning false (drawn ∷ []) changes.parts asked)

@@ -1,5 +1,6 @@
 -- Two digits, by their values.
-use Rattle.std.proofs.Common.{◌≡◌, ◌≢◌, ◌∙◌, ◌⊎◌, ◌+◌, ◌-◌, ◌*◌, ◌%◌, ◌<◌, ◌≤◌, ◌==◌, ◌&&◌, ℕ, Bool, true, false}
+use Rattle.std.proofs.Common.{◌≡◌, ◌≢◌, ◌∙◌, ◌⊎◌, ◌+◌, ◌-◌, ◌*◌, ◌%◌, ◌<◌}
+use Rattle.std.proofs.Common.{◌≤◌, ◌==◌, ◌&&◌, ℕ, Bool, true, false}
 use Rattle.std.proofs.Common.{nat_le, List, length, take, drop, slice_index, Option, Some, None, Ok, Err, IfSome}
 use Rattle.std.proofs.Common.{unwrap_or, is_ok, if◌then◌else◌, refl, sym, ap, inl, inr, leb-true, arith}
 use Rattle.std.proofs.lemmas.Bool.{and_parts, false≢true}
@@ -13,7 +14,8 @@ use Rattle.field_lists.specs.Digits.{AreDigits, digit_value}
 IsSmall : Option ℕ → Type 0
 IsSmall o = IfSome o (λ v. v < 16)
 
-chosen : (a b d : Bool) (x y z : ℕ) → (a ≡ true → x < 16) → (b ≡ true → y < 16) → (d ≡ true → z < 16)
+chosen : (a b d : Bool) (x y z : ℕ) → (a ≡ true → x < 16) → (b ≡ true → y < 16)
+    → (d ≡ true → z < 16)
     → IsSmall (if a then Some x else if b then Some y else if d then Some z else None)
 unfolding IsSmall
 chosen true b d x y z p q r = p refl
@@ -40,7 +42,8 @@ read (Some h) (Some l) a b i x y = refl
 read (Some h) None a b i x y = absurd (omega (arith, y))
 read None p a b i x y = absurd (omega (arith, x))
 
-unread : (o p : Option ℕ) (a b i : ℕ) → IsSmall o → IsSmall p → (16 ≤ unwrap_or o 255) ⊎ (16 ≤ unwrap_or p 255)
+unread : (o p : Option ℕ) (a b i : ℕ) → IsSmall o → IsSmall p → (16 ≤ unwrap_or o 255)
+    ⊎ (16 ≤ unwrap_or p 255)
     → (fault : FromHexError) × ((digit_or_error a i o >>= (λ h. digit_or_error b (i + 1) p >>=
     (λ l. Ok (h * 16 + l)))) ≡ Err fault)
 unfolding IsSmall
@@ -50,7 +53,8 @@ unread (Some h) (Some l) a b i s t (inl f) = absurd (omega (arith, s, f))
 unread (Some h) (Some l) a b i s t (inr f) = absurd (omega (arith, t, f))
 
 -- two digits are a byte
-pub byte_read : (values : List ℕ) (a b : ℕ) → AreDigits values → a < 256 → b < 256 → slice_index values a < 16
+pub byte_read : (values : List ℕ) (a b : ℕ) → AreDigits values → a < 256 → b < 256
+    → slice_index values a < 16
     → slice_index values b < 16
     → (i : ℕ) → pair_value a b i ≡ Ok (slice_index values a * 16 + slice_index values b)
 byte_read values a b are s t x y i =
@@ -60,12 +64,14 @@ byte_read values a b are s t x y i =
     (omega (arith, second, y)))
 
 -- where one is none, they are no byte
-pub byte_unread : (values : List ℕ) (a b : ℕ) → AreDigits values → a < 256 → b < 256 → (16 ≤ slice_index values a)
+pub byte_unread : (values : List ℕ) (a b : ℕ) → AreDigits values → a < 256 → b < 256
+    → (16 ≤ slice_index values a)
     ⊎ (16 ≤ slice_index values b)
     → (i : ℕ) → (fault : FromHexError) × (pair_value a b i ≡ Err fault)
 byte_unread values a b are s t f i = unread (hex_digit_value a) (hex_digit_value b) a b i (small a) (small b) (either f)
   where
-    either : (16 ≤ slice_index values a) ⊎ (16 ≤ slice_index values b) → (16 ≤ digit_value a) ⊎ (16 ≤ digit_value b)
+    either : (16 ≤ slice_index values a) ⊎ (16 ≤ slice_index values b) → (16 ≤ digit_value a)
+        ⊎ (16 ≤ digit_value b)
     either (inl x) = let first : slice_index values a ≡ digit_value a = are a s in inl (omega (arith, first, x))
     either (inr y) = let second : slice_index values b ≡ digit_value b = are b t in inr (omega (arith, second, y))
 

@@ -1,5 +1,6 @@
 -- The header of a list, and its records one after the other.
-use Rattle.std.proofs.Common.{◌≡◌, ◌⊎◌, ◌<◌, ◌+◌, ◌++◌, ℕ, zero, suc, Bool, true, false, List, [], ◌∷◌, Some, map}
+use Rattle.std.proofs.Common.{◌≡◌, ◌⊎◌, ◌<◌, ◌+◌, ◌++◌, ℕ, zero, suc, Bool, true, false}
+use Rattle.std.proofs.Common.{List, [], ◌∷◌, Some, map}
 use Rattle.std.proofs.Common.{length, get_or, IsTrue, Bor, refl, sym, inl, inr, arith}
 use Rattle.std.specs.Bool.{MatchBool}
 use Rattle.std.specs.List.{AllWithin, AllZip, HoldsAt, enumerate_from}
@@ -43,12 +44,14 @@ entry texts k d low =
     rw place at (get_or-enumerate_from 0 texts k (0, d) low)
 
 -- a test of each place decides whether fields are these texts
-pub fields_decided : (r : Bool) (fields : List (List ℕ)) (texts : List (Bor (List ℕ))) → length fields ≡ length texts
+pub fields_decided : (r : Bool) (fields : List (List ℕ)) (texts : List (Bor (List ℕ)))
+    → length fields ≡ length texts
     → MatchBool r (AllWithin (λ p. IsTextAt fields p.0 p.1.now) (enumerate_from 0 texts) 0
     (length (enumerate_from 0 texts)))
     ((k : ℕ) × (k < length (enumerate_from 0 texts)) × HoldsAt (λ p. ¬ IsTextAt fields p.0 p.1.now)
     (enumerate_from 0 texts) k)
-    → (IsTrue r → fields ≡ map (λ text. text.now) texts) × (fields ≡ map (λ text. text.now) texts → IsTrue r)
+    → (IsTrue r → fields ≡ map (λ text. text.now) texts) × (fields ≡ map (λ text. text.now) texts
+    → IsTrue r)
 fields_decided true fields texts long each = (λ _. same_fields fields texts long stands, λ _. search)
   where
     stands : (k : ℕ) (d : Bor (List ℕ)) → k < length texts → field_at fields k ≡ Some (get_or texts k d).now
@@ -63,7 +66,8 @@ fields_decided false fields (t ∷ ts) long (k, low, not_there) = (λ yes. absur
     not_at e = (rw (entry (t ∷ ts) k t below) at (not_there (0, t))) (rw e (text_there (t ∷ ts) k t below))
 
 -- it is met first where the records before it are entries
-pub fault_after : (number : ℕ) (before : List (List (List ℕ))) (entries : List Listed) (rest : List (List (List ℕ)))
+pub fault_after : (number : ℕ) (before : List (List (List ℕ))) (entries : List Listed)
+    (rest : List (List (List ℕ)))
     (met : ListFault) → AllZip Lists before entries
     → IsFaultFrom (number + length entries) rest met → IsFaultFrom number (before ++ rest) met
 fault_after number [] [] rest met asked fault =
@@ -93,7 +97,8 @@ fault_next (first ∷ rows) entries number fields met counted asked fault =
 
 pub entry_fault : (entries : List Listed) (number : ℕ) (fields : List (List ℕ)) (met : ListFault)
     → number ≡ length entries + 1 → (met ≡ Memory) ⊎ IsFaultFrom number (fields ∷ []) met
-    → (met ≡ Memory) ⊎ ((rows : List (List (List ℕ))) → AreList rows entries → IsFaultOf (rows ++ fields ∷ []) met)
+    → (met ≡ Memory) ⊎ ((rows : List (List (List ℕ))) → AreList rows entries
+    → IsFaultOf (rows ++ fields ∷ []) met)
 entry_fault entries number fields met counted (inl want) = inl want
 entry_fault entries number fields met counted (inr fault) = inr
     (λ rows asked. fault_next rows entries number fields met counted asked fault)
@@ -113,7 +118,8 @@ header_fault rows entries fields true met e begun fault = absurd (false≢true (
 header_fault rows entries fields false met e begun fault = rw begun.0 fault
 
 -- the header was read
-pub begun_list : (rows : List (List (List ℕ))) (entries : List Listed) (b : Bool) → b ≡ true → AreBegun b rows entries
+pub begun_list : (rows : List (List (List ℕ))) (entries : List Listed) (b : Bool) → b ≡ true
+    → AreBegun b rows entries
     → AreList rows entries
 begun_list rows entries true e begun = begun
 begun_list rows entries false e begun = absurd (false≢true e)

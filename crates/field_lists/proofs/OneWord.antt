@@ -11,5 +11,6 @@ pub clash : (field : Option (List ℕ)) (one other : List ℕ) → field ≡ Som
 clash field one other e f told = apart one other told (some_once field one other e f)
 
 -- what a field is by what was read there
-pub is_word : (field : Option (List ℕ)) (text word : List ℕ) → Some text ≡ field → text ≡ word → field ≡ Some word
+pub is_word : (field : Option (List ℕ)) (text word : List ℕ) → Some text ≡ field → text ≡ word
+    → field ≡ Some word
 is_word field text word found same = cc

@@ -64,7 +64,8 @@ HasEntry fields (Link link) = IsNumberAt fields 1 link.base × IsNumberAt fields
     × AreEmpty fields (3 ∷ 4 ∷ 5 ∷ 6 ∷ 7 ∷ 8 ∷ 9 ∷ 10 ∷ 11 ∷ [])
 HasEntry fields (Bad bad) = IsOptionalNumberAt fields 1 bad.number × IsTextAt fields 10 bad.text
     × AreEmpty fields (2 ∷ 3 ∷ 4 ∷ 5 ∷ 6 ∷ 7 ∷ 8 ∷ 9 ∷ 11 ∷ [])
-HasEntry fields (End count) = IsNumberAt fields 1 count × AreEmpty fields (2 ∷ 3 ∷ 4 ∷ 5 ∷ 6 ∷ 7 ∷ 8 ∷ 9 ∷ 10 ∷ 11 ∷ [])
+HasEntry fields (End count) = IsNumberAt fields 1 count × AreEmpty fields
+    (2 ∷ 3 ∷ 4 ∷ 5 ∷ 6 ∷ 7 ∷ 8 ∷ 9 ∷ 10 ∷ 11 ∷ [])
 
 -- a record that is this entry
 abbrev pub IsListed : List (List ℕ) → Listed → Type 0

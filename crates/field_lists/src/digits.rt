@@ -1,6 +1,7 @@
 //! Bytes in hexadecimal, by a table: of digits as they come, a branch for each is guessed wrong,
 //! and takes ten times as long.
-ghost use Rattle.std.specs.Prelude.{◌≡◌, ◌≢◌, ◌*◌, ◌<◌, ℕ, List, length, Ok, Err, IfOk, IfSome, IfNone, true, false};
+ghost use Rattle.std.specs.Prelude.{◌≡◌, ◌≢◌, ◌*◌, ◌<◌, ℕ, List, length, Ok, Err, IfOk, IfSome};
+ghost use Rattle.std.specs.Prelude.{IfNone, true, false};
 ghost use Rattle.hex.specs.Hex.{decode_of, decode_pairs, pair_value};
 ghost use Rattle.hex.specs.declared.error.FromHexError.{FromHexError};
 ghost use Rattle.field_lists.specs.Digits.{digit_value, AreDigits};

@@ -176,7 +176,8 @@ fn media_of(alloc: Global, row: &StringRecord) -> Result<Option<Listed>, OutOfMe
 fn row_of(alloc: Global, row: &StringRecord) -> Result<Option<Listed>, OutOfMemory>
     requires word { IsTextAt (fields_of row.now) 0 (kind_word RowItem) }
     ensures some { IfOk result (λ found. IfSome found (λ entry. IsListed (fields_of row.now) entry)) }
-    ensures none { IfOk result (λ found. IfNone found ((number x y code : ℤ) (id : Option (List ℕ)) (label : List ℕ)
+    ensures none { IfOk result (λ found. IfNone found ((number x y code : ℤ) (id : Option (List ℕ))
+        (label : List ℕ)
         → ¬ IsListed (fields_of row.now) (listed.Item (record
         { number = number; identity = id; content = content.Row x y code label })))) }
 {

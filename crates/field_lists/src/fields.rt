@@ -1,5 +1,6 @@
 //! The fields of one record, column by column.
-ghost use Rattle.std.specs.Prelude.{◌≡◌, ◌↔◌, ℕ, ℤ, List, IfOk, FitsSigned, IsTrue, IfSome, IfNone, Option, Some};
+ghost use Rattle.std.specs.Prelude.{◌≡◌, ◌↔◌, ℕ, ℤ, List, IfOk, FitsSigned, IsTrue, IfSome, IfNone};
+ghost use Rattle.std.specs.Prelude.{Option, Some};
 ghost use Rattle.std.specs.Int.{w64};
 ghost use Rattle.std.specs.Option.{option_and_then};
 ghost use Rattle.uuid.specs.Text.{parsed_hyphenated};
@@ -66,7 +67,8 @@ pub(crate) fn hex_at(
     column: usize,
 ) -> Result<Option<Vec<u8>>, OutOfMemory>
     ensures some { IfOk result (λ found. IfSome found (λ bytes. IsHexAt (fields_of row.now) column bytes.items)) }
-    ensures none { IfOk result (λ found. IfNone found ((bytes : List ℕ) → ¬ IsHexAt (fields_of row.now) column bytes)) }
+    ensures none { IfOk result (λ found. IfNone found ((bytes : List ℕ)
+        → ¬ IsHexAt (fields_of row.now) column bytes)) }
 {
     let Some(text) = row.get(column) else {
         return Ok(None);
@@ -92,7 +94,8 @@ pub(crate) fn text_at(
     column: usize,
 ) -> Result<Option<Text>, OutOfMemory>
     ensures some { IfOk result (λ found. IfSome found (λ text. IsTextAt (fields_of row.now) column text)) }
-    ensures none { IfOk result (λ found. IfNone found ((text : List ℕ) → ¬ IsTextAt (fields_of row.now) column text)) }
+    ensures none { IfOk result (λ found. IfNone found ((text : List ℕ)
+        → ¬ IsTextAt (fields_of row.now) column text)) }
 {
     match row.get(column) {
         Some(text) => Ok(Some(Text::from_string(text.to_string(alloc)?))),

@@ -1,5 +1,6 @@
 //! A list of what a file holds as a whole: its header, its entries, and the fault that is met first.
-ghost use Rattle.std.specs.Prelude.{◌≡◌, ◌⊎◌, ◌↔◌, ℕ, List, [], ◌∷◌, ◌++◌, map, IsTrue, IfOk, IfErr, IfSome};
+ghost use Rattle.std.specs.Prelude.{◌≡◌, ◌⊎◌, ◌↔◌, ℕ, List, [], ◌∷◌, ◌++◌, map, IsTrue};
+ghost use Rattle.std.specs.Prelude.{IfOk, IfErr, IfSome};
 ghost use Rattle.csv.specs.Records.{fields_of};
 ghost use Rattle.field_lists.specs.Listed.{header};
 ghost use Rattle.field_lists.specs.HoldsLists.{AreAllRecords, AreBegun, AreFirstRecords, AreList, Lists, IsFaultFrom};

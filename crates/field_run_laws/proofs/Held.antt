@@ -1,5 +1,6 @@
 -- A world behind some requests in one package, and one request more.
-use Rattle.std.specs.Prelude.{◌≡◌, ℕ, Bool, true, false, cond, ◌&&◌, ◌||◌, List, [], ◌∷◌, ◌++◌, map, find, length}
+use Rattle.std.specs.Prelude.{◌≡◌, ℕ, Bool, true, false, cond, ◌&&◌, ◌||◌, List, [], ◌∷◌}
+use Rattle.std.specs.Prelude.{◌++◌, map, find, length}
 use Rattle.std.specs.Prelude.{refl, bytes_eq, is_some, Some, None}
 use Rattle.std.proofs.Common.{sym, ap, subst, ◌∙◌, inl, inr, append_assoc}
 use Rattle.std.proofs.lemmas.Bool.{true≢false, or_parts}
@@ -59,7 +60,8 @@ all_added [] = []
 all_added (q ∷ qs) = added q.command ++ all_added qs
 
 -- whether its receipt is one of an Add that names an identity
-adds_named : (w : World) (id moment : List ℕ) (c : Command) (k : List ℕ) → entry_from (line c) ≡ Some (entry_of c) →
+adds_named : (w : World) (id moment : List ℕ) (c : Command) (k : List ℕ)
+    → entry_from (line c) ≡ Some (entry_of c) →
     (is_add (receipt_of w (record { id = id; at = moment; command = c })) && has (λ m. m.base) k
     (receipt_of w (record { id = id; at = moment; command = c })).items) ≡ is_among (added c) k
 adds_named w id moment (Add p identity content) k says = ap (λ b. b && (bytes_eq identity k || false))
@@ -75,15 +77,13 @@ adds_named w id moment (Split p child mode rect) k says = ap
     (λ b. b && has (λ m. m.base) k (receipt_of w (record {
       id = id;
       at = moment;
-      command =
-          Split p child mode rect;
+      command = Split p child mode rect;
     })).items) (ap (λ o. option_map_or is_adding o false) says)
 adds_named w id moment (Merge child into ticket) k says = ap
     (λ b. b && has (λ m. m.base) k (receipt_of w (record {
       id = id;
       at = moment;
-      command =
-          Merge child into ticket;
+      command = Merge child into ticket;
     })).items) (ap (λ o. option_map_or is_adding o false) says)
 
 -- ---- a world behind some requests
@@ -92,7 +92,11 @@ pub record Stage (w m : World) (p : List ℕ) (done : List Request) (items : Lis
     Type 0 where
   pub register : IsRegister m
   pub lives : (q : List ℕ) → is_live m q ≡ is_live w q
-  pub holds : holdings m p ≡ record (holdings w p) { items = items; links = links; receipts = (holdings m p).receipts }
+  pub holds : holdings m p ≡ record (holdings w p) {
+    items = items;
+    links = links;
+    receipts = (holdings m p).receipts;
+  }
   pub items_are : (holdings m p).items ≡ items
   pub links_are : (holdings m p).links ≡ links
   pub others : (q : List ℕ) → bytes_eq q p ≡ false → holdings m q ≡ holdings w q
@@ -120,7 +124,8 @@ begins w p register = record {
   used = λ k. sym (or-false (is_used w k));
 }
 
-pub all_added_more : (xs : List Request) (q : Request) → all_added (xs ++ q ∷ []) ≡ all_added xs ++ added q.command
+pub all_added_more : (xs : List Request) (q : Request) → all_added (xs ++ q ∷ []) ≡ all_added xs
+    ++ added q.command
 all_added_more [] q = append-nil (added q.command)
 all_added_more (x ∷ xs) q = ap (λ l. added x.command ++ l) (all_added_more xs q)
     ∙ sym (append_assoc (added x.command) (all_added xs) (added q.command))
@@ -181,19 +186,22 @@ module _ (w m : World) (p : List ℕ) (done : List Request) (items : List Item) 
         holds = ap (λ v. holdings v p) is ∙ at_p ∙ ap f s.holds
             ∙ ap (λ rs. record (holdings w p) {
               items = items_after q.command items;
-              links =
-                  links_after q.command links;
+              links = links_after q.command links;
               receipts = rs;
             })
             (sym (ap (λ v. (holdings v p).receipts) is ∙ ap (λ x. x.receipts) at_p));
-        items_are = ap (λ v. (holdings v p).items) is ∙ ap (λ x. x.items) at_p ∙ ap (items_after q.command) s.items_are;
-        links_are = ap (λ v. (holdings v p).links) is ∙ ap (λ x. x.links) at_p ∙ ap (links_after q.command) s.links_are;
-        others = λ u other. ap (λ v. holdings v u) is ∙ holdings_other f m p u (λ x. refl) other ∙ s.others u other;
+        items_are = ap (λ v. (holdings v p).items) is ∙ ap (λ x. x.items) at_p
+            ∙ ap (items_after q.command) s.items_are;
+        links_are = ap (λ v. (holdings v p).links) is ∙ ap (λ x. x.links) at_p
+            ∙ ap (links_after q.command) s.links_are;
+        others = λ u other. ap (λ v. holdings v u) is ∙ holdings_other f m p u (λ x. refl) other
+            ∙ s.others u other;
         same_frame = ap (λ v. v.frame) is ∙ s.same_frame;
         packages = ap (λ v. length v.packages) is ∙ length-map m.packages (λ x. cond (bytes_eq x.uuid p) (f x) x)
             ∙ s.packages;
         gained = s.gained ++ r ∷ [];
-        receipts = ledger ∙ ap (λ rs. rs ++ r ∷ []) s.receipts ∙ append_assoc (receipts_of w) s.gained (r ∷ []);
+        receipts = ledger ∙ ap (λ rs. rs ++ r ∷ []) s.receipts
+            ∙ append_assoc (receipts_of w) s.gained (r ∷ []);
         asked = map-append (λ x. x.request) s.gained (r ∷ []) ∙ ap (λ ks. ks ++ q.id ∷ []) s.asked
             ∙ sym (map-append (λ x. x.id) done (q ∷ []));
         used = λ k.
@@ -203,7 +211,8 @@ module _ (w m : World) (p : List ℕ) (done : List Request) (items : List Item) 
             ∙ adds_named m q.id q.at q.command k says)
             ∙ ap (λ b. b || is_among (added q.command) k) (s.used k)
             ∙ or_assoc (is_used w k) (is_among (all_added done) k) (is_among (added q.command) k)
-            ∙ ap (λ b. is_used w k || b) (sym (list_any-append (λ x. bytes_eq x k) (all_added done) (added q.command))
+            ∙ ap (λ b. is_used w k || b) (sym (list_any-append (λ x. bytes_eq x k) (all_added done)
+            (added q.command))
             ∙ ap (λ l. is_among l k) (sym (all_added_more done q)));
       }
 
@@ -219,7 +228,8 @@ was_accepted m q reply next new step given =
     (λ r. then_some (bytes_eq r.line (line q.command)) r) o) none in
     elim step [
       | inl done ↦
-          let is : (reply ≡ (outcome_by m q None (refuses m q)).0) × (next ≡ (outcome_by m q None (refuses m q)).1) =
+          let is : (reply ≡ (outcome_by m q None (refuses m q)).0)
+          × (next ≡ (outcome_by m q None (refuses m q)).1) =
           subst (λ k. (reply ≡ (outcome_by m q k (refuses m q)).0) × (next ≡ (outcome_by m q k (refuses m q)).1))
           no_reply done in
           elim (refuses m q) as (λ o. refuses m q ≡ o → (reply ≡ (outcome_by m q None o).0)
@@ -236,7 +246,8 @@ was_accepted m q reply next new step given =
 
 pub run_stage : (w m : World) (p : List ℕ) (done : List Request) (items : List Item) (links : List Relation)
     → is_live w p ≡ true → Stage w m p done items links
-    → (qs : List Request) (replies : List Reply) (next : World) → AreWithin p qs → list_any (is_kept w) qs ≡ false
+    → (qs : List Request) (replies : List Reply) (next : World) → AreWithin p qs
+    → list_any (is_kept w) qs ≡ false
     → has_twice (map (λ q. q.id) (done ++ qs)) ≡ false → Run m qs replies next → AreGiven replies
     → Stage w next p (done ++ qs) (items_through qs items) (links_through qs links)
 run_stage w m p done items links live s [] [] next within unkept apart run given =

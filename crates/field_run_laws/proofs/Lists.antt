@@ -1,5 +1,6 @@
 -- Lists that requests take apart and put together.
-use Rattle.std.specs.Prelude.{◌≡◌, ◌⊎◌, ℕ, ◌+◌, ◌≤◌, Bool, true, false, cond, not, ◌||◌, List, [], ◌∷◌, ◌++◌, map}
+use Rattle.std.specs.Prelude.{◌≡◌, ◌⊎◌, ℕ, ◌+◌, ◌≤◌, Bool, true, false, cond, not, ◌||◌}
+use Rattle.std.specs.Prelude.{List, [], ◌∷◌, ◌++◌, map}
 use Rattle.std.specs.Prelude.{filter, refl, bytes_eq, sum_by, count_by, IsPermutation, Contains}
 use Rattle.std.proofs.Common.{sym, ap, subst, ◌∙◌, inl, inr, arith}
 use Rattle.std.proofs.lemmas.List.Elements.{All-from_recursion}
@@ -36,7 +37,8 @@ into_arranged key xs x i = All-In (λ y. In y (arranged key xs)) x xs
 pub of_filter : {X : Type 0} (t : X → Bool) (x : X) (xs : List X) → In x (filter t xs) → In x xs × (t x ≡ true)
 of_filter t x [] i = absurd i
 of_filter t x (y ∷ ys) i =
-    elim (t y) as (λ v. t y ≡ v → In x (cond v (y ∷ filter t ys) (filter t ys)) → In x (y ∷ ys) × (t x ≡ true)) [
+    elim (t y) as (λ v. t y ≡ v → In x (cond v (y ∷ filter t ys) (filter t ys)) → In x (y ∷ ys)
+    × (t x ≡ true)) [
       | true ↦ λ e j. elim j [
         | inl same ↦ (inl same, ap t (sym same) ∙ e)
         | inr later ↦ let it =
@@ -59,7 +61,8 @@ abbrev pub folded : {X L : Type 0} → (X → L → L) → List X → L → L
 folded step [] l = l
 folded step (x ∷ xs) l = folded step xs (step x l)
 
-pub folded_same : {X L : Type 0} (step : X → L → L) → ((x : X) (l : L) → step x l ≡ l) → (xs : List X) (l : L)
+pub folded_same : {X L : Type 0} (step : X → L → L) → ((x : X) (l : L) → step x l ≡ l)
+    → (xs : List X) (l : L)
     → folded step xs l ≡ l
 folded_same step same [] l = refl
 folded_same step same (x ∷ xs) l = folded_same step same xs (step x l) ∙ same x l
@@ -98,7 +101,8 @@ module _ {X Y : Type 0} (key : X → List ℕ) (k : Y → List ℕ) where
       ≡ without key (k y ∷ ks) l
   without_two y ks [] = refl
   without_two y ks (x ∷ xs) =
-      elim (bytes_eq (k y) (key x)) as (λ v. without key ks (cond (not (v || false)) (x ∷ without key (k y ∷ []) xs)
+      elim (bytes_eq (k y) (key x)) as (λ v. without key ks (cond (not (v || false))
+      (x ∷ without key (k y ∷ []) xs)
       (without key (k y ∷ []) xs)) ≡ cond (not (v || is_among ks (key x))) (x ∷ without key (k y ∷ ks) xs)
       (without key (k y ∷ ks) xs)) [
         | true ↦ without_two y ks xs

@@ -1,5 +1,6 @@
 -- A request that is ready is not refused.
-use Rattle.std.specs.Prelude.{◌≡◌, ◌≤◌, ◌+◌, ℕ, Bool, true, false, cond, not, ◌&&◌, ◌||◌, nat_lt, List, [], ◌∷◌, ◌++◌}
+use Rattle.std.specs.Prelude.{◌≡◌, ◌≤◌, ◌+◌, ℕ, Bool, true, false, cond, not, ◌&&◌, ◌||◌}
+use Rattle.std.specs.Prelude.{nat_lt, List, [], ◌∷◌, ◌++◌}
 use Rattle.std.specs.Prelude.{map, find, length, Option, Some, None, Ok, bytes_eq, unwrap_or, refl}
 use Rattle.std.proofs.Common.{sym, ap, subst, ◌∙◌, inl, inr, arith, append_assoc, drop}
 use Rattle.std.proofs.lemmas.Bool.{or_parts, le-ltb}
@@ -42,7 +43,8 @@ use Rattle.field_run_laws.proofs.Held.{gained_length}
 use Rattle.field_run_laws.proofs.Keys.{apart_from}
 
 -- where each test fails, no row of a table passes
-rows_pass : {X : Type 0} (rows : List (Bool × X)) → AllByRecursion (λ row. row.0 ≡ false) rows → first_row rows ≡ None
+rows_pass : {X : Type 0} (rows : List (Bool × X)) → AllByRecursion (λ row. row.0 ≡ false) rows
+    → first_row rows ≡ None
 rows_pass [] h = refl
 rows_pass (row ∷ rows) h = ap (λ b. cond b (Some row.1) (first_row rows)) h.0 ∙ rows_pass rows h.1
 
@@ -60,7 +62,8 @@ module _ (w m : World) (p : List ℕ) (done : List Request) (items : List Item) 
   before_parts = or_parts (list_any is_overfull w.packages || nat_lt greatest_packages (length w.packages))
       (nat_lt greatest_receipts (length (receipts_of w))) few
 
-  packages_parts : (list_any is_overfull w.packages ≡ false) × (nat_lt greatest_packages (length w.packages) ≡ false)
+  packages_parts : (list_any is_overfull w.packages ≡ false)
+      × (nat_lt greatest_packages (length w.packages) ≡ false)
   packages_parts = or_parts (list_any is_overfull w.packages) (nat_lt greatest_packages (length w.packages))
       before_parts.0
 
@@ -192,7 +195,8 @@ module _ (w m : World) (p : List ℕ) (done : List Request) (items : List Item) 
             (
               refl,
               (
-                fit_moment (bad_text (Add p identity content)) (subst (λ u. bad_text (Add u identity content) ≡ false)
+                fit_moment (bad_text (Add p identity content))
+                    (subst (λ u. bad_text (Add u identity content) ≡ false)
                     within ready.0),
                 (
                   ap not ready.1,
@@ -203,10 +207,12 @@ module _ (w m : World) (p : List ℕ) (done : List Request) (items : List Item) 
                       (
                         refl,
                         (
-                          same_place identity content (subst (λ u. bad_place w (Add u identity content) ≡ false) within
+                          same_place identity content (subst (λ u. bad_place w (Add u identity content) ≡ false)
+                              within
                               ready.2),
                           (
-                            same_ground identity content (subst (λ u. out_of_frame w (Add u identity content) ≡ false)
+                            same_ground identity content (subst
+                                (λ u. out_of_frame w (Add u identity content) ≡ false)
                                 within ready.3),
                             (
                               place_free content ready.6,
@@ -285,7 +291,8 @@ module _ (w m : World) (p : List ℕ) (done : List Request) (items : List Item) 
     passes (Link q mapping base other) within ready room =
         let b = kind_there (base_kind mapping) base ready.0 in
         let o = kind_there (other_kind mapping) other ready.1 in
-        subst (λ u. AllByRecursion (λ row. row.0 ≡ false) (reasons m (accepted m (asked (Link q mapping base other)))
+        subst (λ u. AllByRecursion (λ row. row.0 ≡ false) (reasons m
+        (accepted m (asked (Link q mapping base other)))
         (asked (Link u mapping base other)))) (sym within) (
           not_reused (Link p mapping base other),
           (
@@ -384,7 +391,8 @@ module _ (w m : World) (p : List ℕ) (done : List Request) (items : List Item) 
 
 -- ---- a list of them
 
-not_kept : (m : World) (q : Request) → has (λ r. r.request) q.id (receipts_of m) ≡ false → kept_reply m q ≡ None
+not_kept : (m : World) (q : Request) → has (λ r. r.request) q.id (receipts_of m) ≡ false
+    → kept_reply m q ≡ None
 not_kept m q new = ap (λ o. option_and_then (λ r. then_some (bytes_eq r.line (line q.command)) r) o)
     (not_found (λ r. bytes_eq r.request q.id) (receipts_of m) new)
 
@@ -398,7 +406,8 @@ ready_run w p live few m done items links s full [] [] next within unkept apart 
 ready_run w p live few m done items links s full [] (reply ∷ replies) next within unkept apart room ready run =
     absurd run
 ready_run w p live few m done items links s full (q ∷ qs) [] next within unkept apart room ready run = absurd run
-ready_run w p live few m done items links s full (q ∷ qs) (reply ∷ replies) next within unkept apart room ready run =
+ready_run w p live few m done items links s full (q ∷ qs) (reply ∷ replies) next within unkept apart room ready
+    run =
     let parts : (is_kept w q ≡ false) × (list_any (is_kept w) qs ≡ false) =
     or_parts (is_kept w q) (list_any (is_kept w) qs) unkept in
     let alone : is_among (map (λ x. x.id) done) q.id ≡ false =
@@ -416,7 +425,8 @@ ready_run w p live few m done items links s full (q ∷ qs) (reply ∷ replies) 
       | inl it ↦
           let is : (reply ≡ Ok (receipt_of m q)) × (run.0 ≡ accepted m q) =
           subst (λ o. (reply ≡ (outcome_by m q None o).0) × (run.0 ≡ (outcome_by m q None o).1)) no_refusal
-          (subst (λ k. (reply ≡ (outcome_by m q k (refuses m q)).0) × (run.0 ≡ (outcome_by m q k (refuses m q)).1))
+          (subst (λ k. (reply ≡ (outcome_by m q k (refuses m q)).0)
+          × (run.0 ≡ (outcome_by m q k (refuses m q)).1))
           no_reply it) in
           let there : Stage w run.0 p (done ++ q ∷ []) (items_after q.command items) (links_after q.command links) =
           subst (λ v. Stage w v p (done ++ q ∷ []) (items_after q.command items) (links_after q.command links))

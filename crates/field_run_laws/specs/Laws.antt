@@ -10,7 +10,8 @@ use Rattle.field_run_laws.specs.Lists.{Reply, AreWithin, AreNew, AreGiven, Holds
 -- nothing else changed
 abbrev pub RunWithinOnePackage : Type 0
 RunWithinOnePackage = (w : World) (p : List ℕ) (qs : List Request) (replies : List Reply) (next : World) →
-    IsRegister w → is_live w p ≡ true → AreWithin p qs → AreNew w qs → Run w qs replies next → AreGiven replies →
+    IsRegister w → is_live w p ≡ true → AreWithin p qs → AreNew w qs → Run w qs replies next
+    → AreGiven replies →
     HoldsNow w next p (items_through qs (holdings w p).items) (links_through qs (holdings w p).links) (length qs)
     × IsRegister next
 

@@ -1,5 +1,7 @@
--- Names and texts of SQL between marks. A mark inside stands twice; one that stands once is the end (SQL-92, 5.2 and 5.3).
-use Rattle.std.specs.Prelude.{ℕ, Bool, true, false, ◌==◌, List, [], ◌∷◌, ◌++◌, if◌then◌else◌, Option, Some, None, option_map}
+-- Names and texts of SQL between marks. A mark inside stands twice; one that stands once is the end (SQL-92, 5.2 and
+-- 5.3).
+use Rattle.std.specs.Prelude.{ℕ, Bool, true, false, ◌==◌, List, [], ◌∷◌, ◌++◌, if◌then◌else◌}
+use Rattle.std.specs.Prelude.{Option, Some, None, option_map}
 
 -- with each mark twice
 abbrev pub doubled : ℕ → List ℕ → List ℕ
@@ -23,7 +25,8 @@ literal text = quotation 39 text
 abbrev pub with_first : ℕ → Option (List ℕ × List ℕ) → Option (List ℕ × List ℕ)
 with_first b read = option_map (λ r. (b ∷ r.0, r.1)) read
 
--- Inside a quotation: the name, and what stands behind it; none where it does not end. The Bool says whether the last byte was a
+-- Inside a quotation: the name, and what stands behind it; none where it does not end. The Bool says whether the last
+-- byte was a
 -- mark, and of which nothing is known yet.
 abbrev pub read_name : ℕ → Bool → List ℕ → Option (List ℕ × List ℕ)
 read_name mark false [] = None

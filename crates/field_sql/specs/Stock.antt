@@ -33,7 +33,8 @@ abbrev pub tiles_of : List ℕ → List ℕ
 tiles_of table =
     codes "CREATE TEMP VIEW sheet_matrix_set AS\nSELECT * FROM main.gpkg_tile_matrix_set WHERE table_name = "
     ++ (literal table
-    ++ (codes " COLLATE NOCASE;\nCREATE TEMP VIEW sheet_matrix AS\nSELECT * FROM main.gpkg_tile_matrix WHERE table_name = "
+    ++ (codes
+    " COLLATE NOCASE;\nCREATE TEMP VIEW sheet_matrix AS\nSELECT * FROM main.gpkg_tile_matrix WHERE table_name = "
     ++ (literal table
     ++ (codes " COLLATE NOCASE;\nCREATE TEMP VIEW sheet_tiles AS\n"
     ++ (codes "SELECT t.id, t.zoom_level, t.tile_column, t.tile_row, t.tile_data FROM main."

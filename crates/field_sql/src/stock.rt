@@ -1,7 +1,8 @@
 //! The tables of another program's file, under the names that are read.
 ghost use Rattle.std.specs.Prelude.{◌≡◌, IfOk, string_bytes};
 ghost use Rattle.std.specs.Option.{option_map};
-ghost use Rattle.field_sql.specs.Stock.{no_points, no_register, no_tiles, points_of, points_or_none, rows_of, system_of, tiles_of, tiles_or_none};
+ghost use Rattle.field_sql.specs.Stock.{no_points, no_register, no_tiles, points_of, points_or_none, rows_of};
+ghost use Rattle.field_sql.specs.Stock.{system_of, tiles_of, tiles_or_none};
 
 use crate::naming::{identifier, literal};
 use std::alloc::{AllocError, Global};

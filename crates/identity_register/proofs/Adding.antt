@@ -1,5 +1,6 @@
 -- An item that is added under a free number and a new identity.
-use Rattle.std.proofs.Common.{◌≡◌, ℕ, pos, List, [], ◌∷◌, ◌++◌, map, Bool, true, false, refl, sym, ap, subst, ◌∙◌}
+use Rattle.std.proofs.Common.{◌≡◌, ℕ, pos, List, [], ◌∷◌, ◌++◌, map, Bool, true, false, refl, sym}
+use Rattle.std.proofs.Common.{ap, subst, ◌∙◌}
 use Rattle.std.specs.Prelude.{◌||◌, ◌==◌, bytes_eq, flat_map}
 use Rattle.std.specs.List.{AllByRecursion, IsDistinct, list_any}
 use Rattle.std.proofs.lemmas.Bool.{true≢false, and_parts, false_from_ne_true}
@@ -40,7 +41,8 @@ item_from_kind kind id i h = (and_parts (kind_number (kind_of i.content) == kind
 pub other_end : (p : Package) (kind : ℕ) (new id : List ℕ) → has_item p new ≡ false
     → has item_key (kind ∷ id) p.items ≡ true → bytes_eq new id ≡ false
 other_end p kind new id fresh there = false_from_ne_true (bytes_eq new id)
-    (λ e. true≢false (sym there ∙ weaker_any (λ i. bytes_eq (item_key i) (kind ∷ id)) (λ i. bytes_eq i.identity new)
+    (λ e. true≢false (sym there ∙ weaker_any (λ i. bytes_eq (item_key i) (kind ∷ id))
+    (λ i. bytes_eq i.identity new)
     (same e) p.items fresh))
   where
     same : bytes_eq new id ≡ true → (i : Item) → bytes_eq (item_key i) (kind ∷ id) ≡ true
@@ -85,7 +87,8 @@ module _ (p : Package) (n : Numbered) (fresh : has_item p n.item.identity ≡ fa
   pairs_more k numbered linked table ends = pairs_kept k numbered (n ∷ numbered) linked table
       (flat_map_same _ _ linked (All-weaker (HasEnds p) _ (rows_kept k numbered) linked ends))
 
-  still_there : (q : Item → Bool) → list_any q p.items ≡ true → list_any q (put item_key n.item p.items) ≡ true
+  still_there : (q : Item → Bool) → list_any q p.items ≡ true
+      → list_any q (put item_key n.item p.items) ≡ true
   still_there q h = list_any-put item_key q n.item p.items ∙ ap (λ b. q n.item || b) h ∙ or-true (q n.item)
 
   ends_kept : (l : Relation) → HasEnds p l → HasEnds (record p { items = put item_key n.item p.items }) l
@@ -111,8 +114,10 @@ item_identities id numbered h =
 
 -- a key that none has is none of the keys
 pub turned : {X : Type 0} (f : X → List ℕ) (k : List ℕ) (xs : List X)
-    → AllByRecursion (λ x. bytes_eq (f x) k ≡ false) xs → AllByRecursion (λ y. bytes_eq k y ≡ false) (map f xs)
-turned f k xs h = All-map (λ y. bytes_eq k y ≡ false) f xs (All-weaker _ _ (λ x e. bytes_eq_swap k (f x) ∙ e) xs h)
+    → AllByRecursion (λ x. bytes_eq (f x) k ≡ false) xs → AllByRecursion (λ y. bytes_eq k y ≡ false)
+    (map f xs)
+turned f k xs h = All-map (λ y. bytes_eq k y ≡ false) f xs (All-weaker _ _ (λ x e. bytes_eq_swap k (f x) ∙ e) xs
+    h)
 
 -- one item more, under a number that is free in its kind
 pub adds : (f : Frame) (p : Package) (t : Tables) (n : Numbered) → Says f p t → has_item p n.item.identity ≡ false

@@ -1,5 +1,6 @@
 -- What an answer of the tables says of the package that they are read as.
-use Rattle.std.proofs.Common.{◌≡◌, ℕ, ℤ, List, [], ◌∷◌, map, Bool, true, false, Option, Some, None, refl, sym, ap}
+use Rattle.std.proofs.Common.{◌≡◌, ℕ, ℤ, List, [], ◌∷◌, map, Bool, true, false, Option, Some, None}
+use Rattle.std.proofs.Common.{refl, sym, ap}
 use Rattle.std.proofs.Common.{subst, ◌∙◌, arith}
 use Rattle.std.specs.Prelude.{◌&&◌, ◌||◌, find, bytes_eq, flat_map, Contains, is_some}
 use Rattle.std.specs.List.{AllByRecursion, list_any}
@@ -66,13 +67,15 @@ IsRowFor id t = IsOneOf (λ x. bytes_eq x.uuid (uuid_text id)) t.identities
 
 module _ (f : Frame) (p : Package) (t : Tables) (says : Says f p t) where
   -- an identity names one item
-  pub same_item : (m n : Numbered) → In m says.numbered → In n says.numbered → m.item.identity ≡ n.item.identity → m ≡ n
+  pub same_item : (m n : Numbered) → In m says.numbered → In n says.numbered
+      → m.item.identity ≡ n.item.identity → m ≡ n
   same_item m n i j same =
       let mine : find (λ y. bytes_eq y.item.identity n.item.identity) says.numbered ≡ Some n =
       find_itself n says.numbered says.numbers.identities j in
       let theirs : find (λ y. bytes_eq y.item.identity m.item.identity) says.numbered ≡ Some m =
       find_itself m says.numbered says.numbers.identities i in
-      some_same (sym (subst (λ id. find (λ y. bytes_eq y.item.identity id) says.numbered ≡ Some m) same theirs) ∙ mine)
+      some_same (sym (subst (λ id. find (λ y. bytes_eq y.item.identity id) says.numbered ≡ Some m) same theirs)
+      ∙ mine)
 
   -- an item is there under its identity
   pub item_there : (n : Numbered) → In n says.numbered → has_item p n.item.identity ≡ true

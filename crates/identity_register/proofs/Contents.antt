@@ -1,5 +1,6 @@
 -- The row of an item, by its kind and number, has the item's content.
-use Rattle.std.proofs.Common.{◌≡◌, ℕ, ℤ, pos, List, [], ◌∷◌, true, Option, Some, Result, Ok, sym, ap, subst, ◌∙◌, inl}
+use Rattle.std.proofs.Common.{◌≡◌, ℕ, ℤ, pos, List, [], ◌∷◌, true, Option, Some, Result, Ok, sym, ap}
+use Rattle.std.proofs.Common.{subst, ◌∙◌, inl}
 use Rattle.std.proofs.Common.{inr, arith}
 use Rattle.std.specs.Prelude.{bytes_eq, flat_map, unsigned_abs, Contains}
 use Rattle.std.specs.Ordering.{int_eq}
@@ -36,7 +37,8 @@ int_same a b h = grind (arith)
 
 -- the row that a look-up by the number found says what the number's content is
 pub content_found : {R E F : Type 0} (id : R → ℤ) (rows : Tables → List R) (kind number : ℤ) {r : R}
-    {content : Content} {a b : State} {o : Option R} {found : Result (Option R) E} {made : Result R F} → found ≡ Ok o
+    {content : Content} {a b : State} {o : Option R} {found : Result (Option R) E} {made : Result R F}
+    → found ≡ Ok o
     → o ≡ result_ok made → made ≡ Ok r
     → Looks {X = Option R} {E = E} (Answers (λ t. IsOneOf (λ x. int_eq (id x) number) (rows t))) a b found
     → ((t : Tables) → Contains (rows t) r → IsContentOf kind (id r) t content)
@@ -82,7 +84,8 @@ attributes_are number (Row x y c l) r i = elim i [
 module _ (f : Frame) (p : Package) (t : Tables) (says : Says f p t) where
   -- a kind and a number name one item
   pub one_place : (m n : Numbered) → In m says.numbered → In n says.numbered
-      → kind_number (kind_of m.item.content) ≡ kind_number (kind_of n.item.content) → m.number ≡ n.number → m ≡ n
+      → kind_number (kind_of m.item.content) ≡ kind_number (kind_of n.item.content) → m.number ≡ n.number
+      → m ≡ n
   one_place m n i j kinds numbers =
       let place : place_in_tables m ≡ place_in_tables n = ap (λ k. k ∷ unsigned_abs m.number ∷ []) kinds
       ∙ ap (λ k. kind_number (kind_of n.item.content) ∷ unsigned_abs k ∷ []) numbers in
@@ -125,7 +128,8 @@ module _ (f : Frame) (p : Package) (t : Tables) (says : Says f p t) where
       sym is.0 ∙ ap (λ x. x.item.content) same
 
   -- the item of an identity, by its row and its content
-  pub content_by_row : (id : List ℕ) → IsUuid id → (r : IdentityRow) (content : Content) → Contains t.identities r
+  pub content_by_row : (id : List ℕ) → IsUuid id → (r : IdentityRow) (content : Content)
+      → Contains t.identities r
       × (bytes_eq r.uuid (uuid_text id) ≡ true) → IsContentOf r.kind r.local_id t content
       → Some (record { identity = id; content = content }) ≡ item_of p id
   content_by_row id fit r content row h =

@@ -1,7 +1,9 @@
 -- An item that is taken out, with the rows of its number.
-use Rattle.std.proofs.Common.{◌≡◌, ℕ, ℤ, pos, negsuc, List, [], ◌∷◌, ◌++◌, map, Bool, true, false, cond, refl, sym}
+use Rattle.std.proofs.Common.{◌≡◌, ℕ, ℤ, pos, negsuc, List, [], ◌∷◌, ◌++◌, map, Bool, true, false}
+use Rattle.std.proofs.Common.{cond, refl, sym}
 use Rattle.std.proofs.Common.{ap, subst, ◌∙◌, inl, inr, arith}
-use Rattle.std.specs.Prelude.{not, ◌&&◌, ◌==◌, if◌then◌else◌, filter, find, bytes_eq, flat_map, unsigned_abs}
+use Rattle.std.specs.Prelude.{not, ◌&&◌, ◌==◌, if◌then◌else◌, filter, find, bytes_eq, flat_map}
+use Rattle.std.specs.Prelude.{unsigned_abs}
 use Rattle.std.specs.List.{AllByRecursion, IsDistinct, list_any}
 use Rattle.std.specs.Ordering.{int_eq}
 use Rattle.std.proofs.lemmas.Bool.{true≢false, false≢true, and_parts, or_parts}
@@ -48,8 +50,10 @@ filter-flat_map f test keep [] h = refl
 filter-flat_map f test keep (x ∷ xs) h = filter-append test (f x) (flat_map f xs)
     ∙ one (keep x) h.0 (filter-flat_map f test keep xs h.1)
   where
-    one : (b : Bool) → filter test (f x) ≡ cond b (f x) [] → filter test (flat_map f xs) ≡ flat_map f (filter keep xs)
-        → filter test (f x) ++ filter test (flat_map f xs) ≡ flat_map f (cond b (x ∷ filter keep xs) (filter keep xs))
+    one : (b : Bool) → filter test (f x) ≡ cond b (f x) [] → filter test (flat_map f xs)
+        ≡ flat_map f (filter keep xs)
+        → filter test (f x) ++ filter test (flat_map f xs) ≡ flat_map f
+        (cond b (x ∷ filter keep xs) (filter keep xs))
     one true e rest = rw (e, rest) refl
     one false e rest = rw (e, rest) refl
 
@@ -74,7 +78,8 @@ filter-map f test keep (x ∷ xs) h = one (keep x) h.0 (filter-map f test keep x
     one true e rest = rw e (ap (λ l. f x ∷ l) rest)
     one false e rest = rw e rest
 
-find-filter : {X : Type 0} (q keep : X → Bool) (xs : List X) → AllByRecursion (λ x. q x ≡ true → keep x ≡ true) xs
+find-filter : {X : Type 0} (q keep : X → Bool) (xs : List X)
+    → AllByRecursion (λ x. q x ≡ true → keep x ≡ true) xs
     → find q (filter keep xs) ≡ find q xs
 find-filter q keep [] h = refl
 find-filter q keep (x ∷ xs) h = one (q x) (keep x) refl refl (find-filter q keep xs h.1)
@@ -87,7 +92,8 @@ find-filter q keep (x ∷ xs) h = one (q x) (keep x) refl refl (find-filter q ke
     one false false e g rest = rw (g, e) rest
 
 -- what is distinct stays so when some go
-pub distinct_filter : {X : Type 0} (f : X → List ℕ) (keep : X → Bool) (xs : List X) → IsDistinct bytes_eq (map f xs)
+pub distinct_filter : {X : Type 0} (f : X → List ℕ) (keep : X → Bool) (xs : List X)
+    → IsDistinct bytes_eq (map f xs)
     → IsDistinct bytes_eq (map f (filter keep xs))
 unfolding IsDistinct
 distinct_filter f keep [] h = tt
@@ -100,7 +106,8 @@ distinct_filter f keep (x ∷ xs) h = one (keep x) (distinct_filter f keep xs h.
 
 -- an element of a list is apart from all others by one name exactly where it is by another
 pub same_tests : {X : Type 0} (f g : X → List ℕ) (n : X) (xs : List X) → IsDistinct bytes_eq (map f xs)
-    → IsDistinct bytes_eq (map g xs) → In n xs → AllByRecursion (λ m. bytes_eq (f m) (f n) ≡ bytes_eq (g m) (g n)) xs
+    → IsDistinct bytes_eq (map g xs) → In n xs → AllByRecursion
+    (λ m. bytes_eq (f m) (f n) ≡ bytes_eq (g m) (g n)) xs
 unfolding IsDistinct
 same_tests f g n [] hf hg i = tt
 same_tests {X} f g n (x ∷ xs) hf hg i = elim i [
@@ -122,7 +129,8 @@ same_tests {X} f g n (x ∷ xs) hf hg i = elim i [
     all_apart : (ys : List X) → AllByRecursion (λ y. bytes_eq (f x) (f y) ≡ false) ys
         → AllByRecursion (λ y. bytes_eq (g x) (g y) ≡ false) ys
         → AllByRecursion (λ m. bytes_eq (f m) (f x) ≡ bytes_eq (g m) (g x)) ys
-    all_apart ys h k = All-both _ _ _ (λ m a b. bytes_eq_swap (f m) (f x) ∙ a ∙ sym (bytes_eq_swap (g m) (g x) ∙ b))
+    all_apart ys h k = All-both _ _ _ (λ m a b. bytes_eq_swap (f m) (f x) ∙ a
+        ∙ sym (bytes_eq_swap (g m) (g x) ∙ b))
         ys h k
 
 -- of two tests of which the first is passed, the second
@@ -132,7 +140,8 @@ place_test true false h = refl
 place_test false b h = absurd (false≢true h)
 
 -- numbers from 1 on are one where their absolute values are
-pub same_number : (a b : ℤ) → is_within (pos 1) greatest_number a ≡ true → is_within (pos 1) greatest_number b ≡ true
+pub same_number : (a b : ℤ) → is_within (pos 1) greatest_number a ≡ true
+    → is_within (pos 1) greatest_number b ≡ true
     → int_eq a b ≡ (unsigned_abs a == unsigned_abs b)
 same_number (pos a) (pos b) h g = grind (arith)
 same_number (negsuc a) b h g = absurd (false≢true h)
@@ -142,14 +151,16 @@ same_number (pos a) (negsuc b) h g = absurd (false≢true g)
 
 -- how a table holds the items of a kind: one row each, under its number
 pub record IsOfKind {R : Type 0} (kind : MovedKind) (rows : ℤ → Content → List R) (id : R → ℤ) : Type 0 where
-  pub mine : (number : ℤ) (c : Content) → kind_is kind (kind_of c) ≡ true → (r : R) × (rows number c ≡ r ∷ [])
+  pub mine : (number : ℤ) (c : Content) → kind_is kind (kind_of c) ≡ true → (r : R)
+      × (rows number c ≡ r ∷ [])
       × (id r ≡ number)
   pub others : (number : ℤ) (c : Content) → kind_is kind (kind_of c) ≡ false → rows number c ≡ []
 
 pub tiles_of_kind : IsOfKind TileItem tile_rows (λ r. r.id)
 tiles_of_kind = record { mine = mine; others = others }
   where
-    mine : (number : ℤ) (c : Content) → kind_is TileItem (kind_of c) ≡ true → (r : _) × (tile_rows number c ≡ r ∷ [])
+    mine : (number : ℤ) (c : Content) → kind_is TileItem (kind_of c) ≡ true → (r : _)
+        × (tile_rows number c ≡ r ∷ [])
         × (r.id ≡ number)
     mine number (Tile zoom column row bytes) h = (_, refl, refl)
     mine number (Media content_type bytes) h = absurd (false≢true h)
@@ -195,7 +206,8 @@ pos_same a b = grind (arith)
 stored_kind : (k a : MovedKind) → int_eq (pos (kind_number a)) (pos (kind_number k)) ≡ kind_is k a
 stored_kind k a = grind (arith)
 
-kinds_same : (k : MovedKind) (a b : MovedKind) → (kind_number a == kind_number b) ≡ true → kind_is k b ≡ kind_is k a
+kinds_same : (k : MovedKind) (a b : MovedKind) → (kind_number a == kind_number b) ≡ true
+    → kind_is k b ≡ kind_is k a
 kinds_same k a b h = ap (λ n. kind_number k == n) (sym (eqb-true (kind_number a) (kind_number b) h))
 
 -- what goes with an item: the row of its number where it is of the kind, no row else
@@ -237,7 +249,8 @@ module _ {R : Type 0} (kind : MovedKind) (rows : ℤ → Content → List R) (id
           ≡ (unsigned_abs m.number == unsigned_abs n.number) =
           place_test (kind_number (kind_of m.item.content) == kind_number (kind_of n.item.content))
           (unsigned_abs m.number == unsigned_abs n.number) kind_same in
-          rw it.1 (picked it.0 (not (int_eq (id it.0) n.number)) (keep m) (ap not (number_same ∙ sym place_is ∙ same)))
+          rw it.1 (picked it.0 (not (int_eq (id it.0) n.number)) (keep m)
+          (ap not (number_same ∙ sym place_is ∙ same)))
         where
           same_kinds : kind_is kind (kind_of m.item.content) ≡ true → kind_is kind (kind_of n.item.content) ≡ true
               → (kind_number (kind_of m.item.content) == kind_number (kind_of n.item.content)) ≡ true
@@ -247,7 +260,8 @@ module _ {R : Type 0} (kind : MovedKind) (rows : ℤ → Content → List R) (id
               ∙ eqb-true (kind_number kind) (kind_number (kind_of n.item.content)) g)
 
   stays : kind_is kind (kind_of n.item.content) ≡ false → (m : Numbered)
-      → bytes_eq (place_in_tables m) (place_in_tables n) ≡ bytes_eq m.item.identity n.item.identity → keep m ≡ false
+      → bytes_eq (place_in_tables m) (place_in_tables n) ≡ bytes_eq m.item.identity n.item.identity
+      → keep m ≡ false
       → rows_of_item m ≡ []
   stays elsewhere m same gone = of_kind.others m.number m.item.content
       (one (kind_is kind (kind_of m.item.content)) refl)
@@ -308,7 +322,8 @@ module _ (p : Package) (n : Numbered) where
   gone_test : (i : Item) → not (is_among (id ∷ []) i.identity) ≡ not (bytes_eq i.identity id)
   gone_test i = ap not (or-false (bytes_eq id i.identity) ∙ bytes_eq_swap id i.identity)
 
-  apart : (a : List ℕ) → bytes_eq a id ≡ false → (m : Numbered) → bytes_eq m.item.identity a ≡ true → kept m ≡ true
+  apart : (a : List ℕ) → bytes_eq a id ≡ false → (m : Numbered) → bytes_eq m.item.identity a ≡ true
+      → kept m ≡ true
   apart a other m same = ap not (ap (λ x. bytes_eq x id) ((bytes_eq-Decides m.item.identity a).0 same) ∙ other)
 
   number_left : (ns : List Numbered) (a : List ℕ) → bytes_eq a id ≡ false
@@ -388,7 +403,8 @@ deletes f p t says n there free =
         items =
             ap (filter (λ i. not (is_among (id ∷ []) i.identity))) says.items
             ∙ filter-arranged item_key (λ i. not (is_among (id ∷ []) i.identity)) (map (λ m. m.item) ns)
-            ∙ ap (arranged item_key) (filter-map (λ m. m.item) (λ i. not (is_among (id ∷ []) i.identity)) (kept p n)
+            ∙ ap (arranged item_key) (filter-map (λ m. m.item) (λ i. not (is_among (id ∷ []) i.identity))
+            (kept p n)
             ns (All-each _ (λ m. gone_test p n m.item) ns));
         tiles = rows_less TileItem tile_rows (λ r. r.id) tile_shape.key tiles_of_kind n ns says.numbers.range in_range
             places t.tiles says.tiles;

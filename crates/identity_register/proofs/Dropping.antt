@@ -1,5 +1,6 @@
 -- The steps that take an item out, as one change of the package.
-use Rattle.std.proofs.Common.{◌≡◌, ℕ, ℤ, pos, List, false, Result, Ok, sym, ap, subst, ◌∙◌, FitsSigned, w64, to_z}
+use Rattle.std.proofs.Common.{◌≡◌, ℕ, ℤ, pos, List, false, Result, Ok, sym, ap, subst, ◌∙◌}
+use Rattle.std.proofs.Common.{FitsSigned, w64, to_z}
 use Rattle.std.proofs.Common.{of_z, to_z-of_z}
 use Rattle.std.specs.Prelude.{bytes_eq}
 use Rattle.std.proofs.lemmas.Slice.Eq.{bytes_eq-Decides}
@@ -85,7 +86,8 @@ item_dropped id row old mid new found dropped f p reads fits =
 
 -- an item is found and its rows are dropped
 pub item_steps : {E F : Type 0} (id : List ℕ) (row : IdentityRow) {old mid new : State} {r : Result (Unit {0}) F}
-    → Steps {E = E} (Answers (IsRowOf id)) old mid (Ok row) → Steps (λ _. OnTables (DropsRows row.kind row.local_id))
+    → Steps {E = E} (Answers (IsRowOf id)) old mid (Ok row) → Steps
+    (λ _. OnTables (DropsRows row.kind row.local_id))
     mid new r
     → Steps (λ _. Shrinks (IsLooseItem id) (item_deleted id)) old new r
 item_steps id row {old} {mid} {new} first next =

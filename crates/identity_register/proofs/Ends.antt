@@ -1,7 +1,9 @@
 -- What the rows of the mapping tables say of the links of a package, and the rows of its ends of the state of a link.
-use Rattle.std.proofs.Common.{◌≡◌, ℕ, ℤ, pos, List, [], ◌∷◌, ◌++◌, map, Bool, true, false, refl, sym, ap, subst, ◌∙◌}
+use Rattle.std.proofs.Common.{◌≡◌, ℕ, ℤ, pos, List, [], ◌∷◌, ◌++◌, map, Bool, true, false, refl}
+use Rattle.std.proofs.Common.{sym, ap, subst, ◌∙◌}
 use Rattle.std.proofs.Common.{length}
-use Rattle.std.specs.Prelude.{◌&&◌, ◌||◌, not, if◌then◌else◌, ◌==◌, bytes_eq, flat_map, unsigned_abs, Contains}
+use Rattle.std.specs.Prelude.{◌&&◌, ◌||◌, not, if◌then◌else◌, ◌==◌, bytes_eq, flat_map}
+use Rattle.std.specs.Prelude.{unsigned_abs, Contains}
 use Rattle.std.specs.Cmp.{both_ways}
 use Rattle.std.specs.List.{AllByRecursion, list_any}
 use Rattle.std.specs.Ordering.{int_eq}
@@ -57,10 +59,12 @@ or_both false false false d = refl
 pub any_or : {X : Type 0} (a b : X → Bool) (xs : List X) → (list_any a xs || list_any b xs)
     ≡ list_any (λ x. a x || b x) xs
 any_or a b [] = refl
-any_or a b (x ∷ xs) = or_both (a x) (list_any a xs) (b x) (list_any b xs) ∙ ap (λ v. (a x || b x) || v) (any_or a b xs)
+any_or a b (x ∷ xs) = or_both (a x) (list_any a xs) (b x) (list_any b xs)
+    ∙ ap (λ v. (a x || b x) || v) (any_or a b xs)
 
 -- a test that is asked of each where another holds
-any_and : {X : Type 0} (b : Bool) (a : X → Bool) (xs : List X) → (b && list_any a xs) ≡ list_any (λ x. b && a x) xs
+any_and : {X : Type 0} (b : Bool) (a : X → Bool) (xs : List X)
+    → (b && list_any a xs) ≡ list_any (λ x. b && a x) xs
 any_and true a xs = refl
 any_and false a xs = sym (none_any (λ x. false) xs (All-each _ (λ x. refl) xs))
 
@@ -113,7 +117,8 @@ mapping_itself RowsTiles = refl
 pub first_end : (kind : ℤ) (one another : Mapping) → AreMappingsOf kind one another → is_end one kind ≡ true
 first_end kind one another are = are one ∙ ap (λ b. b || mapping_is one another) (mapping_itself one)
 
-pub second_end : (kind : ℤ) (one another : Mapping) → AreMappingsOf kind one another → is_end another kind ≡ true
+pub second_end : (kind : ℤ) (one another : Mapping) → AreMappingsOf kind one another
+    → is_end another kind ≡ true
 second_end kind one another are = are another ∙ ap (λ b. mapping_is another one || b) (mapping_itself another)
     ∙ or-true (mapping_is another one)
 
@@ -194,7 +199,8 @@ module _ (f : Frame) (p : Package) (t : Tables) (says : Says f p t) where
       ∙ ap (λ b. (kind_number (kind_of m.0.item.content) == k) && b)
       (same_number m.0.number n.number (in_range f p t says m.0 m.1) (in_range f p t says n i)
       ∙ sym (and-true (unsigned_abs m.0.number == unsigned_abs n.number)))
-      ∙ All-In (λ y. bytes_eq (place_in_tables y) (place_in_tables n) ≡ bytes_eq y.item.identity n.item.identity) m.0
+      ∙ All-In (λ y. bytes_eq (place_in_tables y) (place_in_tables n) ≡ bytes_eq y.item.identity n.item.identity)
+      m.0
       says.numbered (same_tests place_in_tables (λ y. y.item.identity) n says.numbered says.numbers.numbers
       says.numbers.identities i) m.1
       ∙ ap (λ x. bytes_eq x n.item.identity) m.3
@@ -218,7 +224,8 @@ module _ (f : Frame) (p : Package) (t : Tables) (says : Says f p t) where
       → (int_eq (pos (kind_number (base_kind m))) (identity_row n).kind && int_eq (number_of says.numbered x.base)
       n.number) ≡ bytes_eq x.base n.item.identity
   base_is n i x m e h = ap (λ b. b && int_eq (number_of says.numbered x.base) n.number) (pos_same _ _)
-      ∙ end_is n i (base_kind m) x.base (subst (λ m. has item_key (kind_number (base_kind m) ∷ x.base) p.items ≡ true)
+      ∙ end_is n i (base_kind m) x.base (subst (λ m. has item_key (kind_number (base_kind m) ∷ x.base) p.items
+      ≡ true)
       e h.0)
 
   other_is : (n : Numbered) → In n says.numbered → (x : Relation) (m : Mapping) → x.mapping ≡ m → HasEnds p x
@@ -312,7 +319,8 @@ module _ (f : Frame) (p : Package) (t : Tables) (says : Says f p t) where
 
   -- the row of an identity is linked where a link names the identity
   pub linked_by_row : (id : List ℕ) → IsUuid id → (r : IdentityRow) → Contains t.identities r
-      × (bytes_eq r.uuid (uuid_text id) ≡ true) → is_linked_row r.kind r.local_id t ≡ list_any (has_end id) p.links
+      × (bytes_eq r.uuid (uuid_text id) ≡ true) → is_linked_row r.kind r.local_id t
+      ≡ list_any (has_end id) p.links
   linked_by_row id fit r h =
       let it = item_of_row f p t says id fit r h in
       subst (λ r. is_linked_row r.kind r.local_id t ≡ list_any (has_end id) p.links) it.2

@@ -1,5 +1,6 @@
 -- The items and links that whole tables give are those of the package.
-use Rattle.std.proofs.Common.{◌≡◌, ℕ, suc, ◌+◌, ◌<◌, pos, List, [], ◌∷◌, ◌++◌, map, length, get_or, take, true}
+use Rattle.std.proofs.Common.{◌≡◌, ℕ, suc, ◌+◌, ◌<◌, pos, List, [], ◌∷◌, ◌++◌, map, length}
+use Rattle.std.proofs.Common.{get_or, take, true}
 use Rattle.std.proofs.Common.{Result, Ok, Err, refl, sym, ap, subst, ◌∙◌, inl, inr, arith}
 use Rattle.std.specs.Prelude.{bytes_eq, flat_map, unsigned_abs, Contains, IsPermutation}
 use Rattle.std.specs.List.{AllByRecursion, AllZip, AllAdjacentBelow}
@@ -49,7 +50,8 @@ use Rattle.identity_register.proofs.OnePackage.{to_arranged, distinct_arranged, 
 -- ---- lists
 
 -- an element of one list has one of the other beside it
-pub zip_left : {A B : Type 0} (R : A → B → Type 0) (x : A) (xs : List A) (ys : List B) → AllZip R xs ys → In x xs
+pub zip_left : {A B : Type 0} (R : A → B → Type 0) (x : A) (xs : List A) (ys : List B) → AllZip R xs ys
+    → In x xs
     → (y : B) × In y ys × R x y
 zip_left R x [] [] h i = absurd i
 zip_left R x [] (y ∷ ys) h i = absurd i
@@ -60,7 +62,8 @@ zip_left R x (z ∷ zs) (y ∷ ys) h i = elim i [
       zip_left R x zs ys h.1 j in (it.0, inr it.1, it.2)
 ]
 
-pub zip_right : {A B : Type 0} (R : A → B → Type 0) (y : B) (xs : List A) (ys : List B) → AllZip R xs ys → In y ys
+pub zip_right : {A B : Type 0} (R : A → B → Type 0) (y : B) (xs : List A) (ys : List B) → AllZip R xs ys
+    → In y ys
     → (x : A) × In x xs × R x y
 zip_right R y [] [] h i = absurd i
 zip_right R y (x ∷ xs) [] h i = absurd i
@@ -85,7 +88,8 @@ rising key (x ∷ y ∷ ys) h =
 
 -- one row more of those that a loop goes over, and what was made of it
 pub zip_more : {A B : Type 0} (R : A → B → Type 0) (rows : List A) (i : ℕ) (d row : A) (made now : List B) (x : B)
-    → i < length rows → row ≡ get_or rows i d → now ≡ made ++ x ∷ [] → AllZip R (take i rows) made → R row x
+    → i < length rows → row ≡ get_or rows i d → now ≡ made ++ x ∷ [] → AllZip R (take i rows) made
+    → R row x
     → AllZip R (take (i + 1) rows) now
 zip_more R rows i d row made now x less is pushed all one =
     let cut : take (i + 1) rows ≡ take i rows ++ row ∷ [] = take_more rows i d less
@@ -114,7 +118,8 @@ contents_are t tiles media rows h i j =
 
 module _ (f : Frame) (p : Package) (t : Tables) (says : Says f p t) where
   -- the item that an identity row is of, by the UUID whose text it has
-  pub row_item : (r : IdentityRow) → Contains t.identities r → (id : List ℕ) → r.uuid ≡ uuid_text id → IsUuid id
+  pub row_item : (r : IdentityRow) → Contains t.identities r → (id : List ℕ) → r.uuid ≡ uuid_text id
+      → IsUuid id
       → (n : Numbered) × In n says.numbered × (identity_row n ≡ r) × (n.item.identity ≡ id)
   row_item r h id e uuid =
       let it = row_numbered f p t says r h in
@@ -124,7 +129,8 @@ module _ (f : Frame) (p : Package) (t : Tables) (says : Says f p t) where
 
   -- so is the item that was made of the row and its content
   item_there : (r : IdentityRow) → Contains t.identities r → (placed : List Placed)
-      → AllByRecursion (IsPlaced t) placed → (i : Item) → IsItemOf placed r i → (n : Numbered) × In n says.numbered
+      → AllByRecursion (IsPlaced t) placed → (i : Item) → IsItemOf placed r i → (n : Numbered)
+      × In n says.numbered
       × (identity_row n ≡ r) × (n.item ≡ i)
   item_there r h placed all i it =
       let n = row_item r h i.identity it.identity it.fit in
@@ -144,7 +150,8 @@ module _ (f : Frame) (p : Package) (t : Tables) (says : Says f p t) where
       (n.0, n.1, n.2, sym whole ∙ same)
 
   -- a row is of one item
-  pub one_row : (m n : Numbered) → In m says.numbered → In n says.numbered → identity_row m ≡ identity_row n → m ≡ n
+  pub one_row : (m n : Numbered) → In m says.numbered → In n says.numbered → identity_row m ≡ identity_row n
+      → m ≡ n
   one_row m n i j e =
       same_item f p t says m n i j (same_uuid m.item.identity n.item.identity
       (All-In (λ x. IsUuid x.item.identity) m says.numbered says.numbers.uuids i)
@@ -280,7 +287,8 @@ module _ (f : Frame) (p : Package) (t : Tables) (says : Says f p t) where
 -- what was looked at answers by a last value
 pub tells_if : {X E : Type 0} {Fact : Tables → Type 0} (Answer : Tables → X → Type 0) {old new : State}
     (r : Result X E) → Looked Fact old new
-    → ((x : X) → r ≡ Ok x → (t : Tables) → Fact t → Answer t x) → Looks {X = X} {E = E} (Answers Answer) old new r
+    → ((x : X) → r ≡ Ok x → (t : Tables) → Fact t → Answer t x)
+    → Looks {X = X} {E = E} (Answers Answer) old new r
 tells_if Answer (Ok x) it says = tells Answer it (says x refl)
 tells_if Answer (Err e) it says = fails (Err e) refl it.stays
 

@@ -1,5 +1,6 @@
 -- Lists that were sorted by a key, and whose elements have keys of their own, are sets.
-use Rattle.std.proofs.Common.{◌≡◌, ℕ, zero, suc, ◌+◌, ◌<◌, List, [], ◌∷◌, ◌++◌, map, length, get_or, true, false, sym}
+use Rattle.std.proofs.Common.{◌≡◌, ℕ, zero, suc, ◌+◌, ◌<◌, List, [], ◌∷◌, ◌++◌, map, length}
+use Rattle.std.proofs.Common.{get_or, true, false, sym}
 use Rattle.std.proofs.Common.{ap, subst, ◌∙◌, true≢false, arith}
 use Rattle.std.specs.Prelude.{Bool, MatchBool, bytes_eq, IsPermutation}
 use Rattle.std.specs.List.{IsDistinct, IsAllAdjacentAnswer}
@@ -13,14 +14,16 @@ use Rattle.sheet_types.proofs.KeyOrder.{slice_cmp_append, then_assoc}
 use Rattle.identity_register.proofs.Gathering.{rising}
 
 -- each element of a set stands before the next
-each_before : {X : Type 0} (key : X → List ℕ) (xs : List X) → IsArranged key xs → (k : ℕ) (d : X) → k + 1 < length xs
+each_before : {X : Type 0} (key : X → List ℕ) (xs : List X) → IsArranged key xs → (k : ℕ) (d : X)
+    → k + 1 < length xs
     → is_before (key (get_or xs k d)) (key (get_or xs (k + 1) d)) ≡ true
 each_before key [] h k d less = absurd (omega (arith, less))
 each_before key (x ∷ []) h k d less = absurd (omega (arith, less))
 each_before key (x ∷ y ∷ ys) h zero d less = h.0.0
 each_before key (x ∷ y ∷ ys) h (suc k) d less =
     let e : suc k + 1 ≡ suc (k + 1) = omega arith in
-    subst (λ n. is_before (key (get_or (x ∷ y ∷ ys) (suc k) d)) (key (get_or (x ∷ y ∷ ys) n d)) ≡ true) (sym e)
+    subst (λ n. is_before (key (get_or (x ∷ y ∷ ys) (suc k) d)) (key (get_or (x ∷ y ∷ ys) n d)) ≡ true)
+    (sym e)
     (each_before key (y ∷ ys) h.1 k d (omega (arith, less)))
 
 -- an element and the next have two keys
@@ -32,12 +35,14 @@ differ key (x ∷ []) h k d less = absurd (omega (arith, less))
 differ key (x ∷ y ∷ ys) h zero d less = bytes_eq_swap (key y) (key x) ∙ h.0.0
 differ key (x ∷ y ∷ ys) h (suc k) d less =
     let e : suc k + 1 ≡ suc (k + 1) = omega arith in
-    subst (λ n. bytes_eq (key (get_or (x ∷ y ∷ ys) n d)) (key (get_or (x ∷ y ∷ ys) (suc k) d)) ≡ false) (sym e)
+    subst (λ n. bytes_eq (key (get_or (x ∷ y ∷ ys) n d)) (key (get_or (x ∷ y ∷ ys) (suc k) d)) ≡ false)
+    (sym e)
     (differ key (y ∷ ys) h.1 k d (omega (arith, less)))
 
 -- where none stands before the one that it follows, and keys differ
 pub sorted_set : {X : Type 0} (key : X → List ℕ) (xs : List X)
-    → ((k : ℕ) (d : X) → k + 1 < length xs → is_before (key (get_or xs (k + 1) d)) (key (get_or xs k d)) ≡ false)
+    → ((k : ℕ) (d : X) → k + 1 < length xs → is_before (key (get_or xs (k + 1) d)) (key (get_or xs k d))
+    ≡ false)
     → IsDistinct bytes_eq (map key xs) → IsArranged key xs
 sorted_set key xs sorted apart = rising key xs (λ k d less. before_other_way (key (get_or xs (k + 1) d))
     (key (get_or xs k d)) (sorted k d less) (differ key xs apart k d less))
@@ -48,7 +53,8 @@ pub arranged_answer : {X : Type 0} (key : X → List ℕ) (xs : List X) (r : Boo
     → MatchBool r (IsArranged key xs) (IsArranged key xs → ⊥)
 arranged_answer key xs true h = rising key xs (λ k d less. sym (h k d less))
 arranged_answer key [] false h = absurd (omega (arith, h.1))
-arranged_answer key (x ∷ xs) false h = λ set. true≢false (sym (each_before key (x ∷ xs) set h.0 x h.1) ∙ sym (h.2 x))
+arranged_answer key (x ∷ xs) false h = λ set. true≢false (sym (each_before key (x ∷ xs) set h.0 x h.1)
+    ∙ sym (h.2 x))
 
 -- in another order the keys differ still
 pub moved_apart : {X : Type 0} (key : X → List ℕ) (xs ys : List X) → IsPermutation xs ys

@@ -64,8 +64,7 @@ rows_same t = record {
   media = λ r c. c;
   rows = λ r c. c;
   identities = λ r c. c;
-  tiles_media =
-      λ r c. c;
+  tiles_media = λ r c. c;
   rows_media = λ r c. c;
   rows_tiles = λ r c. c;
 }
@@ -117,34 +116,28 @@ link_beside TilesMedia row t = record {
   tiles = λ r c. c;
   media = λ r c. c;
   rows = λ r c. c;
-  identities =
-      λ r c. c;
+  identities = λ r c. c;
   tiles_media = stand_put (pair_shape TilesMedia).key row t.tiles_media;
-  rows_media =
-      λ r c. c;
+  rows_media = λ r c. c;
   rows_tiles = λ r c. c;
 }
 link_beside RowsMedia row t = record {
   tiles = λ r c. c;
   media = λ r c. c;
   rows = λ r c. c;
-  identities =
-      λ r c. c;
+  identities = λ r c. c;
   tiles_media = λ r c. c;
   rows_media = stand_put (pair_shape RowsMedia).key row t.rows_media;
-  rows_tiles =
-      λ r c. c;
+  rows_tiles = λ r c. c;
 }
 link_beside RowsTiles row t = record {
   tiles = λ r c. c;
   media = λ r c. c;
   rows = λ r c. c;
-  identities =
-      λ r c. c;
+  identities = λ r c. c;
   tiles_media = λ r c. c;
   rows_media = λ r c. c;
-  rows_tiles =
-      stand_put (pair_shape RowsTiles).key row t.rows_tiles;
+  rows_tiles = stand_put (pair_shape RowsTiles).key row t.rows_tiles;
 }
 
 pub links_left : (m : Mapping) (row : MappingRow) (t : Tables) → KeepRows (without_link m row t) t
@@ -152,8 +145,7 @@ links_left TilesMedia row t = record {
   tiles = λ r c. c;
   media = λ r c. c;
   rows = λ r c. c;
-  identities =
-      λ r c. c;
+  identities = λ r c. c;
   tiles_media = stand_left _ t.tiles_media;
   rows_media = λ r c. c;
   rows_tiles = λ r c. c;
@@ -162,8 +154,7 @@ links_left RowsMedia row t = record {
   tiles = λ r c. c;
   media = λ r c. c;
   rows = λ r c. c;
-  identities =
-      λ r c. c;
+  identities = λ r c. c;
   tiles_media = λ r c. c;
   rows_media = stand_left _ t.rows_media;
   rows_tiles = λ r c. c;
@@ -172,8 +163,7 @@ links_left RowsTiles row t = record {
   tiles = λ r c. c;
   media = λ r c. c;
   rows = λ r c. c;
-  identities =
-      λ r c. c;
+  identities = λ r c. c;
   tiles_media = λ r c. c;
   rows_media = λ r c. c;
   rows_tiles = stand_left _ t.rows_tiles;
@@ -186,8 +176,7 @@ entries_beside receipts moved t = record {
   tiles = λ r c. c;
   media = λ r c. c;
   rows = λ r c. c;
-  identities =
-      λ r c. c;
+  identities = λ r c. c;
   tiles_media = λ r c. c;
   rows_media = λ r c. c;
   rows_tiles = λ r c. c;
@@ -196,9 +185,11 @@ entries_beside receipts moved t = record {
 -- ---- the change alone
 
 pub grown : {E : Type 0} {Fits : Package → Type 0} {after : Package → Package} {old new : State}
-    {r : Result (Unit {0}) E} → Steps (λ _. Grows Fits after) old new r → Steps (λ _. Becomes Fits after) old new r
+    {r : Result (Unit {0}) E} → Steps (λ _. Grows Fits after) old new r
+    → Steps (λ _. Becomes Fits after) old new r
 grown {E} {Fits} {after} = steps_weaker (λ _. Becomes Fits after) (λ _ it f p reads fits. (it f p reads fits).0)
 
 pub shrunk : {E : Type 0} {Fits : Package → Type 0} {after : Package → Package} {old new : State}
-    {r : Result (Unit {0}) E} → Steps (λ _. Shrinks Fits after) old new r → Steps (λ _. Becomes Fits after) old new r
+    {r : Result (Unit {0}) E} → Steps (λ _. Shrinks Fits after) old new r
+    → Steps (λ _. Becomes Fits after) old new r
 shrunk {E} {Fits} {after} = steps_weaker (λ _. Becomes Fits after) (λ _ it f p reads fits. (it f p reads fits).0)

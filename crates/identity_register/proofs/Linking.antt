@@ -1,5 +1,6 @@
 -- Links that come in and go, by the numbers of their ends.
-use Rattle.std.proofs.Common.{◌≡◌, ℕ, List, [], ◌∷◌, ◌++◌, map, Bool, true, false, cond, Some, refl, sym, ap, subst}
+use Rattle.std.proofs.Common.{◌≡◌, ℕ, List, [], ◌∷◌, ◌++◌, map, Bool, true, false, cond, Some, refl}
+use Rattle.std.proofs.Common.{sym, ap, subst}
 use Rattle.std.proofs.Common.{◌∙◌, inl, inr, length, arith}
 use Rattle.std.specs.Prelude.{not, ◌&&◌, ◌==◌, filter, find, bytes_eq, flat_map, unsigned_abs}
 use Rattle.std.specs.List.{AllByRecursion, IsDistinct, list_any}
@@ -46,8 +47,7 @@ says_links : (f : Frame) (p : Package) (t : Tables) (says : Says f p t) (linked 
     → Says f (record p { links = links }) (record t {
       tiles_media = tiles_media;
       rows_media = rows_media;
-      rows_tiles =
-          rows_tiles;
+      rows_tiles = rows_tiles;
     })
 says_links f p t says linked links tiles_media rows_media rows_tiles ends of_links = record {
   good = says.good;
@@ -70,7 +70,8 @@ says_links f p t says linked links tiles_media rows_media rows_tiles ends of_lin
 says_in : (f : Frame) (p : Package) (t : Tables) (says : Says f p t) (linked links : List Relation) (m : Mapping)
     (rows : List MappingRow) → AllByRecursion (HasEnds p) linked → IsDistinct bytes_eq (map link_key linked)
     → links ≡ arranged link_key linked
-    → SaysPairs m says.numbered linked rows → ((k : Mapping) → mapping_is m k ≡ false → mapping_is k m ≡ false
+    → SaysPairs m says.numbered linked rows → ((k : Mapping) → mapping_is m k ≡ false
+    → mapping_is k m ≡ false
     → SaysPairs k says.numbered linked (mapping_rows k t))
     → Says f (record p { links = links }) (with_mapping_rows m rows t)
 says_in f p t says linked links TilesMedia rows ends distinct are here others =
@@ -79,8 +80,7 @@ says_in f p t says linked links TilesMedia rows ends distinct are here others =
       distinct_links = distinct;
       links = are;
       tiles_media = here;
-      rows_media =
-          others RowsMedia refl refl;
+      rows_media = others RowsMedia refl refl;
       rows_tiles = others RowsTiles refl refl;
     })
 says_in f p t says linked links RowsMedia rows ends distinct are here others =
@@ -89,8 +89,7 @@ says_in f p t says linked links RowsMedia rows ends distinct are here others =
       distinct_links = distinct;
       links = are;
       tiles_media = others TilesMedia refl refl;
-      rows_media =
-          here;
+      rows_media = here;
       rows_tiles = others RowsTiles refl refl;
     })
 says_in f p t says linked links RowsTiles rows ends distinct are here others =
@@ -99,8 +98,7 @@ says_in f p t says linked links RowsTiles rows ends distinct are here others =
       distinct_links = distinct;
       links = are;
       tiles_media = others TilesMedia refl refl;
-      rows_media =
-          others RowsMedia refl refl;
+      rows_media = others RowsMedia refl refl;
       rows_tiles = here;
     })
 
@@ -147,7 +145,8 @@ bytes_eq_append (x ∷ xs) b (y ∷ ys) d h = ap (λ v. (x == y) && v) (bytes_eq
     and_assoc true v w = refl
     and_assoc false v w = refl
 
-pub find_itself : (n : Numbered) (ns : List Numbered) → IsDistinct bytes_eq (map (λ m. m.item.identity) ns) → In n ns
+pub find_itself : (n : Numbered) (ns : List Numbered) → IsDistinct bytes_eq (map (λ m. m.item.identity) ns)
+    → In n ns
     → find (λ m. bytes_eq m.item.identity n.item.identity) ns ≡ Some n
 unfolding IsDistinct
 find_itself n [] d i = absurd i
@@ -283,7 +282,8 @@ module _ (f : Frame) (p : Package) (t : Tables) (says : Says f p t) (l : Relatio
       ∙ bytes_eq_swap (link_key l) (link_key x))) says.linked))
 
   -- the link goes, and its row
-  pub unlinks : Says f (record p { links = without link_key (link_key l ∷ []) p.links }) (without_link l.mapping row t)
+  pub unlinks : Says f (record p { links = without link_key (link_key l ∷ []) p.links })
+      (without_link l.mapping row t)
   unlinks =
       says_in f p t says (filter keep says.linked) (without link_key (link_key l ∷ []) p.links) l.mapping
       (filter (λ r. not (is_pair r row)) (mapping_rows l.mapping t)) (All-filter _ keep says.linked says.ends)

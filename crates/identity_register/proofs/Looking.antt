@@ -54,7 +54,8 @@ looked_then {Fact} Answer {a} {b} {c} {r} {x} first is looks = record {
     next = looked Answer is looks
 
 -- what was found says what the package has
-pub sees : {X E : Type 0} {Fact : Tables → Type 0} {Answer : Frame → Package → X → Type 0} {old new : State} {x : X}
+pub sees : {X E : Type 0} {Fact : Tables → Type 0} {Answer : Frame → Package → X → Type 0} {old new : State}
+    {x : X}
     → Looked Fact old new
     → ((f : Frame) (p : Package) (t : Tables) → Says f p t → Fact t → Answer f p x)
     → Looks {X = X} {E = E} (Sees Answer) old new (Ok x)
@@ -86,20 +87,21 @@ tells Answer {old} it says = record {
 }
 
 -- a call that failed tells nothing
-pub fails : {X E : Type 0} {Changes : X → Database → Database → Type 0} {old new : State} (r : Result X E) → IsErr r
+pub fails : {X E : Type 0} {Changes : X → Database → Database → Type 0} {old new : State} (r : Result X E)
+    → IsErr r
     → Stays old new → Looks {X = X} {E = E} Changes old new r
 fails (Ok x) failed it = cc
 fails (Err e) failed it = record {
   rests = it.rests;
   done = λ clean. tt;
   was_open = it.was_open;
-  holds =
-      it.holds;
+  holds = it.holds;
   survives = it.survives;
 }
 
 -- an answer to a question that has two forms
-pub asked : {A X E : Type 0} (Answer : A → Tables → X → Type 0) {a b : A} {old new : State} {r : Result X E} → a ≡ b
+pub asked : {A X E : Type 0} (Answer : A → Tables → X → Type 0) {a b : A} {old new : State} {r : Result X E}
+    → a ≡ b
     → Looks {X = X} {E = E} (Answers (Answer a)) old new r → Looks {X = X} {E = E} (Answers (Answer b)) old new r
 asked Answer {a} {b} {old} {new} {r} e it = subst (λ x. Looks (Answers (Answer x)) old new r) e it
 
@@ -121,7 +123,8 @@ tells_so Last Answer (Ok x) it so = tells Answer (looked Last refl it) (λ t. so
 tells_so Last Answer (Err e) it so = fails (Err e) refl (looks_stays it)
 
 -- what a look tells of the package says what follows from it
-pub sees_so : {X Y E E' : Type 0} (Given : Frame → Package → X → Type 0) {Answer : Frame → Package → Y → Type 0}
+pub sees_so : {X Y E E' : Type 0} (Given : Frame → Package → X → Type 0)
+    {Answer : Frame → Package → Y → Type 0}
     {old new : State} {r : Result X E} {x : X} {y : Y} → r ≡ Ok x → Looks {X = X} {E = E} (Sees Given) old new r
     → ((f : Frame) (p : Package) (t : Tables) → Says f p t → Given f p x → Answer f p y)
     → Looks {X = Y} {E = E'} (Sees Answer) old new (Ok y)

@@ -1,5 +1,6 @@
 -- The mapping tables as one: the rows that the table of a mapping has of a link, whichever mapping the link is of.
-use Rattle.std.proofs.Common.{◌≡◌, ℕ, List, [], ◌∷◌, Bool, true, false, refl, sym, ap, ◌∙◌, inl, inr}
+use Rattle.std.proofs.Common.{◌≡◌, ℕ, List, [], ◌∷◌, Bool, true, false, refl, sym, ap, ◌∙◌, inl}
+use Rattle.std.proofs.Common.{inr}
 use Rattle.std.specs.Prelude.{◌⊎◌, ◌&&◌, if◌then◌else◌, flat_map}
 use Rattle.std.specs.List.{list_any}
 use borrow.Author.Tests.{eq-eqb}
@@ -28,16 +29,19 @@ pub rows_there : (k : Mapping) (ns : List Numbered) (l : Relation)
     ⊎ ((mapping_is l.mapping k ≡ false) × (rows_in k ns l ≡ []))
 rows_there k ns l = one (mapping_is l.mapping k) refl
   where
-    one : (b : Bool) → mapping_is l.mapping k ≡ b → ((l.mapping ≡ k) × (rows_in k ns l ≡ mapping_row ns l ∷ []))
+    one : (b : Bool) → mapping_is l.mapping k ≡ b → ((l.mapping ≡ k)
+        × (rows_in k ns l ≡ mapping_row ns l ∷ []))
         ⊎ ((mapping_is l.mapping k ≡ false) × (rows_in k ns l ≡ []))
     one true e = inl (same_mapping l.mapping k e, ap (λ b. row_if b (mapping_row ns l)) e)
     one false e = inr (e, ap (λ b. row_if b (mapping_row ns l)) e)
 
-pub own_row : (k : Mapping) (ns : List Numbered) (l : Relation) → l.mapping ≡ k → rows_in k ns l ≡ mapping_row ns l ∷ []
+pub own_row : (k : Mapping) (ns : List Numbered) (l : Relation) → l.mapping ≡ k
+    → rows_in k ns l ≡ mapping_row ns l ∷ []
 own_row k ns l e = ap (λ b. row_if b (mapping_row ns l)) (eq-eqb (kind_number (link_kind l.mapping))
     (kind_number (link_kind k)) (ap (λ m. kind_number (link_kind m)) e))
 
-pub no_row_in : (k : Mapping) (ns : List Numbered) (l : Relation) → mapping_is l.mapping k ≡ false → rows_in k ns l ≡ []
+pub no_row_in : (k : Mapping) (ns : List Numbered) (l : Relation) → mapping_is l.mapping k ≡ false
+    → rows_in k ns l ≡ []
 no_row_in k ns l e = ap (λ b. row_if b (mapping_row ns l)) e
 
 -- a test of the rows is a test of the links

@@ -24,8 +24,7 @@ still_says f p at t moment says = record {
   fixed = record {
     spatial_ref_sys = says.fixed.spatial_ref_sys;
     contents = refl;
-    tile_matrix_set =
-        says.fixed.tile_matrix_set;
+    tile_matrix_set = says.fixed.tile_matrix_set;
     tile_matrix = says.fixed.tile_matrix;
     relations = says.fixed.relations;
   };

@@ -26,8 +26,7 @@ module _ (f : Frame) (uuid : List ℕ) (parent : Option (List ℕ)) (depth loan 
       contents = refl;
       tile_matrix_set = refl;
       tile_matrix = refl;
-      relations =
-          refl;
+      relations = refl;
     };
     dated = (moment, (moment, (moment, tt)));
     created = created;
@@ -37,8 +36,7 @@ module _ (f : Frame) (uuid : List ℕ) (parent : Option (List ℕ)) (depth loan 
     numbered = [];
     of_items = record {
       numbers = record { range = tt; numbers = tt; identities = tt; uuids = tt };
-      items =
-          refl;
+      items = refl;
       tiles = refl;
       media = refl;
       rows = refl;

@@ -1,8 +1,11 @@
 -- A number that is free in a kind, and the rows of an item that comes in under it.
-use Rattle.std.proofs.Common.{◌≡◌, ℕ, ℤ, pos, ◌≤ℤ◌, ◌<ℤ◌, ◌+ℤ◌, arith, FitsSigned, w64, to_z, of_z, to_z-of_z, List}
-use Rattle.std.proofs.Common.{[], ◌∷◌, map, Bool, true, false, Option, Some, None, Result, Ok, refl, sym, ap, subst}
+use Rattle.std.proofs.Common.{◌≡◌, ℕ, ℤ, pos, ◌≤ℤ◌, ◌<ℤ◌, ◌+ℤ◌, arith, FitsSigned, w64}
+use Rattle.std.proofs.Common.{to_z, of_z, to_z-of_z, List}
+use Rattle.std.proofs.Common.{[], ◌∷◌, map, Bool, true, false, Option, Some, None, Result, Ok, refl, sym, ap}
+use Rattle.std.proofs.Common.{subst}
 use Rattle.std.proofs.Common.{◌∙◌}
-use Rattle.std.specs.Prelude.{int_le, ◌&&◌, ◌||◌, bytes_eq, cond, if◌then◌else◌, filter, flat_map, unsigned_abs}
+use Rattle.std.specs.Prelude.{int_le, ◌&&◌, ◌||◌, bytes_eq, cond, if◌then◌else◌, filter, flat_map}
+use Rattle.std.specs.Prelude.{unsigned_abs}
 use Rattle.std.specs.List.{AllByRecursion, list_any}
 use Rattle.std.specs.Ordering.{int_eq}
 use Rattle.std.proofs.lemmas.Bool.{and_from, and_parts, or_from, false_from_ne_true}
@@ -149,8 +152,7 @@ module _ (f : Frame) (p : Package) (t : Tables) (says : Says f p t) where
       ap (λ x. has identity_shape.key (identity_shape.key (identity_row n)) x.identities) e
       ∙ identity_free (kind_number (kind_of n.item.content)) n.number apart in
       sym (identity free ∙ ap {A = Tables} (λ x. record x {
-        identities =
-            put identity_shape.key (identity_row n) x.identities;
+        identities = put identity_shape.key (identity_row n) x.identities;
       }) e)
 
 item_in : (n : Numbered) (old mid last new : Database) → Answers (IsGap (identity_row n).kind) n.number old mid
@@ -195,15 +197,18 @@ content_put {E} number a b {old} {new} {r} same makes survives =
 -- ---- numbers from 1 to the greatest, in turn
 
 -- each of them is within the range
-pub within_from : (n : ℤ) → pos 1 ≤ℤ n → int_le n greatest_number ≡ true → is_within (pos 1) greatest_number n ≡ true
+pub within_from : (n : ℤ) → pos 1 ≤ℤ n → int_le n greatest_number ≡ true
+    → is_within (pos 1) greatest_number n ≡ true
 within_from n low high = and_from (int_le (pos 1) n) (int_le n greatest_number) (grind (arith, ints)) high
 
 -- and the next one is from 1 on
-pub next_from : (n : ℤ) → pos 1 ≤ℤ n → int_le n greatest_number ≡ true → pos 1 ≤ℤ to_z w64 (of_z w64 (n +ℤ pos 1))
+pub next_from : (n : ℤ) → pos 1 ≤ℤ n → int_le n greatest_number ≡ true
+    → pos 1 ≤ℤ to_z w64 (of_z w64 (n +ℤ pos 1))
 next_from n low high = let fits : FitsSigned w64 (n +ℤ pos 1) =
     omega (arith, ints) in simp (to_z-of_z, fits) (omega (arith, ints))
 
-pub next_is : (n : ℤ) → pos 1 ≤ℤ n → int_le n greatest_number ≡ true → n +ℤ pos 1 ≡ to_z w64 (of_z w64 (n +ℤ pos 1))
+pub next_is : (n : ℤ) → pos 1 ≤ℤ n → int_le n greatest_number ≡ true
+    → n +ℤ pos 1 ≡ to_z w64 (of_z w64 (n +ℤ pos 1))
 next_is n low high = let fits : FitsSigned w64 (n +ℤ pos 1) = omega (arith, ints) in sym (to_z-of_z fits)
 
 -- ---- free numbers
@@ -226,7 +231,8 @@ below_is_other : (a b : ℤ) → a <ℤ b → int_eq a b ≡ false
 below_is_other a b low = false_from_ne_true (int_eq a b) (λ same. <ℤ_irrefl
     (subst (λ y. y <ℤ b) ((signed_Decides a b).0 same) low))
 
-next_within : (n : ℤ) → is_within (pos 1) (pos 999999) n ≡ true → is_within (pos 1) greatest_number (n +ℤ pos 1) ≡ true
+next_within : (n : ℤ) → is_within (pos 1) (pos 999999) n ≡ true
+    → is_within (pos 1) greatest_number (n +ℤ pos 1) ≡ true
 next_within n low = let parts : (int_le (pos 1) n ≡ true) × (int_le n (pos 999999) ≡ true) =
     and_parts (int_le (pos 1) n) (int_le n (pos 999999)) low in and_from (int_le (pos 1) (n +ℤ pos 1))
     (int_le (n +ℤ pos 1) greatest_number) (grind (arith, ints)) (grind (arith, ints))
@@ -279,7 +285,8 @@ greatest_steps kind told survives = tells_steps (λ t. IsGreatest (λ x. x.local
 
 pub after_steps : {E F : Type 0} (kind : ℤ) (found : Option ℤ) (number : ℤ) {old new : State}
     → number_after found ≡ Some number
-    → Steps {E = E} (Answers (λ t. IsGreatest (λ x. x.local_id) (filter (λ x. int_eq x.kind kind) t.identities))) old
+    → Steps {E = E} (Answers (λ t. IsGreatest (λ x. x.local_id) (filter (λ x. int_eq x.kind kind) t.identities)))
+    old
     new (Ok found) → Steps {E = F} (Answers (FindsGap kind)) old new (Ok (Some number))
 after_steps {E} {F} kind found number {old} after told = steps_answer {E = E} {F = F} (Answers (FindsGap kind))
     (Some number) (λ it. (it.0, λ formed. after_greatest kind (tables_of old.now) found number (it.1 formed) after))
@@ -314,7 +321,8 @@ gap_of {E} {kind} {k} {old} {new} {r} same gap = subst (λ z. Steps (Answers (Fi
 
 -- an identity row, by what its parts are
 pub identity_makes : {E : Type 0} (kind k number : ℤ) (text u : List ℕ) (old new : State) (r : Result (Unit {0}) E)
-    → kind ≡ k → text ≡ u → Makes (Adds identities (record { kind = kind; local_id = number; uuid = text })) old new r
+    → kind ≡ k → text ≡ u → Makes (Adds identities (record { kind = kind; local_id = number; uuid = text }))
+    old new r
     → Makes (Adds identities (record { kind = k; local_id = number; uuid = u })) old new r
 identity_makes {E} kind k number text u old new r same texts makes =
     subst (λ z. Makes (Adds identities (record { kind = z; local_id = number; uuid = u })) old new r) same

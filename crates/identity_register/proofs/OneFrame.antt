@@ -1,5 +1,6 @@
 -- The fixed rows are those of one frame.
-use Rattle.std.proofs.Common.{◌≡◌, ℕ, zero, suc, ◌+◌, ◌<◌, ◌^◌, ℤ, pos, negsuc, ◌+ℤ◌, ◌-ℤ◌, ◌*ℤ◌, ◌≤ℤ◌, List, ◌∷◌}
+use Rattle.std.proofs.Common.{◌≡◌, ℕ, zero, suc, ◌+◌, ◌<◌, ◌^◌, ℤ, pos, negsuc, ◌+ℤ◌}
+use Rattle.std.proofs.Common.{◌-ℤ◌, ◌*ℤ◌, ◌≤ℤ◌, List, ◌∷◌}
 use Rattle.std.proofs.Common.{map, true, refl, sym, ap, ◌∙◌, length, arith}
 use Rattle.std.specs.Prelude.{unsigned_abs}
 use Rattle.std.specs.List.{range_with_len}
@@ -57,7 +58,8 @@ one_frame f g t good_f good_g one two =
     (above g.levels some_g) rows in
     let zoom_plus : (f.first_zoom +ℤ pos 0) ≡ (g.first_zoom +ℤ pos 0) = ap (λ r. r.zoom_level) row in
     let zoom : f.first_zoom ≡ g.first_zoom = omega (arith, ints) in
-    let width : f.matrix_width ≡ g.matrix_width = sym (own_width f) ∙ ap (λ r. r.matrix_width) row ∙ own_width g in
+    let width : f.matrix_width ≡ g.matrix_width = sym (own_width f) ∙ ap (λ r. r.matrix_width) row
+    ∙ own_width g in
     let height : f.matrix_height ≡ g.matrix_height = sym (own_height f) ∙ ap (λ r. r.matrix_height) row
     ∙ own_height g in
     let tile_width : f.tile_width ≡ g.tile_width = ap (λ r. r.tile_width) row in

@@ -1,5 +1,6 @@
 -- The tables read as at most one package.
-use Rattle.std.proofs.Common.{◌≡◌, ℕ, ◌+◌, ◌*◌, ◌≤◌, pos, List, [], ◌∷◌, ◌++◌, map, Bool, true, false, cond, Option}
+use Rattle.std.proofs.Common.{◌≡◌, ℕ, ◌+◌, ◌*◌, ◌≤◌, pos, List, [], ◌∷◌, ◌++◌, map}
+use Rattle.std.proofs.Common.{Bool, true, false, cond, Option}
 use Rattle.std.proofs.Common.{Some, None, refl, sym, ap, subst, ◌∙◌, inl, inr, length, arith}
 use Rattle.std.specs.Prelude.{◌⊎◌, ◌==◌, ◌&&◌, bytes_eq, flat_map, unsigned_abs, Contains, nat_lt}
 use Rattle.std.specs.List.{IsDistinct, list_all, enumerate_from}
@@ -88,7 +89,8 @@ distinct_arranged key (x ∷ xs) d =
     (All-of_map (λ k. bytes_eq (key x) k ≡ false) key xs d.0)))
 
 distinct_by : {X : Type 0} (f g : X → List ℕ) → ((x y : X) → bytes_eq (f x) (f y) ≡ false
-    → bytes_eq (g x) (g y) ≡ false) → (xs : List X) → IsDistinct bytes_eq (map f xs) → IsDistinct bytes_eq (map g xs)
+    → bytes_eq (g x) (g y) ≡ false) → (xs : List X) → IsDistinct bytes_eq (map f xs)
+    → IsDistinct bytes_eq (map g xs)
 unfolding IsDistinct
 distinct_by f g so [] d = tt
 distinct_by f g so (x ∷ xs) d = (
@@ -121,7 +123,8 @@ from_place n z (x ∷ xs) i = elim i [
 
 -- two lists are one where they have the same element in each place
 pub by_places : {X : Type 0} (n : ℕ) (xs ys : List X) → ((z : ℕ × X) → In z (enumerate_from n xs)
-    → In z (enumerate_from n ys)) → ((z : ℕ × X) → In z (enumerate_from n ys) → In z (enumerate_from n xs)) → xs ≡ ys
+    → In z (enumerate_from n ys)) → ((z : ℕ × X) → In z (enumerate_from n ys) → In z (enumerate_from n xs))
+    → xs ≡ ys
 by_places n [] [] to fro = refl
 by_places n [] (y ∷ ys) to fro = absurd (fro (n, y) (inl refl))
 by_places n (x ∷ xs) [] to fro = absurd (to (n, x) (inl refl))
@@ -181,7 +184,8 @@ some_text a h e =
     let same : 0 ≡ length (encode_lower a) = ap length e in
     omega arith
 
-same_print : (a b : Option (List ℕ)) → is_fit_print a ≡ true → is_fit_print b ≡ true → print_text a ≡ print_text b
+same_print : (a b : Option (List ℕ)) → is_fit_print a ≡ true → is_fit_print b ≡ true
+    → print_text a ≡ print_text b
     → a ≡ b
 unfolding is_fit_print print_text
 same_print None None h g e = refl
@@ -243,8 +247,7 @@ same_receipt s r theirs mine e items =
       at = at n;
       line = line n;
       source = source n;
-      target =
-          target n;
+      target = target n;
       items = items n;
       tiles = tiles n;
       media = media n;
@@ -254,7 +257,8 @@ same_receipt s r theirs mine e items =
     }
 
 -- an element is known by its key
-one_of_key : {X : Type 0} (key : X → List ℕ) (xs : List X) (a b : X) → IsDistinct bytes_eq (map key xs) → In a xs
+one_of_key : {X : Type 0} (key : X → List ℕ) (xs : List X) (a b : X) → IsDistinct bytes_eq (map key xs)
+    → In a xs
     → In b xs → key a ≡ key b → a ≡ b
 unfolding IsDistinct
 one_of_key key [] a b d i j e = absurd i
@@ -340,8 +344,7 @@ module _ (f : Frame) (t : Tables) where
             zoom_level = z;
             tile_column = c;
             tile_row = w;
-            tile_data =
-                b;
+            tile_data = b;
           } in (
             refl,
             Contains-In row t.tiles (subst (In row) (sym one.tiles)
@@ -380,7 +383,8 @@ module _ (f : Frame) (t : Tables) where
   -- ---- links
 
   -- a link by its key
-  same_link : (a b : Relation) → IsUuid a.base → IsUuid b.base → bytes_eq (link_key a) (link_key b) ≡ true → a ≡ b
+  same_link : (a b : Relation) → IsUuid a.base → IsUuid b.base → bytes_eq (link_key a) (link_key b) ≡ true
+      → a ≡ b
   same_link a b ha hb e =
       let key = and_parts (kind_number (link_kind a.mapping) == kind_number (link_kind b.mapping))
       (bytes_eq (a.base ++ a.other) (b.base ++ b.other)) e in
@@ -478,8 +482,7 @@ module _ (f : Frame) (t : Tables) where
         depth = depth n;
         loan = loan n;
         items = items n;
-        links =
-            links n;
+        links = links n;
         receipts = receipts n;
       }
     where

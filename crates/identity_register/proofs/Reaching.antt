@@ -1,8 +1,11 @@
 -- What a cut asks of a package: from the rows of ranges and of ends to identities and links.
-use Rattle.std.proofs.Common.{◌≡◌, ℕ, ℤ, pos, List, [], ◌∷◌, ◌++◌, map, cond, Bool, true, false, Result, Ok, Err}
-use Rattle.std.proofs.Common.{IsTrue, refl, sym, ap, subst, ◌∙◌, true≢false, inl, inr, arith, Ordering, Less, Equal}
+use Rattle.std.proofs.Common.{◌≡◌, ℕ, ℤ, pos, List, [], ◌∷◌, ◌++◌, map, cond, Bool, true, false}
+use Rattle.std.proofs.Common.{Result, Ok, Err}
+use Rattle.std.proofs.Common.{IsTrue, refl, sym, ap, subst, ◌∙◌, true≢false, inl, inr, arith, Ordering, Less}
+use Rattle.std.proofs.Common.{Equal}
 use Rattle.std.proofs.Common.{Greater}
-use Rattle.std.specs.Prelude.{◌⊎◌, ◌&&◌, ◌||◌, if◌then◌else◌, filter, flat_map, bytes_eq, unsigned_abs, Contains}
+use Rattle.std.specs.Prelude.{◌⊎◌, ◌&&◌, ◌||◌, if◌then◌else◌, filter, flat_map, bytes_eq}
+use Rattle.std.specs.Prelude.{unsigned_abs, Contains}
 use Rattle.std.specs.Prelude.{IfOk, IsPermutation, int_le, int_lt}
 use Rattle.std.specs.List.{AllByRecursion, AllZip, list_any}
 use Rattle.std.specs.Ordering.{int_eq, nat_cmp, ordering_then, ordering_reverse, is_lt}
@@ -87,8 +90,7 @@ stays_itself g shuts settles h rests = record {
     shield = λ s. s;
     counts = le_refl _;
     limit = refl;
-    closes =
-        λ clean is_open. inl is_open;
+    closes = λ clean is_open. inl is_open;
     crash = λ clean db may. inl may;
   };
 }
@@ -189,7 +191,8 @@ of_one_kind k (x ∷ xs) h all = (each xs h.0 all.1, of_one_kind k xs h.1 all.1)
         → AllByRecursion (λ id. is_before x.identity id ≡ true) (identities ys)
     each [] before kinds = tt
     each (y ∷ ys) before kinds = (
-      sym (kind_alike k x.identity y.identity) ∙ ap (λ v. is_before (v ∷ x.identity) (k ∷ y.identity)) (sym all.0)
+      sym (kind_alike k x.identity y.identity) ∙ ap (λ v. is_before (v ∷ x.identity) (k ∷ y.identity))
+          (sym all.0)
           ∙ ap (λ v. is_before (item_key x) (v ∷ y.identity)) (sym kinds.0) ∙ before.0,
       each ys before.1 kinds.1,
     )
@@ -209,10 +212,12 @@ module _ (f : Frame) (p : Package) (t : Tables) (says : Says f p t) where
   item_in n i = subst (In n.item) (sym says.items) (to_arranged item_key n.item (map (λ m. m.item) says.numbered)
       (In-map (λ m. m.item) n says.numbered i))
 
-  module _ {R : Type 0} (kind : MovedKind) (number : R → ℤ) (rows : ℤ → Content → List R) (key : R → List ℕ)
+  module _ {R : Type 0} (kind : MovedKind) (number : R → ℤ) (rows : ℤ → Content → List R)
+      (key : R → List ℕ)
       (table : List R) (is : table ≡ arranged key (flat_map (λ n. rows n.number n.item.content) says.numbered))
       (keeps : R → Bool) (test : Content → Bool)
-      (of : (k : ℤ) (content : Content) (r : R) → In r (rows k content) → (k ≡ number r) × (kind_of content ≡ kind)
+      (of : (k : ℤ) (content : Content) (r : R) → In r (rows k content) → (k ≡ number r)
+      × (kind_of content ≡ kind)
       × (keeps r ≡ test content)) (row : (k : ℤ) (content : Content) → test content ≡ true → (r : R)
       × In r (rows k content)) where
     abbrev passing : List Item
@@ -288,7 +293,8 @@ module _ (f : Frame) (p : Package) (t : Tables) (says : Says f p t) where
   five true true false d e = refl
   five true true true d e = refl
 
-  tile_of : (z : ℤ) (s : Span) (k : ℤ) (content : Content) (r : TileRow) → In r (tile_rows k content) → (k ≡ r.id)
+  tile_of : (z : ℤ) (s : Span) (k : ℤ) (content : Content) (r : TileRow) → In r (tile_rows k content)
+      → (k ≡ r.id)
       × (kind_of content ≡ TileItem) × (is_between z s r ≡ stands_in z s content)
   tile_of z s k (Tile zoom c w b) r i = elim i [
     | inl e ↦ (
@@ -310,8 +316,7 @@ module _ (f : Frame) (p : Package) (t : Tables) (says : Says f p t) where
       zoom_level = zoom;
       tile_column = c;
       tile_row = w;
-      tile_data =
-          b;
+      tile_data = b;
     },
     inl refl,
   )
@@ -327,11 +332,16 @@ module _ (f : Frame) (p : Package) (t : Tables) (says : Says f p t) where
 
   -- ---- rows
 
-  row_of : (g : Ground) (k : ℤ) (content : Content) (r : AttributeRow) → In r (attribute_rows k content) → (k ≡ r.id)
+  row_of : (g : Ground) (k : ℤ) (content : Content) (r : AttributeRow) → In r (attribute_rows k content)
+      → (k ≡ r.id)
       × (kind_of content ≡ RowItem) × (is_on g r ≡ lies_on g content)
   row_of g k (Tile z c w b) r i = absurd i
   row_of g k (Media c b) r i = absurd i
-  row_of g k (Row x y c l) r i = elim i [ inl e ↦ (ap (λ x. x.id) e, refl, ap (is_on g) (sym e)) | inr j ↦ absurd j ]
+  row_of g k (Row x y c l) r i = elim i [
+    | inl e ↦ (ap (λ x. x.id) e, refl, ap (is_on g) (sym e))
+    | inr j
+        ↦ absurd j
+  ]
 
   row_row : (g : Ground) (k : ℤ) (content : Content) → lies_on g content ≡ true → (r : AttributeRow)
       × In r (attribute_rows k content)
@@ -380,7 +390,8 @@ module _ (f : Frame) (p : Package) (t : Tables) (says : Says f p t) where
                 ↦ unknown (other_kind l.mapping) l.other ends.1 e
           ]
 
-  module _ (id : List ℕ) (n : Numbered) (i : In n says.numbered) (named : n.item.identity ≡ id) (fit : IsUuid id) where
+  module _ (id : List ℕ) (n : Numbered) (i : In n says.numbered) (named : n.item.identity ≡ id)
+      (fit : IsUuid id) where
     abbrev kind : ℤ
     kind = (identity_row n).kind
 
@@ -389,15 +400,15 @@ module _ (f : Frame) (p : Package) (t : Tables) (says : Says f p t) where
       row = identity_row n;
       there = row_stored f t p says n i;
       kind_is = refl;
-      number_is =
-          refl;
+      number_is = refl;
       identity = ap uuid_text named;
       fit = fit;
     }
 
     -- an end of the kind is the item where it has its number, and another end is not
     end_told : (k : MovedKind) (x : List ℕ) → has_kind p k x ≡ true → (b : Bool)
-        → int_eq (pos (kind_number k)) kind ≡ b → (b && int_eq (number_of says.numbered x) n.number) ≡ bytes_eq x id
+        → int_eq (pos (kind_number k)) kind ≡ b → (b && int_eq (number_of says.numbered x) n.number)
+        ≡ bytes_eq x id
     end_told k x here b e =
         ap (λ v. v && int_eq (number_of says.numbered x) n.number)
         (sym e ∙ pos_same (kind_number k) (kind_number (kind_of n.item.content))) ∙ end_is f p t says n i k x here
@@ -405,9 +416,12 @@ module _ (f : Frame) (p : Package) (t : Tables) (says : Says f p t) where
 
     two_kinds : (m : Mapping) (k : ℤ) → int_eq (pos (kind_number (base_kind m))) k ≡ true
         → int_eq (pos (kind_number (other_kind m))) k ≡ true → ⊥
-    two_kinds TilesMedia k g h = true≢false (sym (subst (λ v. int_eq (pos 1) v ≡ true) (sym (int_same (pos 2) k h)) g))
-    two_kinds RowsMedia k g h = true≢false (sym (subst (λ v. int_eq (pos 3) v ≡ true) (sym (int_same (pos 2) k h)) g))
-    two_kinds RowsTiles k g h = true≢false (sym (subst (λ v. int_eq (pos 3) v ≡ true) (sym (int_same (pos 1) k h)) g))
+    two_kinds TilesMedia k g h = true≢false (sym (subst (λ v. int_eq (pos 1) v ≡ true)
+        (sym (int_same (pos 2) k h)) g))
+    two_kinds RowsMedia k g h = true≢false (sym (subst (λ v. int_eq (pos 3) v ≡ true)
+        (sym (int_same (pos 2) k h)) g))
+    two_kinds RowsTiles k g h = true≢false (sym (subst (λ v. int_eq (pos 3) v ≡ true)
+        (sym (int_same (pos 1) k h)) g))
 
     at_end : (l : Relation) → HasEnds p l → is_end l.mapping kind ≡ true
         → int_eq (number_at l.mapping kind (mapping_row says.numbered l)) n.number ≡ has_end id l
@@ -510,7 +524,8 @@ module _ (f : Frame) (p : Package) (t : Tables) (says : Says f p t) where
             moved x (first ++ second) found moves (In-append x first second
             (elim (either (mapping_is x.mapping one) (mapping_is x.mapping another) (sym (are x.mapping) ∙ end)) [
               | inl e ↦ inl (is_made one first (firsts name) x there (same_mapping x.mapping one e) end it.1)
-              | inr e ↦ inr (is_made another second (seconds name) x there (same_mapping x.mapping another e) end it.1)
+              | inr e ↦ inr (is_made another second (seconds name) x there (same_mapping x.mapping another e) end
+                  it.1)
             ]))
 
   -- the same by the row of the item
@@ -533,7 +548,8 @@ base_itself TilesMedia = refl
 base_itself RowsMedia = refl
 base_itself RowsTiles = refl
 
-other_is_no_base : (m : Mapping) → int_eq (pos (kind_number (base_kind m))) (pos (kind_number (other_kind m))) ≡ false
+other_is_no_base : (m : Mapping) → int_eq (pos (kind_number (base_kind m))) (pos (kind_number (other_kind m)))
+    ≡ false
 other_is_no_base TilesMedia = refl
 other_is_no_base RowsMedia = refl
 other_is_no_base RowsTiles = refl
@@ -551,7 +567,8 @@ module _ (m : Mapping) (number : ℤ) (id : List ℕ) (t : Tables) (pairs : List
     each pairs others (those_pass (λ r. int_eq r.base_id number) (mapping_rows m t) pairs those) named,
   )
     where
-      each : (rs : List MappingRow) (xs : List (List ℕ)) → AllByRecursion (λ r. int_eq r.base_id number ≡ true) rs
+      each : (rs : List MappingRow) (xs : List (List ℕ)) → AllByRecursion (λ r. int_eq r.base_id number ≡ true)
+          rs
           → AllZip (IsNamed t.identities (pos (kind_number (other_kind m)))) (map (λ r. r.related_id) rs) xs
           → AllZip (IsLinkOf m t.identities) rs (map (λ other. record { mapping = m; base = id; other = other }) xs)
       each [] [] pass zipped = tt
@@ -574,7 +591,8 @@ module _ (m : Mapping) (number : ℤ) (id : List ℕ) (t : Tables) (pairs : List
     each pairs bases (those_pass (λ r. int_eq r.related_id number) (mapping_rows m t) pairs those) named,
   )
     where
-      each : (rs : List MappingRow) (xs : List (List ℕ)) → AllByRecursion (λ r. int_eq r.related_id number ≡ true) rs
+      each : (rs : List MappingRow) (xs : List (List ℕ)) → AllByRecursion
+          (λ r. int_eq r.related_id number ≡ true) rs
           → AllZip (IsNamed t.identities (pos (kind_number (base_kind m)))) (map (λ r. r.base_id) rs) xs
           → AllZip (IsLinkOf m t.identities) rs (map (λ base. record { mapping = m; base = base; other = id }) xs)
       each [] [] pass zipped = tt
@@ -598,8 +616,7 @@ asks_of {X = X} {E = E} {Answer = Answer} g {old} {new} r it = record {
   showed = λ p s. record {
     clean = omega (arith, it.survives.clean, s.clean);
     is_open = it.was_open s.is_open;
-    frame =
-        s.frame;
+    frame = s.frame;
     reads = subst (Reads s.frame p) (it.holds s.is_open).now_is s.reads;
   };
   told = tell r it.done;

@@ -1,5 +1,6 @@
 -- A kind of which each number is taken has as many items as may be.
-use Rattle.std.proofs.Common.{◌≡◌, ◌⊎◌, inl, inr, ⊎_elim, ℕ, zero, suc, ℤ, pos, ◌≤◌, ◌≤ℤ◌, ◌<ℤ◌, ◌+ℤ◌, List, [], ◌∷◌}
+use Rattle.std.proofs.Common.{◌≡◌, ◌⊎◌, inl, inr, ⊎_elim, ℕ, zero, suc, ℤ, pos, ◌≤◌}
+use Rattle.std.proofs.Common.{◌≤ℤ◌, ◌<ℤ◌, ◌+ℤ◌, List, [], ◌∷◌}
 use Rattle.std.proofs.Common.{map, length, Bool, true, false, Option, Some, None, Ok, refl, sym, ap, subst, ◌∙◌}
 use Rattle.std.proofs.Common.{arith, eq-eqb, ◌==◌}
 use Rattle.std.specs.Prelude.{int_le, int_lt, ◌&&◌, filter, count_by, cond}
@@ -55,7 +56,8 @@ upto_low zero = tt
 upto_low (suc n) = (
   (grind (arith, ints), omega (arith, ints)),
   All-weaker
-      (λ z. (int_le (pos 1) z ≡ true) × (z ≤ℤ pos n)) (λ z. (int_le (pos 1) z ≡ true) × (z ≤ℤ pos (suc n)))
+      (λ z. (int_le (pos 1) z ≡ true) × (z ≤ℤ pos n)) (λ z. (int_le (pos 1) z ≡ true)
+      × (z ≤ℤ pos (suc n)))
       (λ z h. (h.0, let low = h.1 in omega (arith, ints))) (upto n) (upto_low n),
 )
 
@@ -81,7 +83,8 @@ upto_within n q there =
     (and_from (int_le (pos 1) at.0) (int_le at.0 (pos n)) h.0 (grind (arith, ints)))
 
 -- where each number up to one is among some, there are as many of them
-as_many : (n : ℕ) (ks : List ℤ) → ((q : ℤ) → is_within (pos 1) (pos n) q ≡ true → list_any (int_eq q) ks ≡ true)
+as_many : (n : ℕ) (ks : List ℤ) → ((q : ℤ) → is_within (pos 1) (pos n) q ≡ true
+    → list_any (int_eq q) ks ≡ true)
     → n ≤ length ks
 as_many n ks all = subst (λ m. m ≤ length ks) (upto_length n)
     (length-le_from_is_member int_eq_equiv (upto n) ks (upto_distinct n) (λ q there. all q (upto_within n q there)))
@@ -121,7 +124,8 @@ module _ (f : Frame) (p : Package) (t : Tables) (says : Says f p t) (kind : Move
       (map (λ n. n.item) says.numbered))
       ∙ ap (count_by (λ i. kind_is kind (kind_of i.content))) (sym says.items)
 
-  pub full : AreTaken (pos (kind_number kind)) t → greatest_items ≤ count_by (λ i. kind_is kind (kind_of i.content))
+  pub full : AreTaken (pos (kind_number kind)) t → greatest_items ≤ count_by
+      (λ i. kind_is kind (kind_of i.content))
       p.items
   full taken = subst (λ n. greatest_items ≤ n) counted (as_many 1000000
       (map (λ m. m.number) (filter of_kind says.numbered)) (λ q range. number_there q (taken q range)))
@@ -154,7 +158,8 @@ below_or_same q k less = elim (int_lt q k) as (λ v. int_lt q k ≡ v → (q <�
     [ true ↦ λ low. inl (omega (arith, ints)) | false ↦ λ high. inr (omega (arith, ints)) ] refl
 
 pub one_more_taken : {E F G : Type 0} (kind number next : ℤ) (taken : Bool) {old mid new : State}
-    → number +ℤ pos 1 ≡ next → taken ≡ true → Steps {X = Unit {0}} {E = E} (λ _. SoFar kind number) old mid (Ok tt)
+    → number +ℤ pos 1 ≡ next → taken ≡ true → Steps {X = Unit {0}} {E = E} (λ _. SoFar kind number) old
+    mid (Ok tt)
     → Steps {E = F} (Answers (IsTaken kind number)) mid new (Ok taken)
     → Steps {X = Unit {0}} {E = G} (λ _. SoFar kind next) old new (Ok tt)
 one_more_taken {E} {F} {G} kind number next taken {old} {mid} {new} is_next is before now =
@@ -184,7 +189,8 @@ all_taken {E} {F} kind number past before =
 
 -- ---- what was found
 
-pub gap_found : {E F : Type 0} (kind : ℤ) (found : Option ℤ) (number : ℤ) {old new : State} → found ≡ Some number
+pub gap_found : {E F : Type 0} (kind : ℤ) (found : Option ℤ) (number : ℤ) {old new : State}
+    → found ≡ Some number
     → Steps {E = E} (Answers (FindsGap kind)) old new (Ok found)
     → Steps {E = F} (Answers (IsGap kind)) old new (Ok number)
 gap_found {E} {F} kind found number {old} {new} is steps = steps_answer {E = E} {F = F} (Answers (IsGap kind)) number
@@ -205,4 +211,5 @@ pub came : {E F : Type 0} (i : Item) (there : Bool) {old new : State} → there 
     → Steps {E = E} (ComesIn i) old new (Ok there) → Steps {X = Unit {0}} {E = F}
     (λ _. Grows (IsNewItem i.identity) (item_added i)) old new (Ok tt)
 came {E} {F} i there {old} {new} is steps = steps_answer {E = E} {F = F}
-    (λ _. Grows (IsNewItem i.identity) (item_added i)) tt (λ it. subst (λ b. ComesIn i b old.now new.now) is it) steps
+    (λ _. Grows (IsNewItem i.identity) (item_added i)) tt (λ it. subst (λ b. ComesIn i b old.now new.now) is it)
+    steps

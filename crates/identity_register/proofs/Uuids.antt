@@ -1,5 +1,6 @@
 -- What reads as a UUID has 16 bytes (RFC 9562, section 4).
-use Rattle.std.proofs.Common.{◌≡◌, ℕ, zero, suc, ◌<◌, ◌+◌, ◌*◌, List, [], ◌∷◌, Bool, true, false, cond, Some, None}
+use Rattle.std.proofs.Common.{◌≡◌, ℕ, zero, suc, ◌<◌, ◌+◌, ◌*◌, List, [], ◌∷◌, Bool, true}
+use Rattle.std.proofs.Common.{false, cond, Some, None}
 use Rattle.std.proofs.Common.{refl, sym, ap, ◌∙◌, length, get_or, arith}
 use Rattle.std.specs.Prelude.{◌&&◌, ◌==◌}
 use Rattle.std.specs.List.{AllByRecursion, list_all}
@@ -17,11 +18,13 @@ use Rattle.sheet_types.proofs.Fitting.{bytes_fit}
 use Rattle.sheet_types.proofs.UuidTexts.{parsed_36}
 
 -- what holds at each index holds of all
-pub small_at : (xs : List ℕ) → ((k : ℕ) → k < length xs → get_or xs k 0 < 256) → AllByRecursion (λ b. b < 256) xs
+pub small_at : (xs : List ℕ) → ((k : ℕ) → k < length xs → get_or xs k 0 < 256)
+    → AllByRecursion (λ b. b < 256) xs
 small_at xs h = recursion_from_All (λ b. b < 256) xs (All-from_get_or (λ b. b < 256) xs 0 h)
 
 -- what holds of all holds at each index
-all_at : (test : ℕ → Bool) (xs : List ℕ) (k : ℕ) → list_all test xs ≡ true → k < length xs → test (get_or xs k 0) ≡ true
+all_at : (test : ℕ → Bool) (xs : List ℕ) (k : ℕ) → list_all test xs ≡ true → k < length xs
+    → test (get_or xs k 0) ≡ true
 all_at test [] k h lt = absurd (omega arith)
 all_at test (x ∷ xs) zero h lt = (and_parts (test x) (list_all test xs) h).0
 all_at test (x ∷ xs) (suc k) h lt = all_at test xs k (and_parts (test x) (list_all test xs) h).1 (omega arith)

@@ -19,7 +19,8 @@ use Rattle.identity_register.specs.declared.look_ups.LinkState.TheVariants.{Unkn
 abbrev pub is_named_by : Mapping → ℤ → ℤ → Tables → Bool
 is_named_by m kind number t =
     (int_eq (pos (kind_number (base_kind m))) kind && list_any (λ r. int_eq r.base_id number) (mapping_rows m t))
-    || (int_eq (pos (kind_number (other_kind m))) kind && list_any (λ r. int_eq r.related_id number) (mapping_rows m t))
+    || (int_eq (pos (kind_number (other_kind m))) kind && list_any (λ r. int_eq r.related_id number)
+    (mapping_rows m t))
 
 -- some mapping table does
 abbrev pub is_linked_row : ℤ → ℤ → Tables → Bool
@@ -54,8 +55,7 @@ IsContentOf kind number t (Tile zoom column row bytes) = (kind ≡ pos 1)
       zoom_level = zoom;
       tile_column = column;
       tile_row = row;
-      tile_data =
-          bytes;
+      tile_data = bytes;
     })
 IsContentOf kind number t (Media content_type bytes) = (kind ≡ pos 2)
     × Contains t.media (record { id = number; «data» = bytes; content_type = content_type })

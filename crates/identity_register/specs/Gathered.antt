@@ -44,7 +44,8 @@ pub record IsItemOf (placed : List Placed) (r : IdentityRow) (i : Item) : Type 0
 
 -- all items of the package that the tables say, where these are all identity rows
 abbrev pub AreItemsBy : List IdentityRow → Tables → List Item → Type 0
-AreItemsBy rows t items = (f : Frame) (p : Package) → Says f p t → IsPermutation t.identities rows → items ≡ p.items
+AreItemsBy rows t items = (f : Frame) (p : Package) → Says f p t → IsPermutation t.identities rows
+    → items ≡ p.items
 
 -- ---- links
 
@@ -70,4 +71,5 @@ AreLinksIn m rows t links = (stored : List MappingRow) × IsPermutation (mapping
 
 -- all links of the package that the tables say, where these are all identity rows
 abbrev pub AreLinksBy : List IdentityRow → Tables → List Relation → Type 0
-AreLinksBy rows t links = (f : Frame) (p : Package) → Says f p t → IsPermutation t.identities rows → links ≡ p.links
+AreLinksBy rows t links = (f : Frame) (p : Package) → Says f p t → IsPermutation t.identities rows
+    → links ≡ p.links

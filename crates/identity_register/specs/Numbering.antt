@@ -1,7 +1,8 @@
 -- How the rows of a package's tables stand for items under lasting identities. Items are rows of user data tables
 -- (OGC GeoPackage 1.3, 2.2.8 and 2.4.2; OGC 18-000, media), links rows of user-defined mapping tables (OGC 18-000);
 -- local numbers and `sheet_identity` are profile.
-use Rattle.std.specs.Prelude.{◌≡◌, ℕ, ℤ, pos, Bool, true, false, not, Contains, Option, Some, None, ◌+ℤ◌, ◌&&◌}
+use Rattle.std.specs.Prelude.{◌≡◌, ℕ, ℤ, pos, Bool, true, false, not, Contains, Option, Some, None}
+use Rattle.std.specs.Prelude.{◌+ℤ◌, ◌&&◌}
 use Rattle.std.specs.Prelude.{if◌then◌else◌, List, [], ◌∷◌, map, filter, find, bytes_eq, unsigned_abs}
 use Rattle.std.specs.Ordering.{int_eq}
 use Rattle.std.specs.List.{AllByRecursion, IsDistinct, list_any}
@@ -53,8 +54,7 @@ abbrev pub tile_rows : ℤ → Content → List TileRow
 tile_rows number (Tile zoom column row bytes) = record {
   id = number;
   zoom_level = zoom;
-  tile_column =
-      column;
+  tile_column = column;
   tile_row = row;
   tile_data = bytes;
 } ∷ []
@@ -63,7 +63,8 @@ tile_rows number (Row x y code label) = []
 
 abbrev pub media_rows : ℤ → Content → List MediaRow
 media_rows number (Tile zoom column row bytes) = []
-media_rows number (Media content_type bytes) = record { id = number; «data» = bytes; content_type = content_type } ∷ []
+media_rows number (Media content_type bytes) = record { id = number; «data» = bytes; content_type = content_type }
+    ∷ []
 media_rows number (Row x y code label) = []
 
 abbrev pub attribute_rows : ℤ → Content → List AttributeRow
@@ -75,8 +76,7 @@ abbrev pub identity_row : Numbered → IdentityRow
 identity_row n = record {
   kind = pos (kind_number (kind_of n.item.content));
   local_id = n.number;
-  uuid =
-      uuid_text n.item.identity;
+  uuid = uuid_text n.item.identity;
 }
 
 -- ---- the rows of a link
@@ -176,7 +176,8 @@ IsGap kind t number = (is_within (pos 1) greatest_number number ≡ true) × (is
 
 -- each number of the kind is taken
 abbrev pub AreTaken : ℤ → Tables → Type 0
-AreTaken kind t = (number : ℤ) → is_within (pos 1) greatest_number number ≡ true → is_taken kind number t ≡ true
+AreTaken kind t = (number : ℤ) → is_within (pos 1) greatest_number number ≡ true
+    → is_taken kind number t ≡ true
 
 -- a gap, and none where each number is taken
 abbrev pub FindsGap : ℤ → Tables → Option ℤ → Type 0

@@ -1,5 +1,6 @@
 -- What a cut asks of a package, what the package answers, and what asking leaves. Profile.
-use Rattle.std.specs.Prelude.{ℕ, ℤ, pos, Bool, false, ◌&&◌, List, filter, if◌then◌else◌, IsTrue, Result, IfOk}
+use Rattle.std.specs.Prelude.{ℕ, ℤ, pos, Bool, false, ◌&&◌, List, filter, if◌then◌else◌, IsTrue, Result}
+use Rattle.std.specs.Prelude.{IfOk}
 use Rattle.std.specs.Ordering.{int_eq}
 use Rattle.std.specs.List.{AllZip}
 use Rattle.sqlite.specs.State.{State, HasCleanDisk}

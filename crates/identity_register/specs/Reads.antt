@@ -1,6 +1,7 @@
 -- When the tables of a store read as a package. OGC GeoPackage 1.3 and OGC 18-000 for the tables; identities,
 -- receipts and the head are profile.
-use Rattle.std.specs.Prelude.{◌≡◌, ℕ, pos, Bool, true, ◌&&◌, bytes_eq, List, [], ◌∷◌, map, flat_map, Option}
+use Rattle.std.specs.Prelude.{◌≡◌, ℕ, pos, Bool, true, ◌&&◌, bytes_eq, List, [], ◌∷◌, map, flat_map}
+use Rattle.std.specs.Prelude.{Option}
 use Rattle.std.specs.List.{AllByRecursion, IsDistinct, enumerate_from}
 use Rattle.std.specs.Option.{option_map_or}
 use Rattle.hex.specs.Hex.{encode_lower}
@@ -99,7 +100,8 @@ pub record SaysItems (numbered : List Numbered) (of_package : List Item) (tile_t
   pub items : of_package ≡ arranged item_key (map (λ n. n.item) numbered)
   pub tiles : tile_table ≡ arranged tile_shape.key (flat_map (λ n. tile_rows n.number n.item.content) numbered)
   pub media : medium_table ≡ arranged medium_shape.key (flat_map (λ n. media_rows n.number n.item.content) numbered)
-  pub rows : row_table ≡ arranged attribute_shape.key (flat_map (λ n. attribute_rows n.number n.item.content) numbered)
+  pub rows : row_table ≡ arranged attribute_shape.key (flat_map (λ n. attribute_rows n.number n.item.content)
+      numbered)
   pub identities : identity_table ≡ arranged identity_shape.key (map identity_row numbered)
 
 -- the table of a mapping holds the rows of its links, by the numbers of their ends, and no others

@@ -1,6 +1,5 @@
 //! What is asked of a package at rest, each by a key or an index. An error is want of memory, a
-//! store that failed, or rows that
-//! no package has; the store holds what it held.
+//! store that failed, or rows that no package has; the store holds what it held.
 ghost use Rattle.std.specs.Prelude.{◌≡◌, true, bytes_eq, IfOk};
 ghost use Rattle.std.specs.Bool.{then_some};
 ghost use Rattle.std.specs.List.{list_any};
@@ -209,7 +208,8 @@ pub(crate) fn content_of<S: Alter>(
 /// The item of this identity, with its content.
 pub fn find<S: Alter>(conn: &mut Connection<S>, identity: Uuid) -> Result<Option<Item>, Fault>
     requires { Rests (state S.Store conn.old) }
-    ensures { Looks (Sees (λ f p found. found ≡ item_of p identity)) (state S.Store conn.old) (state S.Store conn.new)
+    ensures { Looks (Sees (λ f p found. found ≡ item_of p identity)) (state S.Store conn.old)
+        (state S.Store conn.new)
         result }
 {
     match row_of(conn, identity)? {

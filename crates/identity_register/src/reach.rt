@@ -1,6 +1,6 @@
 //! What is asked of a package for a cut: its tiles by place, its rows by ground, its links by their
-//! ends, each by a key or an index. An
-//! error is want of memory, a store that failed, or rows that no package has; the store holds what it held.
+//! ends, each by a key or an index. An error is want of memory, a store that failed, or rows that
+//! no package has; the store holds what it held.
 ghost use Rattle.std.specs.Prelude.{◌≡◌, pos, true, map, IfOk, IsTrue, IsPermutation};
 ghost use Rattle.std.specs.List.{AllZip};
 ghost use Rattle.sqlite.specs.State.{HasCleanDisk};

@@ -78,7 +78,7 @@ fn links_told(links: &[Relation], alloc: Global) -> Result<Vec<Moved>, AllocErro
 /// All items of the package, by kind and identity, and all its links, by mapping, base and other
 /// end, both as receipts tell them. The identity rows are read once for both, and each content by
 /// its number.
-pub fn told<S: Alter>(
+pub fn tell_all<S: Alter>(
     conn: &mut Connection<S>,
     alloc: Global,
 ) -> Result<(Vec<Moved>, Vec<Moved>), Fault>

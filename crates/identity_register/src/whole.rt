@@ -1,8 +1,7 @@
 //! What a whole package holds, read by one statement a table. Identity rows and the rows of the
-//! user tables are both read
-//! in the order of kind and number, so that each identity meets its content without a look-up. An
-//! error is want of memory, a
-//! store that failed, or rows that no package has; the store holds what it held.
+//! user tables are both read in the order of kind and number, so that each identity meets its
+//! content without a look-up. An error is want of memory, a store that failed, or rows that no
+//! package has; the store holds what it held.
 ghost use Rattle.std.specs.Prelude.{◌≡◌, ◌++◌, map, bytes_eq, IfOk, IfErr, IsTrue, IsPermutation};
 ghost use Rattle.std.specs.List.{AllByRecursion, AllZip, IsDistinct};
 ghost use Rattle.sqlite.specs.Held.{state};
@@ -87,8 +86,7 @@ fn item_at(row: &IdentityRow, placed: Placed) -> Result<Item, Fault>
     ensures content { IfOk result (λ i. placed ≡ record {
       kind = row.now.kind;
       number = row.now.local_id;
-      content =
-          i.content;
+      content = i.content;
     }) }
 {
     if row.kind != placed.kind || row.local_id != placed.number {
@@ -244,7 +242,8 @@ pub fn holdings<S: Alter>(
     alloc: Global,
 ) -> Result<(Vec<Item>, Vec<Relation>), Fault>
     requires { Rests (state S.Store conn.old) }
-    ensures { Looks (Sees (λ f p held. (held.0.items ≡ p.items) × (held.1.items ≡ p.links))) (state S.Store conn.old)
+    ensures { Looks (Sees (λ f p held. (held.0.items ≡ p.items) × (held.1.items ≡ p.links)))
+        (state S.Store conn.old)
         (state S.Store conn.new) result }
 {
     let rows = all_identities(conn, alloc)?;

@@ -1,5 +1,6 @@
 -- What an import uses a shelf for.
-use Rattle.std.specs.Prelude.{◌≡◌, ◌<◌, ◌+◌, refl, ℕ, ⊤, List, [], ◌∷◌, ◌++◌, Option, Some, None, Result, Ok, Err}
+use Rattle.std.specs.Prelude.{◌≡◌, ◌<◌, ◌+◌, refl, ℕ, ⊤, List, [], ◌∷◌, ◌++◌, Option}
+use Rattle.std.specs.Prelude.{Some, None, Result, Ok, Err}
 use Rattle.std.specs.Prelude.{IfSome, length, take, drop}
 use Rattle.std.proofs.Common.{◌∙◌, ap, subst, sym, get_or, inl, inr}
 use Rattle.std.proofs.lemmas.List.{take_more, take-append-drop}
@@ -28,7 +29,8 @@ module _ {S H : Type 0} (Asks : List ℕ → H → H → Type 0) (Takes : List �
 
   -- in a step it was used at most once
   pub used_for : (g : Ghosts S) (members : List (Member S)) (q : Request) (New NoMore : List ℕ → Type 0)
-      (gone : List (Held S)) (before after : H) → ((x : List ℕ) → NoMore x → child_returned q.command ≡ Some x)
+      (gone : List (Held S)) (before after : H) → ((x : List ℕ) → NoMore x
+      → child_returned q.command ≡ Some x)
       → UsesFor g Asks Takes members (child_asked q.command) New NoMore gone before after
       → IsUsedFor Asks Takes q before after
   used_for g members q New NoMore [] before after named used =
@@ -41,7 +43,12 @@ module _ {S H : Type 0} (Asks : List ℕ → H → H → Type 0) (Takes : List �
       → IsUsedForEach Asks Takes qs before between → IsUsedFor Asks Takes q between after
       → IsUsedForEach Asks Takes (qs ++ q ∷ []) before after
   uses_more [] q before between after used one = (after, subst (λ s. IsUsedFor Asks Takes q s after) used one, refl)
-  uses_more (p ∷ qs) q before between after used one = (used.0, used.1, uses_more qs q used.0 between after used.2 one)
+  uses_more (p ∷ qs) q before between after used one = (
+    used.0,
+    used.1,
+    uses_more qs q used.0 between after used.2
+        one,
+  )
 
   uses_rest : (qs rs : List Request) (before after : H) → IsUsedForEach Asks Takes qs before after
       → IsUsedForEach Asks Takes (qs ++ rs) before after

@@ -1,5 +1,6 @@
 -- An import, reply by reply.
-use Rattle.std.proofs.Common.{◌≡◌, ◌∙◌, refl, sym, ap, subst, ℕ, ◌+◌, ◌-◌, ◌<◌, ◌≤◌, List, [], ◌∷◌, ◌++◌, take, drop}
+use Rattle.std.proofs.Common.{◌≡◌, ◌∙◌, refl, sym, ap, subst, ℕ, ◌+◌, ◌-◌, ◌<◌, ◌≤◌}
+use Rattle.std.proofs.Common.{List, [], ◌∷◌, ◌++◌, take, drop}
 use Rattle.std.proofs.Common.{length, get_or, length-append, Option, IfSome, Result, Ok, Err, arith}
 use Rattle.std.specs.List.{AllByRecursion}
 use Rattle.std.specs.Io.KnownBytes.{Appends}
@@ -68,8 +69,10 @@ module _ {S : Type 0} (g : Ghosts S) where
         subst (λ qs. IsRun g qs old (it.replies ++ reply ∷ []) new failed fails) (sym more)
         (run_more g (take n requests) request old mid new it.replies reply failed failing fails it.ran step)
 
-    ran_so : IsRun g (take (length (it.replies ++ reply ∷ [])) requests) old (it.replies ++ reply ∷ []) new failed fails
-    ran_so = subst (λ k. IsRun g (take k requests) old (it.replies ++ reply ∷ []) new failed fails) (sym counted_more)
+    ran_so : IsRun g (take (length (it.replies ++ reply ∷ [])) requests) old (it.replies ++ reply ∷ []) new failed
+        fails
+    ran_so = subst (λ k. IsRun g (take k requests) old (it.replies ++ reply ∷ []) new failed fails)
+        (sym counted_more)
         ran_more
 
     lines : report_lines 1 requests (it.replies ++ reply ∷ []) ≡ report_lines 1 requests it.replies
@@ -97,8 +100,7 @@ module _ {S : Type 0} (g : Ghosts S) where
       one_more line goes = record {
         replies = it.replies ++ reply ∷ [];
         counted = counted_more;
-        ran =
-            ran_more;
+        ran = ran_more;
         goes_on = All-snoc GoesOn it.replies reply it.goes_on goes;
         written = all_written line;
       }
@@ -135,8 +137,7 @@ module _ {S : Type 0} (g : Ghosts S) where
     replies = [];
     counted = refl;
     ran = run_none g seen failed;
-    goes_on =
-        tt;
+    goes_on = tt;
     written = Appends-nil at;
   }
 
@@ -190,7 +191,8 @@ module _ {S : Type 0} (g : Ghosts S) where
       }
 
   -- an import of a list that was read
-  pub imported : {W : Type 0} (text : Option (List ℕ)) (requests : List Request) (old new : Seen S) (failed fails : ℕ)
+  pub imported : {W : Type 0} (text : Option (List ℕ)) (requests : List Request) (old new : Seen S)
+      (failed fails : ℕ)
       (writer writer' : W) (before after : Option (List ℕ)) (r : Result (Unit {0}) ImportFault)
       → IfSome text (λ t. IsList t requests) → IsImported g requests old new failed fails before after r
       → Imports g text old new failed fails writer writer' before after r

@@ -1,5 +1,6 @@
 -- Items one after the other, each found under the identity that was told of it.
-use Rattle.std.proofs.Common.{◌≡◌, ◌∙◌, refl, ◌<◌, ◌≤◌, ◌+◌, ℕ, zero, suc, List, [], ◌∷◌, ◌++◌, Option, Some, Result}
+use Rattle.std.proofs.Common.{◌≡◌, ◌∙◌, refl, ◌<◌, ◌≤◌, ◌+◌, ℕ, zero, suc, List, []}
+use Rattle.std.proofs.Common.{◌∷◌, ◌++◌, Option, Some, Result}
 use Rattle.std.proofs.Common.{Ok, Err, map, length, take, drop, get_or, ap, sym, subst, inl, inr, arith, append-nil}
 use Rattle.std.specs.Prelude.{Contains}
 use Rattle.std.specs.Io.KnownBytes.{Appends}
@@ -50,13 +51,13 @@ of_package Answer (Err e) it = record {
   rests = it.rests;
   done = λ clean. tt;
   was_open = it.was_open;
-  holds =
-      it.holds;
+  holds = it.holds;
   survives = it.survives;
 }
 
 -- an item of a package is found under its identity
-pub found_there : (f : Frame) (p : Package) (t : Tables) → Says f p t → (id : List ℕ) → IsItemOf p id (item_of p id)
+pub found_there : (f : Frame) (p : Package) (t : Tables) → Says f p t → (id : List ℕ)
+    → IsItemOf p id (item_of p id)
 found_there f p t says id item there named =
     let numbered = In-of_map (λ m. m.item) item (says.numbered)
     (in_arranged item_key (map (λ m. m.item) says.numbered) item
@@ -73,8 +74,10 @@ found_item id (Ok x) it = sees_so (λ f p found. found ≡ item_of p id) refl it
     (λ f p t says is. subst (IsItemOf p id) (sym is) (found_there f p t says id))
 found_item id (Err e) it = fails (Err e) refl (looks_stays it)
 
-item_in : (items : List Item) (i : ℕ) (moved : Moved) → i < length items → moved ≡ get_or (map item_moved items) i moved
-    → (item : Item) × In item items × (item_moved item ≡ moved) × (take (suc i) items ≡ take i items ++ item ∷ [])
+item_in : (items : List Item) (i : ℕ) (moved : Moved) → i < length items
+    → moved ≡ get_or (map item_moved items) i moved
+    → (item : Item) × In item items × (item_moved item ≡ moved)
+    × (take (suc i) items ≡ take i items ++ item ∷ [])
 item_in [] i moved within is = absurd (omega (arith, within))
 item_in (x ∷ xs) zero moved within is = (x, inl refl, sym is, refl)
 item_in (x ∷ xs) (suc i) moved within is =
@@ -84,7 +87,8 @@ item_in (x ∷ xs) (suc i) moved within is =
 -- the item that this is told of, behind so many
 pub item_told : (items : List Item) (told : List Moved) (i : ℕ) (moved : Moved) → told ≡ map item_moved items
     → i < length told → moved ≡ get_or told i moved
-    → (item : Item) × Contains items item × (item_moved item ≡ moved) × (take (i + 1) items ≡ take i items ++ item ∷ [])
+    → (item : Item) × Contains items item × (item_moved item ≡ moved)
+    × (take (i + 1) items ≡ take i items ++ item ∷ [])
 item_told items told i moved all within is =
     let less : i < length items = omega (arith, within, ap length all, length-map items item_moved) in
     let it = item_in items i moved less (is ∙ ap (λ l. get_or l i moved) all) in
@@ -94,12 +98,14 @@ item_told items told i moved all within is =
 -- one record more
 pub record_more : (a b c : Option (List ℕ)) (items : List Item) (i : ℕ) (item : Item)
     → take (i + 1) items ≡ take i items ++ item ∷ []
-    → Appends a b (records_text item_fields (take i items)) → Appends b c (row_text default_writer (item_fields item))
+    → Appends a b (records_text item_fields (take i items)) → Appends b c
+    (row_text default_writer (item_fields item))
     → Appends a c (records_text item_fields (take (i + 1) items))
 record_more a b c items i item more before here =
     let text : records_text item_fields (take (i + 1) items) ≡ records_text item_fields (take i items)
     ++ row_text default_writer (item_fields item) =
-    ap (records_text item_fields) more ∙ flat_map-append (λ x. row_text default_writer (item_fields x)) (take i items)
+    ap (records_text item_fields) more ∙ flat_map-append (λ x. row_text default_writer (item_fields x))
+    (take i items)
     (item ∷ [])
     ∙ ap (λ l. records_text item_fields (take i items) ++ l)
     (append-nil (row_text default_writer (item_fields item))) in
@@ -121,7 +127,8 @@ records_all a b items told i all past sent =
 
 -- one more of those that a loop goes over, and what was made of it
 pub zip_more : {A B : Type 0} (R : A → B → Type 0) (rows : List A) (i : ℕ) (row : A) (made now : List B) (x : B)
-    → i < length rows → row ≡ get_or rows i row → now ≡ made ++ x ∷ [] → AllZip R (take i rows) made → R row x
+    → i < length rows → row ≡ get_or rows i row → now ≡ made ++ x ∷ [] → AllZip R (take i rows) made
+    → R row x
     → AllZip R (take (i + 1) rows) now
 zip_more R rows i row made now x less is pushed all one =
     let cut : take (i + 1) rows ≡ take i rows ++ row ∷ [] = take_more rows i row less

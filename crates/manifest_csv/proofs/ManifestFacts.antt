@@ -1,5 +1,6 @@
 -- A manifest is something: the record of its header has an end.
-use Rattle.std.proofs.Common.{◌≡◌, refl, ◌<◌, [], ◌∷◌, ◌++◌, ℕ, List, if◌then◌else◌, length, length-append, arith}
+use Rattle.std.proofs.Common.{◌≡◌, refl, ◌<◌, [], ◌∷◌, ◌++◌, ℕ, List, if◌then◌else◌}
+use Rattle.std.proofs.Common.{length, length-append, arith}
 use Rattle.csv.specs.Writing.{default_writer, end_text, is_blank, row_body, row_text}
 use Rattle.sheet_types.specs.declared.command.Item.{Item}
 use Rattle.sheet_types.specs.declared.command.Relation.{Relation}

@@ -1,5 +1,6 @@
 -- What is told grows by one count after the other.
-use Rattle.std.proofs.Common.{◌≡◌, ◌∙◌, refl, ℕ, ◌+◌, suc, List, [], ◌∷◌, ◌++◌, length, Option, Some, None, IfSome}
+use Rattle.std.proofs.Common.{◌≡◌, ◌∙◌, refl, ℕ, ◌+◌, suc, List, [], ◌∷◌, ◌++◌, length}
+use Rattle.std.proofs.Common.{Option, Some, None, IfSome}
 use Rattle.std.proofs.Common.{Result, Ok, Err, ap, sym, subst, append_assoc, append-nil, arith}
 use Rattle.sheet_types.specs.declared.command.Request.{Request}
 use Rattle.request_csv.specs.RequestLists.{IsList}
@@ -13,7 +14,8 @@ unfolding counts
 nothing_told all None = tt
 nothing_told all (Some told) = ap Some (sym (append-nil told))
 
-tells_more : (before between after : Option (List (ℕ × ℕ))) (first then : List (ℕ × ℕ)) → Tells before between first
+tells_more : (before between after : Option (List (ℕ × ℕ))) (first then : List (ℕ × ℕ))
+    → Tells before between first
     → Tells between after then → Tells before after (first ++ then)
 tells_more None between after first then one two = tt
 tells_more (Some told) between after first then one two =

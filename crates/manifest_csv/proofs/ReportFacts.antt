@@ -1,5 +1,6 @@
 -- A report grows by a line for each reply.
-use Rattle.std.proofs.Common.{◌≡◌, ◌∙◌, ◌+◌, ◌++◌, [], ◌∷◌, ℕ, List, Result, length, drop, append_assoc, append-nil}
+use Rattle.std.proofs.Common.{◌≡◌, ◌∙◌, ◌+◌, ◌++◌, [], ◌∷◌, ℕ, List, Result, length, drop}
+use Rattle.std.proofs.Common.{append_assoc, append-nil}
 use Rattle.std.proofs.Common.{ap, sym, subst, arith}
 use Rattle.manifest_csv.specs.Reports.{report_line, report_lines}
 use Rattle.sheet_types.specs.declared.receipt.Receipt.{Receipt}

@@ -1,5 +1,6 @@
 -- What went out, piece after piece.
-use Rattle.std.proofs.Common.{◌<◌, ◌≤◌, ◌+◌, ◌-◌, ◌++◌, ℕ, List, length, take, drop, Option, arith}
+use Rattle.std.proofs.Common.{◌<◌, ◌≤◌, ◌+◌, ◌-◌, ◌++◌, ℕ, List, length, take, drop, Option}
+use Rattle.std.proofs.Common.{arith}
 use lib.ListN.{length-drop}
 use Rattle.std.proofs.lemmas.List.{take_rest, length-append, take-append-le}
 use Rattle.std.proofs.Math.Seq.{take-add, take-append-add}
@@ -11,7 +12,8 @@ pub sent_more : (a b c : Option (List ℕ)) (text : List ℕ) (at n : ℕ) → A
     → Appends b c (take n (take (length text - at) (drop at text))) → Appends a c (take (at + n) text)
 sent_more a b c text at n p q = rw (take-add at n text) (Appends-trans a b c _ _ p (rw (take_rest text at) at q))
 
-pub more_within : (text : List ℕ) (at n : ℕ) → at ≤ length text → n ≤ length (take (length text - at) (drop at text))
+pub more_within : (text : List ℕ) (at n : ℕ) → at ≤ length text
+    → n ≤ length (take (length text - at) (drop at text))
     → at + n ≤ length text
 more_within text at n h le = let some : n ≤ length (drop at text) =
     rw (take_rest text at) at le in omega (arith, length-drop at text)
@@ -54,7 +56,8 @@ past_after a b c first sent second p q = (
 )
 
 -- a beginning of a text is a beginning of a longer one
-pub went_out_of : (a b : Option (List ℕ)) (first second : List ℕ) → WentOut a b first → WentOut a b (first ++ second)
+pub went_out_of : (a b : Option (List ℕ)) (first second : List ℕ) → WentOut a b first
+    → WentOut a b (first ++ second)
 went_out_of a b first second q = (
   q.0,
   rw (length-append first second) (omega (arith, q.1)),

@@ -1,5 +1,6 @@
 -- What an import makes of a world, and what it writes. Profile.
-use Rattle.std.specs.Prelude.{◌≡◌, ◌⊎◌, ◌≤◌, ◌-◌, ℕ, List, [], ◌∷◌, ◌++◌, Option, Some, None, Result, Ok, Err, IfSome}
+use Rattle.std.specs.Prelude.{◌≡◌, ◌⊎◌, ◌≤◌, ◌-◌, ℕ, List, [], ◌∷◌, ◌++◌, Option}
+use Rattle.std.specs.Prelude.{Some, None, Result, Ok, Err, IfSome}
 use Rattle.std.specs.Prelude.{length, take}
 use Rattle.std.specs.List.{AllByRecursion}
 use Rattle.std.specs.Io.KnownBytes.{Appends}
@@ -64,13 +65,15 @@ IsListOf requests of = (text : Option (List ℕ)) → IfSome text (λ t. IsList 
 
 -- What a shelf was used for by the list that a text is: for each of its requests in turn it was asked for what that one
 -- asks to be made, or given back what it takes home, or neither.
-abbrev pub UsesOfList : {S H : Type 0} → (List ℕ → H → H → Type 0) → (List ℕ → S → H → H → Type 0) → Option (List ℕ)
+abbrev pub UsesOfList : {S H : Type 0} → (List ℕ → H → H → Type 0)
+    → (List ℕ → S → H → H → Type 0) → Option (List ℕ)
     → H → H → Type 0
 UsesOfList Asks Takes text before after = (requests : List Request) × IfSome text (λ t. IsList t requests)
     × IsUsedForEach Asks Takes requests before after
 
 -- The same of an import of the text. By one that is not read it was not used.
-abbrev pub UsesOf : {S H : Type 0} → (List ℕ → H → H → Type 0) → (List ℕ → S → H → H → Type 0) → Option (List ℕ) → H
+abbrev pub UsesOf : {S H : Type 0} → (List ℕ → H → H → Type 0) → (List ℕ → S → H → H → Type 0)
+    → Option (List ℕ) → H
     → H → Result (Unit {0}) ImportFault → Type 0
 UsesOf Asks Takes text before after (Err (Unread fault)) = after ≡ before
 UsesOf Asks Takes text before after (Err (Stopped n fault)) = UsesOfList Asks Takes text before after
@@ -99,7 +102,8 @@ module _ {S : Type 0} (g : Ghosts S) where
 
   -- An import of a text: of a list that is read, its requests are carried out and reported. Of one that is not,
   -- nothing is carried out and nothing is written.
-  abbrev pub Imports : {W : Type 0} → Option (List ℕ) → Seen S → Seen S → ℕ → ℕ → W → W → Option (List ℕ)
+  abbrev pub Imports : {W : Type 0} → Option (List ℕ) → Seen S → Seen S → ℕ → ℕ → W → W
+      → Option (List ℕ)
       → Option (List ℕ) → Result (Unit {0}) ImportFault → Type 0
   Imports text old new failed fails writer writer' before after (Err (Unread fault)) = IsWhyUnread text fault
       × (new ≡ old) × (fails ≡ failed) × (writer' ≡ writer)

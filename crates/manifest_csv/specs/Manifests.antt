@@ -14,15 +14,18 @@ use Rattle.sheet_types.specs.declared.command.Relation.{Relation}
 
 -- the names of the columns, in their order
 abbrev pub manifest_header : List (List ℕ)
-manifest_header = codes "kind" ∷ codes "identity" ∷ codes "other" ∷ codes "zoom" ∷ codes "column" ∷ codes "row"
+manifest_header = codes "kind" ∷ codes "identity" ∷ codes "other" ∷ codes "zoom" ∷ codes "column"
+    ∷ codes "row"
     ∷ codes "x" ∷ codes "y" ∷ codes "code" ∷ codes "size" ∷ codes "fingerprint" ∷ codes "text" ∷ []
 
 -- where a content stands, from the zoom to the code
 abbrev pub place_fields : Content → List (List ℕ)
-place_fields (Tile zoom column row bytes) = signed_decimal zoom ∷ signed_decimal column ∷ signed_decimal row ∷ [] ∷ []
+place_fields (Tile zoom column row bytes) = signed_decimal zoom ∷ signed_decimal column ∷ signed_decimal row
+    ∷ [] ∷ []
     ∷ [] ∷ []
 place_fields (Media content_type bytes) = [] ∷ [] ∷ [] ∷ [] ∷ [] ∷ [] ∷ []
-place_fields (Row x y code label) = [] ∷ [] ∷ [] ∷ signed_decimal x ∷ signed_decimal y ∷ signed_decimal code ∷ []
+place_fields (Row x y code label) = [] ∷ [] ∷ [] ∷ signed_decimal x ∷ signed_decimal y ∷ signed_decimal code
+    ∷ []
 
 -- the content type or the label
 abbrev pub text_of : Content → List ℕ
@@ -37,7 +40,8 @@ item_fields item =
 
 -- a link has no place, the size 0, and neither fingerprint nor text
 abbrev pub link_fields : Relation → List (List ℕ)
-link_fields link = mapping_word link.mapping ∷ uuid_text link.base ∷ uuid_text link.other ∷ [] ∷ [] ∷ [] ∷ [] ∷ []
+link_fields link = mapping_word link.mapping ∷ uuid_text link.base ∷ uuid_text link.other ∷ [] ∷ [] ∷ []
+    ∷ [] ∷ []
     ∷ [] ∷ codes "0" ∷ [] ∷ [] ∷ []
 
 -- records, one after the other

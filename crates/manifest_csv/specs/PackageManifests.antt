@@ -15,7 +15,8 @@ abbrev pub manifest : World → List ℕ → List ℕ
 manifest w p = manifest_of (holdings w p).items (holdings w p).links
 
 -- A live package's manifest is written whole, or a beginning of it where the writer failed; of another nothing is.
-abbrev pub WritesManifest : World → List ℕ → Option (List ℕ) → Option (List ℕ) → Result (Unit {0}) ManifestFault
+abbrev pub WritesManifest : World → List ℕ → Option (List ℕ) → Option (List ℕ)
+    → Result (Unit {0}) ManifestFault
     → Type 0
 WritesManifest w p before after (Ok x) = (is_live w p ≡ true) × Appends before after (manifest w p)
 WritesManifest w p before after (Err Unknown) = is_live w p ≡ false
@@ -30,7 +31,8 @@ WritesNothing old new (Err (Failed fault)) = new ≡ old
 WritesNothing old new (Err Unwritten) = Unit {0}
 
 -- The same of each world that a value stood for, where each disk has given back what was written.
-abbrev pub IsManifest : {S : Type 0} → Ghosts S → List ℕ → Seen S → Seen S → Option (List ℕ) → Option (List ℕ)
+abbrev pub IsManifest : {S : Type 0} → Ghosts S → List ℕ → Seen S → Seen S → Option (List ℕ)
+    → Option (List ℕ)
     → Result (Unit {0}) ManifestFault → Type 0
 IsManifest g p old new before after r = AllClean g new.members → (w : World) → StandsFor g old w
     → WritesManifest w p before after r

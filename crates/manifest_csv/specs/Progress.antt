@@ -1,5 +1,6 @@
 -- What is told of an import while it goes on. Profile.
-use Rattle.std.specs.Prelude.{◌≡◌, ◌≤◌, ℕ, zero, suc, List, [], ◌∷◌, ◌++◌, length, Option, Some, None, Result, Ok}
+use Rattle.std.specs.Prelude.{◌≡◌, ◌≤◌, ℕ, zero, suc, List, [], ◌∷◌, ◌++◌, length, Option}
+use Rattle.std.specs.Prelude.{Some, None, Result, Ok}
 use Rattle.std.specs.Prelude.{Err, IfSome}
 use Rattle.sheet_types.specs.declared.command.Request.{Request}
 use Rattle.request_csv.specs.RequestLists.{IsList}
@@ -24,11 +25,13 @@ IsCount all n (Err Unwritten) = n ≤ all
 IsCount all n (Err (Unread fault)) = n ≡ 0
 
 -- of so many requests some were told as done, one after the other
-abbrev pub AreTold : ℕ → Option (List (ℕ × ℕ)) → Option (List (ℕ × ℕ)) → Result (Unit {0}) ImportFault → Type 0
+abbrev pub AreTold : ℕ → Option (List (ℕ × ℕ)) → Option (List (ℕ × ℕ))
+    → Result (Unit {0}) ImportFault → Type 0
 AreTold all before after r = (n : ℕ) × IsCount all n r × Tells before after (counts all n)
 
 -- the same of the requests of a list; of none that is read, nothing is told
-abbrev pub IsTold : Option (List ℕ) → Option (List (ℕ × ℕ)) → Option (List (ℕ × ℕ)) → Result (Unit {0}) ImportFault
+abbrev pub IsTold : Option (List ℕ) → Option (List (ℕ × ℕ)) → Option (List (ℕ × ℕ))
+    → Result (Unit {0}) ImportFault
     → Type 0
 IsTold text before after (Err (Unread fault)) = Tells before after []
 IsTold text before after r = (requests : List Request) × IfSome text (λ t. IsList t requests)

@@ -20,7 +20,7 @@ ghost use Rattle.manifest_csv.specs.Manifests.{manifest_header, manifest_of, rec
 use crate::manifests::{Record, manifest_text, text_of, write_header, write_records};
 use csv::{Writer, WriterBuilder};
 use identity_register::look_ups::find;
-use identity_register::told::told;
+use identity_register::told::tell_all;
 use identity_register::whole::holdings;
 use package_tables::fault::Fault;
 use sheet_types::command::{Item, Mapping, Relation};
@@ -71,7 +71,7 @@ pub fn told_holdings<S: Alter>(
     ensures { Looks (Sees (λ f p held. AreTold p held.0.items held.1.items))
         (state S.Store conn.old) (state S.Store conn.new) result }
 {
-    let (items, links) = told(conn, alloc)?;
+    let (items, links) = tell_all(conn, alloc)?;
     let links = links_of(alloc, &links)?;
     Ok((items, links))
 }

@@ -1,5 +1,6 @@
 //! The manifest of a package as one text.
-ghost use Rattle.std.specs.Prelude.{◌≡◌, ◌∷◌, [], ℕ, List, IfOk, OnOk, Some, codes, decimal, map, string_bytes};
+ghost use Rattle.std.specs.Prelude.{◌≡◌, ◌∷◌, [], ℕ, List, IfOk, OnOk, Some, codes, decimal, map};
+ghost use Rattle.std.specs.Prelude.{string_bytes};
 ghost use Rattle.std.specs.Fmt.{signed_decimal};
 ghost use Rattle.std.specs.Io.KnownBytes.{Appends};
 ghost use Rattle.hex.specs.Hex.{encode_lower};
@@ -135,7 +136,8 @@ fn write_row(
     requires { IsBetween writer.old }
     ensures text { OnOk result (Appends (text_written (λ v. Some v.items) writer.old)
         (text_written (λ v. Some v.items) writer.new) (row_text default_writer
-        (codes "row" ∷ uuid_text row.now.identity ∷ [] ∷ [] ∷ [] ∷ [] ∷ signed_decimal x ∷ signed_decimal y
+        (codes "row" ∷ uuid_text row.now.identity ∷ [] ∷ [] ∷ [] ∷ [] ∷ signed_decimal x
+        ∷ signed_decimal y
         ∷ signed_decimal code ∷ decimal (size row.now.content) ∷ encode_lower (fingerprint row.now.content)
         ∷ label.now ∷ []))) }
     ensures between { OnOk result (IsBetween writer.new) }

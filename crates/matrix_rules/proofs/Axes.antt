@@ -1,5 +1,6 @@
 -- The axes of a good frame, and the ranges of its numbers.
-use Rattle.std.specs.Prelude.{◌≡◌, true, ℤ, pos, ◌-ℤ◌, ◌*ℤ◌, ◌≤ℤ◌, ◌*◌, ◌≤◌, negsuc}
+use Rattle.std.specs.Prelude.{◌≡◌, true, ℤ, pos, ◌-ℤ◌, ◌*ℤ◌, ◌≤ℤ◌, ◌*◌, ◌≤◌}
+use Rattle.std.specs.Prelude.{negsuc}
 use Rattle.std.proofs.Common.{arith, FitsSigned, w64}
 use Rattle.std.proofs.lemmas.Int.{ints}
 use Rattle.std.proofs.Math.Nat.{mul-le-mul_right}
@@ -42,17 +43,32 @@ fits_words f zoom good level =
       level = omega (arith, ints);
     }
 
-pub across_pixels : (f : Frame) (zoom : ℤ) → GoodFrame f → has_level f zoom ≡ true → HasPixels (f.max_x -ℤ f.min_x) f.tile_width f.matrix_width (zoom -ℤ f.first_zoom)
+pub across_pixels : (f : Frame) (zoom : ℤ) → GoodFrame f → has_level f zoom ≡ true
+    → HasPixels (f.max_x -ℤ f.min_x) f.tile_width f.matrix_width (zoom -ℤ f.first_zoom)
 across_pixels f zoom good level =
     let range = level_range f zoom good level in
-    record { most = omega (arith, ints); tile_range = good.tile_width; matrix_range = good.matrix_width; level_range = (range.0, omega (arith, ints)); pixels = (grid_x f zoom good level).pixels }
+    record {
+      most = omega (arith, ints);
+      tile_range = good.tile_width;
+      matrix_range = good.matrix_width;
+      level_range = (range.0, omega (arith, ints));
+      pixels = (grid_x f zoom good level).pixels;
+    }
 
-pub down_pixels : (f : Frame) (zoom : ℤ) → GoodFrame f → has_level f zoom ≡ true → HasPixels (f.max_y -ℤ f.min_y) f.tile_height f.matrix_height (zoom -ℤ f.first_zoom)
+pub down_pixels : (f : Frame) (zoom : ℤ) → GoodFrame f → has_level f zoom ≡ true
+    → HasPixels (f.max_y -ℤ f.min_y) f.tile_height f.matrix_height (zoom -ℤ f.first_zoom)
 down_pixels f zoom good level =
     let range = level_range f zoom good level in
-    record { most = omega (arith, ints); tile_range = good.tile_height; matrix_range = good.matrix_height; level_range = (range.0, omega (arith, ints)); pixels = (grid_y f zoom good level).pixels }
+    record {
+      most = omega (arith, ints);
+      tile_range = good.tile_height;
+      matrix_range = good.matrix_height;
+      level_range = (range.0, omega (arith, ints));
+      pixels = (grid_y f zoom good level).pixels;
+    }
 
-is_axis : (low high tiles tile span pixel : ℤ) → Grid low high tiles tile span → IsAxis (record { tiles = tiles; pixel_size = pixel; span = span })
+is_axis : (low high tiles tile span pixel : ℤ) → Grid low high tiles tile span
+    → IsAxis (record { tiles = tiles; pixel_size = pixel; span = span })
 is_axis low high tiles tile span pixel grid = record {
   tiles = rw grid.tiles_is (omega (arith, ints, grid.one), omega (arith, ints, grid.few));
   span = rw grid.span_is (omega (arith, ints, grid.long), omega (arith, ints, grid.short));
@@ -66,7 +82,8 @@ pub down_axis : (f : Frame) (zoom : ℤ) → GoodFrame f → has_level f zoom �
 down_axis f zoom good level = is_axis f.min_y f.max_y _ f.tile_height _ _ (grid_y f zoom good level)
 
 -- so many tiles are no longer than the axis
-pub along_axis : (tiles span part : ℤ) → (tiles *ℤ span) ≤ℤ pos 2000000000000 → pos 1 ≤ℤ span → pos 0 ≤ℤ part → part ≤ℤ tiles → IsOffset (part *ℤ span)
+pub along_axis : (tiles span part : ℤ) → (tiles *ℤ span) ≤ℤ pos 2000000000000 → pos 1 ≤ℤ span
+    → pos 0 ≤ℤ part → part ≤ℤ tiles → IsOffset (part *ℤ span)
 along_axis (pos n) (pos s) (pos c) whole some low high =
     let below : c ≤ n = omega (arith, ints, high) in
     let product : c * s ≤ n * s = mul-le-mul_right s below in

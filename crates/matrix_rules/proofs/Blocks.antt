@@ -1,5 +1,6 @@
 -- Where a good rectangle's edges lie.
-use Rattle.std.specs.Prelude.{◌≡◌, ◌*◌, ◌≤◌, true, ◌&&◌, ℤ, pos, negsuc, ◌-ℤ◌, ◌*ℤ◌, ◌≤ℤ◌, ◌<ℤ◌, int_le, int_lt}
+use Rattle.std.specs.Prelude.{◌≡◌, ◌*◌, ◌≤◌, true, ◌&&◌, ℤ, pos, negsuc, ◌-ℤ◌, ◌*ℤ◌}
+use Rattle.std.specs.Prelude.{◌≤ℤ◌, ◌<ℤ◌, int_le, int_lt}
 use Rattle.std.proofs.Common.{arith, ap, sym, FitsSigned, ◌+ℤ◌, w64}
 use Rattle.std.proofs.lemmas.Bool.{and_parts}
 use Rattle.std.proofs.lemmas.Int.{ints}
@@ -20,8 +21,10 @@ pub record Place (f : Frame) (zoom column row : ℤ) : Type 0 where
 
 pub place : (f : Frame) (zoom column row : ℤ) → has_place f zoom column row ≡ true → Place f zoom column row
 place f zoom column row h =
-    let rows = three (has_level f zoom && int_le (pos 0) column && int_lt column (width_at f (level_of f zoom))) (int_le (pos 0) row) (int_lt row (height_at f (level_of f zoom))) h in
-    let columns = three (has_level f zoom) (int_le (pos 0) column) (int_lt column (width_at f (level_of f zoom))) rows.0 in
+    let rows = three (has_level f zoom && int_le (pos 0) column && int_lt column (width_at f (level_of f zoom)))
+    (int_le (pos 0) row) (int_lt row (height_at f (level_of f zoom))) h in
+    let columns = three (has_level f zoom) (int_le (pos 0) column) (int_lt column (width_at f (level_of f zoom)))
+    rows.0 in
     record {
       level = columns.0;
       across = (omega (arith, ints, columns.1), omega (arith, ints, columns.2));
@@ -29,7 +32,9 @@ place f zoom column row h =
     }
 
 -- so many tiles are no longer than the axis
-pub along : (low high tiles tile span c : ℤ) → Grid low high tiles tile span → pos 0 ≤ℤ c → c ≤ℤ tiles → (pos 0 ≤ℤ (c *ℤ span)) × ((c *ℤ span) ≤ℤ (high -ℤ low)) × ((c *ℤ span) ≤ℤ pos 2000000000000)
+pub along : (low high tiles tile span c : ℤ) → Grid low high tiles tile span → pos 0 ≤ℤ c → c ≤ℤ tiles
+    → (pos 0 ≤ℤ (c *ℤ span)) × ((c *ℤ span) ≤ℤ (high -ℤ low))
+    × ((c *ℤ span) ≤ℤ pos 2000000000000)
 along low high tiles tile span (pos c) grid some most =
     let below : c ≤ grid.count = omega (arith, ints, grid.tiles_is, most) in
     let part : c * grid.size ≤ grid.count * grid.size = mul-le-mul_right grid.size below in
@@ -46,7 +51,8 @@ pub record Block (f : Frame) (r : Rect) : Type 0 where
 
 pub block : (f : Frame) (r : Rect) → is_good_rect f r ≡ true → Block f r
 block f r h =
-    let order = three (has_place f r.zoom r.column r.row && has_place f r.zoom r.last_column r.last_row) (int_le r.column r.last_column) (int_le r.row r.last_row) h in
+    let order = three (has_place f r.zoom r.column r.row && has_place f r.zoom r.last_column r.last_row)
+    (int_le r.column r.last_column) (int_le r.row r.last_row) h in
     let ends = and_parts (has_place f r.zoom r.column r.row) (has_place f r.zoom r.last_column r.last_row) order.0 in
     let first = place f r.zoom r.column r.row ends.0 in
     record {
@@ -66,7 +72,8 @@ pub record Starts (r : Rect) (a : Axes) : Type 0 where
   pub next_column : FitsSigned w64 (r.last_column +ℤ pos 1)
   pub next_row : FitsSigned w64 (r.last_row +ℤ pos 1)
 
-pub starts : (f : Frame) (r : Rect) (a : Axes) → is_good_rect f r ≡ true → a ≡ axes f r.zoom → IsAxis a.across × IsAxis a.down → Starts r a
+pub starts : (f : Frame) (r : Rect) (a : Axes) → is_good_rect f r ≡ true → a ≡ axes f r.zoom
+    → IsAxis a.across × IsAxis a.down → Starts r a
 starts f r a h is good =
     let rect = block f r h in
     let columns : a.across.tiles ≡ width_at f (level_of f r.zoom) = ap (λ (x : Axes). x.across.tiles) is in

@@ -1,7 +1,8 @@
 -- The axes of a frame at one zoom, both by the same numbers.
 use Rattle.std.specs.Prelude.{◌^◌, ℤ, pos, ◌*ℤ◌, ◌≤ℤ◌, int_div, unsigned_abs}
 use Rattle.sheet_types.specs.declared.frame.Frame.{Frame}
-use Rattle.sheet_types.specs.Matrix.{width_at, height_at, level_of, pixel_x_size, pixel_y_size, tile_span_x, tile_span_y}
+use Rattle.sheet_types.specs.Matrix.{width_at, height_at, level_of, pixel_x_size, pixel_y_size, tile_span_x}
+use Rattle.sheet_types.specs.Matrix.{tile_span_y}
 use Rattle.matrix_rules.specs.declared.axis.Axis.{Axis}
 use Rattle.matrix_rules.specs.declared.axis.Axes.{Axes}
 

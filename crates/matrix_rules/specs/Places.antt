@@ -1,5 +1,6 @@
 -- The places of one zoom that lie inside a rectangle (profile).
-use Rattle.std.specs.Prelude.{◌≡◌, Bool, false, Option, None, Some, ◌≤ℤ◌, ◌&&◌, ℤ, pos, ◌+ℤ◌, ◌*ℤ◌, int_le}
+use Rattle.std.specs.Prelude.{◌≡◌, Bool, false, Option, None, Some, ◌≤ℤ◌, ◌&&◌, ℤ, pos}
+use Rattle.std.specs.Prelude.{◌+ℤ◌, ◌*ℤ◌, int_le}
 use Rattle.sheet_types.specs.declared.frame.Frame.{Frame}
 use Rattle.sheet_types.specs.declared.frame.Rect.{Rect}
 use Rattle.sheet_types.specs.Matrix.{is_within, has_place, tile_inside, tile_span_x, tile_span_y}
@@ -30,4 +31,5 @@ is_between start end length part = int_le start (part *ℤ length) && int_le ((p
 -- the first and the last of the parts between start and end, or none where there is none
 abbrev pub AreParts : ℤ → ℤ → ℤ → Option (ℤ × ℤ) → Type 0
 AreParts start end length None = (part : ℤ) → is_between start end length part ≡ false
-AreParts start end length (Some ends) = (ends.0 ≤ℤ ends.1) × ((part : ℤ) → is_between start end length part ≡ is_within ends.0 ends.1 part)
+AreParts start end length (Some ends) = (ends.0 ≤ℤ ends.1) ×
+    ((part : ℤ) → is_between start end length part ≡ is_within ends.0 ends.1 part)

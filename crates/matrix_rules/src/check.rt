@@ -1,7 +1,10 @@
 //! The rules of a frame.
-ghost use Rattle.std.specs.Prelude.{◌≡◌, ◌^◌, ◌&&◌, ◌+ℤ◌, ◌-ℤ◌, ◌*ℤ◌, pos, negsuc, ◌≤ℤ◌, ◌<ℤ◌, unsigned_abs, MatchResult, Option, None, Some, int_le, int_lt, IsTrue};
+ghost use Rattle.std.specs.Prelude.{◌≡◌, ◌^◌, ◌&&◌, ◌+ℤ◌, ◌-ℤ◌, ◌*ℤ◌, pos, negsuc};
+ghost use Rattle.std.specs.Prelude.{◌≤ℤ◌, ◌<ℤ◌, unsigned_abs, MatchResult, Option, None, Some, int_le};
+ghost use Rattle.std.specs.Prelude.{int_lt, IsTrue};
 ghost use Rattle.sheet_types.specs.declared.frame.FrameFault.{FrameFault};
-ghost use Rattle.sheet_types.specs.Matrix.{is_within, is_good_bound, frame_fault, divides, width_at, height_at, last_level, ten_to_12};
+ghost use Rattle.sheet_types.specs.Matrix.{is_within, is_good_bound, frame_fault, divides, width_at, height_at};
+ghost use Rattle.sheet_types.specs.Matrix.{last_level, ten_to_12};
 
 use sheet_types::frame::{Frame, FrameFault};
 
@@ -52,7 +55,9 @@ fn is_bound(x: i64) -> bool
 }
 
 fn has_good_bounds(frame: &Frame) -> bool
-    ensures { result ≡ (is_good_bound frame.now.min_x && is_good_bound frame.now.min_y && is_good_bound frame.now.max_x && is_good_bound frame.now.max_y && int_lt frame.now.min_x frame.now.max_x && int_lt frame.now.min_y frame.now.max_y) }
+    ensures { result ≡ (is_good_bound frame.now.min_x && is_good_bound frame.now.min_y && is_good_bound
+        frame.now.max_x && is_good_bound frame.now.max_y && int_lt frame.now.min_x frame.now.max_x && int_lt
+        frame.now.min_y frame.now.max_y) }
 {
     let bounds = is_bound(frame.min_x)
         & is_bound(frame.min_y)
@@ -62,7 +67,8 @@ fn has_good_bounds(frame: &Frame) -> bool
 }
 
 fn has_good_tile(frame: &Frame) -> bool
-    ensures { result ≡ (is_within (pos 1) (pos 4096) frame.now.tile_width && is_within (pos 1) (pos 4096) frame.now.tile_height) }
+    ensures { result ≡ (is_within (pos 1) (pos 4096) frame.now.tile_width && is_within (pos 1) (pos 4096)
+        frame.now.tile_height) }
 {
     1 <= frame.tile_width
         && frame.tile_width <= 4096
@@ -78,7 +84,8 @@ fn zoom_end(frame: &Frame) -> i128
 }
 
 fn has_good_zooms(frame: &Frame) -> bool
-    ensures { result ≡ (int_le (pos 0) frame.now.first_zoom && int_le (pos 1) frame.now.levels && int_le (frame.now.first_zoom +ℤ frame.now.levels) (pos 21)) }
+    ensures { result ≡ (int_le (pos 0) frame.now.first_zoom && int_le (pos 1) frame.now.levels && int_le
+        (frame.now.first_zoom +ℤ frame.now.levels) (pos 21)) }
 {
     (0 <= frame.first_zoom) & (1 <= frame.levels) & (zoom_end(frame) <= 21)
 }
@@ -90,7 +97,8 @@ fn is_matrix_number(x: i64) -> bool
 }
 
 fn has_good_matrix(frame: &Frame) -> bool
-    ensures { result ≡ (is_within (pos 1) (pos 2 *ℤ ten_to_12) frame.now.matrix_width && is_within (pos 1) (pos 2 *ℤ ten_to_12) frame.now.matrix_height) }
+    ensures { result ≡ (is_within (pos 1) (pos 2 *ℤ ten_to_12) frame.now.matrix_width && is_within (pos 1)
+        (pos 2 *ℤ ten_to_12) frame.now.matrix_height) }
 {
     is_matrix_number(frame.matrix_width) && is_matrix_number(frame.matrix_height)
 }
@@ -150,10 +158,15 @@ fn is_even(low: i64, high: i64, matrix: i64, tile: i64, levels: i64) -> bool
 }
 
 fn has_even_pixels(frame: &Frame) -> bool
-    requires tile { IsTrue (is_within (pos 1) (pos 4096) frame.now.tile_width && is_within (pos 1) (pos 4096) frame.now.tile_height) }
-    requires zooms { IsTrue (int_le (pos 0) frame.now.first_zoom && int_le (pos 1) frame.now.levels && int_le (frame.now.first_zoom +ℤ frame.now.levels) (pos 21)) }
-    requires matrix { IsTrue (is_within (pos 1) (pos 2 *ℤ ten_to_12) frame.now.matrix_width && is_within (pos 1) (pos 2 *ℤ ten_to_12) frame.now.matrix_height) }
-    ensures { result ≡ (divides (width_at frame.now (last_level frame.now) *ℤ frame.now.tile_width) (frame.now.max_x -ℤ frame.now.min_x) && divides (height_at frame.now (last_level frame.now) *ℤ frame.now.tile_height) (frame.now.max_y -ℤ frame.now.min_y)) }
+    requires tile { IsTrue (is_within (pos 1) (pos 4096) frame.now.tile_width && is_within (pos 1) (pos 4096)
+        frame.now.tile_height) }
+    requires zooms { IsTrue (int_le (pos 0) frame.now.first_zoom && int_le (pos 1) frame.now.levels && int_le
+        (frame.now.first_zoom +ℤ frame.now.levels) (pos 21)) }
+    requires matrix { IsTrue (is_within (pos 1) (pos 2 *ℤ ten_to_12) frame.now.matrix_width && is_within (pos 1)
+        (pos 2 *ℤ ten_to_12) frame.now.matrix_height) }
+    ensures { result ≡ (divides (width_at frame.now (last_level frame.now) *ℤ frame.now.tile_width)
+        (frame.now.max_x -ℤ frame.now.min_x) && divides (height_at frame.now (last_level frame.now) *ℤ
+        frame.now.tile_height) (frame.now.max_y -ℤ frame.now.min_y)) }
 {
     let across = is_even(
         frame.min_x,

@@ -1,6 +1,8 @@
 //! The ground of tiles and of rectangles, and what lies inside.
 ghost use Rattle.std.specs.Prelude.{◌≡◌, IsTrue};
-ghost use Rattle.sheet_types.specs.Matrix.{is_good_frame, has_level, has_place, block_ground, tile_ground, is_good_rect, lies_within, tile_inside, has_point, point_inside, in_frame, one_tile};
+ghost use Rattle.sheet_types.specs.Matrix.{is_good_frame, has_level, has_place, block_ground, tile_ground};
+ghost use Rattle.sheet_types.specs.Matrix.{is_good_rect, lies_within, tile_inside, has_point, point_inside, in_frame};
+ghost use Rattle.sheet_types.specs.Matrix.{one_tile};
 ghost use Rattle.matrix_rules.specs.Axes.{IsOffset};
 ghost use Rattle.matrix_rules.specs.Places.{offsets};
 
@@ -128,7 +130,8 @@ fn lies_within(outer: &Ground, inner: &Ground) -> bool
         & (inner.north <= outer.north)
 }
 
-/// Whether a point in thousandths of the frame's unit lies inside the rectangle: on its west and north edges it does, on its east and south edges it doesn't.
+/// Whether a point in thousandths of the frame's unit lies inside the rectangle: on its west and
+/// north edges it does, on its east and south edges it doesn't.
 pub fn point_inside(frame: &Frame, rect: &Rect, x: i64, y: i64) -> bool
     requires good { IsTrue (is_good_frame frame.now) }
     requires rect { IsTrue (is_good_rect frame.now rect.now) }
@@ -137,7 +140,8 @@ pub fn point_inside(frame: &Frame, rect: &Rect, x: i64, y: i64) -> bool
     has_point(&block(frame, rect), x, y)
 }
 
-/// Whether a point in thousandths of the frame's unit lies in the frame: on its west and north edges it does, on its east and south edges it doesn't.
+/// Whether a point in thousandths of the frame's unit lies in the frame: on its west and north
+/// edges it does, on its east and south edges it doesn't.
 pub fn in_frame(frame: &Frame, x: i64, y: i64) -> bool
     requires { IsTrue (is_good_frame frame.now) }
     ensures { result ≡ in_frame frame.now x y }

@@ -13,7 +13,8 @@ use sheet_types::frame::{Frame, Rect};
 pub fn span(frame: &Frame, rect: &Rect, zoom: i64) -> Option<Span>
     requires good { IsTrue (is_good_frame frame.now) }
     requires rect { IsTrue (is_good_rect frame.now rect.now) }
-    ensures places { IfSome result (λ s. (column row : ℤ) → is_inside frame.now rect.now zoom column row ≡ in_span s column row) }
+    ensures places { IfSome result (λ s. (column row : ℤ) → is_inside frame.now rect.now zoom column row
+        ≡ in_span s column row) }
     ensures some { IfSome result (λ s. IsTrue (in_span s s.column s.row)) }
     ensures none { IfNone result ((column row : ℤ) → is_inside frame.now rect.now zoom column row ≡ false) }
 {

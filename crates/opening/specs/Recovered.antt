@@ -65,9 +65,8 @@ module _ {S : Type 0} (g : Ghosts S) where
   abbrev pub AreSame : List (Held S) → Unopened S → Type 0
   AreSame stores refused = refused.stores.items ≡ stores
 
-  -- All stores are handed back in their order, untouched, or each as it was or brought; for a fault of the nine they
-  -- were
-  -- only read, if at all.
+  -- All stores are handed back in their order, untouched, or each as it was or brought; for a fault
+  -- of the nine they were only read, if at all.
   pub record IsUnopened (stores : List (Held S)) (refused : Unopened S) : Type 0 where
     pub brought : AreSame stores refused ⊎ MayAllBeBrought g stores refused.stores.items
     pub only_read : IsWant refused.fault ⊎ AreOnlyRead g stores refused.stores.items

@@ -1,5 +1,6 @@
 -- Items that are not as they were added: what is listed of sights is what is altered in the world.
-use Rattle.std.specs.Prelude.{◌≡◌, ◌⊎◌, ℕ, Bool, true, false, cond, not, ◌&&◌, List, [], ◌∷◌, filter, find, flat_map}
+use Rattle.std.specs.Prelude.{◌≡◌, ◌⊎◌, ℕ, Bool, true, false, cond, not, ◌&&◌, List, [], ◌∷◌}
+use Rattle.std.specs.Prelude.{filter, find, flat_map}
 use Rattle.std.specs.Prelude.{Option, Some, None, unwrap_or, bytes_eq, Contains, refl}
 use Rattle.std.proofs.Common.{sym, ap, subst, ◌∙◌, inl, inr}
 use Rattle.std.proofs.lemmas.Bool.{true≢false}
@@ -72,7 +73,8 @@ in_put x id (z ∷ zs) i = elim (is_before z x) as (λ v. In id (cond v (z ∷ p
 
 of_put : (x id : List ℕ) (zs : List (List ℕ)) → In id (put (λ k. k) x zs) → (x ≡ id) ⊎ In id zs
 of_put x id [] i = i
-of_put x id (z ∷ zs) i = elim (is_before z x) as (λ v. In id (cond v (z ∷ put (λ k. k) x zs) (x ∷ z ∷ zs)) → (x ≡ id)
+of_put x id (z ∷ zs) i = elim (is_before z x) as (λ v. In id (cond v (z ∷ put (λ k. k) x zs) (x ∷ z ∷ zs))
+    → (x ≡ id)
     ⊎ In id (z ∷ zs)) [
       | true ↦ λ j. elim j [
         | inl here ↦ inr (inl here)
@@ -88,14 +90,16 @@ to_order (x ∷ xs) id i = in_put x id (arranged (λ k. k) xs) (elim i
 
 of_order : (xs : List (List ℕ)) (id : List ℕ) → In id (arranged (λ k. k) xs) → In id xs
 of_order [] id i = i
-of_order (x ∷ xs) id i = elim (of_put x id (arranged (λ k. k) xs) i) [ inl e ↦ inl e | inr j ↦ inr (of_order xs id j) ]
+of_order (x ∷ xs) id i = elim (of_put x id (arranged (λ k. k) xs) i)
+    [ inl e ↦ inl e | inr j ↦ inr (of_order xs id j) ]
 
 least_of_list : (xs : List (List ℕ)) → IsLeastOf (least xs) xs
 least_of_list [] = λ id h. contained [] id h
 least_of_list (x ∷ xs) = least_put x (arranged (λ k. k) xs) xs (of_order xs) (to_order xs) (least_of_list xs)
 
 -- lists with the same elements have one least
-one_least : (xs ys : List (List ℕ)) (a b : Option (List ℕ)) → ((id : List ℕ) → Contains xs id → Contains ys id)
+one_least : (xs ys : List (List ℕ)) (a b : Option (List ℕ)) →
+    ((id : List ℕ) → Contains xs id → Contains ys id)
     → ((id : List ℕ) → Contains ys id → Contains xs id) → IsLeastOf a xs → IsLeastOf b ys → a ≡ b
 one_least xs ys None None to fro h g = refl
 one_least xs ys None (Some k) to fro h g = absurd (h k (fro k g.0))
@@ -110,16 +114,19 @@ one_least xs ys (Some j) (Some k) to fro h g = ap Some (neither_before j k (g.1 
 
 -- ---- packages and their sights
 
-package_of : (ss : List Sight) (ps : List Package) (s : Sight) → AreSightsOf ss ps → In s ss → (p : Package) × In p ps
+package_of : (ss : List Sight) (ps : List Package) (s : Sight) → AreSightsOf ss ps → In s ss → (p : Package)
+    × In p ps
     × IsSightOf s p
 package_of [] ps s h i = absurd i
 package_of (t ∷ ts) [] s h i = absurd h
 package_of (t ∷ ts) (p ∷ ps) s h i = elim i [
   | inl e ↦ (p, inl refl, subst (λ v. IsSightOf v p) e h.0)
-  | inr later ↦ let r : (q : Package) × In q ps × IsSightOf s q = package_of ts ps s h.1 later in (r.0, inr r.1, r.2)
+  | inr later ↦ let r : (q : Package) × In q ps × IsSightOf s q =
+      package_of ts ps s h.1 later in (r.0, inr r.1, r.2)
 ]
 
-sight_of : (ss : List Sight) (ps : List Package) (p : Package) → AreSightsOf ss ps → In p ps → (s : Sight) × In s ss
+sight_of : (ss : List Sight) (ps : List Package) (p : Package) → AreSightsOf ss ps → In p ps → (s : Sight)
+    × In s ss
     × IsSightOf s p
 sight_of ss [] p h i = absurd i
 sight_of [] (q ∷ ps) p h i = absurd h
@@ -133,7 +140,8 @@ sight_of (t ∷ ts) (q ∷ ps) p h i = elim i [
 said_same : (i : Item) (m : Moved) → bytes_eq (item_said m) (item_said (item_moved i)) ≡ names_as i m
 said_same i m = keys_same m.size (size i.content) m.base i.identity (unwrap_or m.fingerprint []) (fingerprint i.content)
 
-any_alike : {X : Type 0} (p q : X → Bool) → ((x : X) → p x ≡ q x) → (xs : List X) → list_any p xs ≡ list_any q xs
+any_alike : {X : Type 0} (p q : X → Bool) → ((x : X) → p x ≡ q x) → (xs : List X)
+    → list_any p xs ≡ list_any q xs
 any_alike p q same xs = ap (λ t. list_any t xs) (λ i. λ x. same x i)
 
 added_same : (ledger : List Receipt) (i : Item) → list_any (adds_item (item_said (item_moved i))) ledger

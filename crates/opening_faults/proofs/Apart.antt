@@ -1,5 +1,6 @@
 -- Loans that are not at home: what is put to the others, and the fault.
-use Rattle.std.specs.Prelude.{◌≡◌, ℕ, true, List, [], ◌∷◌, ◌++◌, find, Option, Some, None, IfSome, IfNone, Contains}
+use Rattle.std.specs.Prelude.{◌≡◌, ℕ, true, List, [], ◌∷◌, ◌++◌, find, Option, Some, None, IfSome}
+use Rattle.std.specs.Prelude.{IfNone, Contains}
 use Rattle.std.proofs.Common.{sym, ap, subst, ◌∙◌, inl, inr}
 use Rattle.std.proofs.lemmas.Bool.{true≢false}
 use Rattle.std.specs.Option.{option_map_or, option_map}
@@ -17,10 +18,12 @@ use Rattle.opening_faults.proofs.Turning.{found_headed, no_loan, headed}
 
 -- ---- what is put to the others
 
-pub adds_none : (P : List ℕ → Type 0) (ids : List (List ℕ)) → ((id : List ℕ) → P id → ⊥) → Adds P ids ids
+pub adds_none : (P : List ℕ → Type 0) (ids : List (List ℕ)) → ((id : List ℕ) → P id → ⊥)
+    → Adds P ids ids
 adds_none P ids none = record { kept = λ id h. h; sound = λ id h. inl h; whole = λ id p. absurd (none id p) }
 
-pub adds_one : (P : List ℕ → Type 0) (old new : List (List ℕ)) (one : List ℕ) → new ≡ old ++ one ∷ [] → P one
+pub adds_one : (P : List ℕ → Type 0) (old new : List (List ℕ)) (one : List ℕ) → new ≡ old ++ one ∷ []
+    → P one
     → ((id : List ℕ) → P id → one ≡ id) → Adds P old new
 adds_one P old new one all p only = record {
   kept = λ id h. still_there old new one id all h;
@@ -82,7 +85,8 @@ module _ (sights : List Sight) (splits : List OpenSplit) (all : AreOpenSplits si
         named,
         elim apart [
           | inl frames ↦ inl frames
-          | inr below ↦ inr (λ b. below (subst (λ h. IsBelow h (head_seen loan)) (ap (option_map head_said) of.4) b))
+          | inr below ↦ inr (λ b. below (subst (λ h. IsBelow h (head_seen loan)) (ap (option_map head_said) of.4)
+              b))
         ],
       )
 
@@ -107,20 +111,24 @@ module _ (sights : List Sight) (splits : List OpenSplit) (all : AreOpenSplits si
         ),
       )
 
-  pub least_foreign_is : (id : List ℕ) → IsLeast (IsForeign root sights splits) id → IsLeast (ForeignFrame sights) id
+  pub least_foreign_is : (id : List ℕ) → IsLeast (IsForeign root sights splits) id
+      → IsLeast (ForeignFrame sights) id
   least_foreign_is id h = (foreign_to id h.0, λ other f. h.1 other (foreign_fro other f))
 
   pub never_foreign_is : IsNever (IsForeign root sights splits) → IsNever (ForeignFrame sights)
   never_foreign_is h = λ id f. h id (foreign_fro id f)
 
 pub no_root : (sights : List Sight) → find is_root sights ≡ None → IsNever (ForeignFrame sights)
-no_root sights none id (root, s, c, loan, first, there, shown, here, made, named, apart) = None≢Some (sym none ∙ first)
+no_root sights none id (root, s, c, loan, first, there, shown, here, made, named, apart) =
+    None≢Some (sym none ∙ first)
 
 -- what is put to nothing is what was put there
-pub listed : (P : List ℕ → Type 0) (ids : List (List ℕ)) → Adds P [] ids → (id : List ℕ) → Contains ids id → P id
+pub listed : (P : List ℕ → Type 0) (ids : List (List ℕ)) → Adds P [] ids → (id : List ℕ)
+    → Contains ids id → P id
 listed P ids h id there = elim (h.sound id there) [ inl none ↦ absurd (contained [] id none) | inr p ↦ p ]
 
-pub some_weaker : (P Q : List ℕ → Type 0) (o : Option (List ℕ)) → ((id : List ℕ) → P id → Q id) → IfSome o P
+pub some_weaker : (P Q : List ℕ → Type 0) (o : Option (List ℕ)) → ((id : List ℕ) → P id → Q id)
+    → IfSome o P
     → IfSome o Q
 some_weaker P Q None f h = tt
 some_weaker P Q (Some id) f h = f id h

@@ -31,13 +31,15 @@ module _ (Store : Type 0) (head : Store → Option Head) (claims : Store → Lis
     pub sight : Sight
     pub beside : IsBeside store sight
 
-  pub paired : (ss : List Store) (ts : List Sight) → AreBeside ss ts → (ps : List Pair) × (map (λ p. p.store) ps ≡ ss)
+  pub paired : (ss : List Store) (ts : List Sight) → AreBeside ss ts → (ps : List Pair)
+      × (map (λ p. p.store) ps ≡ ss)
       × (map (λ p. p.sight) ps ≡ ts)
   paired [] [] h = ([], refl, refl)
   paired [] (t ∷ ts) h = absurd h
   paired (s ∷ ss) [] h = absurd h
   paired (s ∷ ss) (t ∷ ts) h =
-      let r : (ps : List Pair) × (map (λ p. p.store) ps ≡ ss) × (map (λ p. p.sight) ps ≡ ts) = paired ss ts h.1 in
+      let r : (ps : List Pair) × (map (λ p. p.store) ps ≡ ss) × (map (λ p. p.sight) ps ≡ ts) =
+      paired ss ts h.1 in
       (record { store = s; sight = t; beside = h.0 } ∷ r.0, ap (λ xs. s ∷ xs) r.1, ap (λ xs. t ∷ xs) r.2)
 
   abbrev head_of_pair : Pair → Option Head
@@ -111,7 +113,8 @@ module _ (Store : Type 0) (head : Store → Option Head) (claims : Store → Lis
         head claims IsFormed IsTied frame_of read (λ p. p.store) (λ p. refl) (λ p. refl) (λ p. refl))
 
     -- of a count: two copies and none
-    pub counted_seen : (test : ℕ → Bool) (id : List ℕ) → model.Counted Store head claims IsFormed IsTied frame_of read
+    pub counted_seen : (test : ℕ → Bool) (id : List ℕ) → model.Counted Store head claims IsFormed IsTied
+        frame_of read
         test stores id → model.Counted Sight head_seen claims_seen Any Any frame_seen nothing_read test sights id
     counted_seen test id = over (λ xs. model.Counted Store head claims IsFormed IsTied frame_of read test xs id)
         (λ xs. model.Counted Pair head_of_pair claims_of_pair AnyPair AnyPair frame_of_pair read_of_pair test xs id)
@@ -122,7 +125,8 @@ module _ (Store : Type 0) (head : Store → Option Head) (claims : Store → Lis
         head_seen claims_seen Any Any frame_seen nothing_read (λ p. p.sight) (λ p. p.beside.head_is)
         (λ p. p.beside.claims_are) (λ p. p.beside.frame_is) ps test id)
 
-    pub counted_said : (test : ℕ → Bool) (id : List ℕ) → model.Counted Sight head_seen claims_seen Any Any frame_seen
+    pub counted_said : (test : ℕ → Bool) (id : List ℕ) → model.Counted Sight head_seen claims_seen Any Any
+        frame_seen
         nothing_read test sights id → model.Counted Store head claims IsFormed IsTied frame_of read test stores id
     counted_said test id = back (λ xs. model.Counted Store head claims IsFormed IsTied frame_of read test xs id)
         (λ xs. model.Counted Pair head_of_pair claims_of_pair AnyPair AnyPair frame_of_pair read_of_pair test xs id)

@@ -1,6 +1,7 @@
 -- The words of opening over stores that are seen as others with the same head, claims and frame: each word of the
 -- seen stores is that of the stores.
-use Rattle.std.specs.Prelude.{◌≡◌, ◌⊎◌, ℕ, zero, suc, ◌≤◌, Bool, true, false, cond, ◌&&◌, ◌||◌, ◌==◌, List, [], ◌∷◌}
+use Rattle.std.specs.Prelude.{◌≡◌, ◌⊎◌, ℕ, zero, suc, ◌≤◌, Bool, true, false, cond, ◌&&◌}
+use Rattle.std.specs.Prelude.{◌||◌, ◌==◌, List, [], ◌∷◌}
 use Rattle.std.specs.Prelude.{◌++◌, map, filter, find, length, refl, Option, Some, None, option_map, count_by}
 use Rattle.std.specs.Prelude.{flat_map, Contains}
 use Rattle.std.proofs.Common.{sym, ap, subst, ◌∙◌, arith, inl, inr}
@@ -36,11 +37,13 @@ flat_seen see f g same [] = refl
 flat_seen see f g same (x ∷ xs) = ap (λ ys. ys ++ flat_map g (map see xs)) (same x)
     ∙ ap (λ ys. f x ++ ys) (flat_seen see f g same xs)
 
-any_same : {X : Type 0} (p q : X → Bool) → ((x : X) → q x ≡ p x) → (xs : List X) → list_any q xs ≡ list_any p xs
+any_same : {X : Type 0} (p q : X → Bool) → ((x : X) → q x ≡ p x) → (xs : List X)
+    → list_any q xs ≡ list_any p xs
 any_same p q same [] = refl
 any_same p q same (x ∷ xs) = ap (λ b. b || list_any q xs) (same x) ∙ ap (λ b. p x || b) (any_same p q same xs)
 
-count_seen : {X Y : Type 0} (see : X → Y) (p : X → Bool) (q : Y → Bool) → ((x : X) → q (see x) ≡ p x) → (xs : List X)
+count_seen : {X Y : Type 0} (see : X → Y) (p : X → Bool) (q : Y → Bool) → ((x : X) → q (see x) ≡ p x)
+    → (xs : List X)
     → count_by q (map see xs) ≡ count_by p xs
 count_seen see p q same [] = refl
 count_seen see p q same (x ∷ xs) =
@@ -51,32 +54,38 @@ count_seen see p q same (x ∷ xs) =
           omega (arith, ih, count-cons p x xs false e, count-cons q (see x) (map see xs) false (same x ∙ e))
     ] refl
 
-find_seen : {X Y : Type 0} (see : X → Y) (p : X → Bool) (q : Y → Bool) → ((x : X) → q (see x) ≡ p x) → (xs : List X)
+find_seen : {X Y : Type 0} (see : X → Y) (p : X → Bool) (q : Y → Bool) → ((x : X) → q (see x) ≡ p x)
+    → (xs : List X)
     → find q (map see xs) ≡ option_map see (find p xs)
 find_seen see p q same [] = refl
 find_seen see p q same (x ∷ xs) =
     ap (λ b. cond b (Some (see x)) (find q (map see xs))) (same x)
-    ∙ elim (p x) as (λ v. cond v (Some (see x)) (find q (map see xs)) ≡ option_map see (cond v (Some x) (find p xs))) [
+    ∙ elim (p x) as (λ v. cond v (Some (see x)) (find q (map see xs))
+    ≡ option_map see (cond v (Some x) (find p xs))) [
       | true ↦ refl
       | false ↦ find_seen see p q same xs
     ]
 
 -- what is seen and is there comes from one that is there
-seen_from : {X Y : Type 0} (see : X → Y) (xs : List X) (y : Y) → Contains (map see xs) y → (x : X) × Contains xs x
+seen_from : {X Y : Type 0} (see : X → Y) (xs : List X) (y : Y) → Contains (map see xs) y → (x : X)
+    × Contains xs x
     × (see x ≡ y)
 seen_from see xs y h = let r : (x : _) × In x xs × (see x ≡ y) =
     In-of_map see y xs (contained (map see xs) y h) in (r.0, Contains-In r.0 xs r.1, r.2)
 
-pub seen_there : {X Y : Type 0} (see : X → Y) (xs : List X) (x : X) → Contains xs x → Contains (map see xs) (see x)
+pub seen_there : {X Y : Type 0} (see : X → Y) (xs : List X) (x : X) → Contains xs x
+    → Contains (map see xs) (see x)
 seen_there see xs x h = Contains-In (see x) (map see xs) (In-map see x xs (contained xs x h))
 
-option_from : {X Y : Type 0} (see : X → Y) (o : Option X) (y : Y) → option_map see o ≡ Some y → (x : X) × (o ≡ Some x)
+option_from : {X Y : Type 0} (see : X → Y) (o : Option X) (y : Y) → option_map see o ≡ Some y → (x : X)
+    × (o ≡ Some x)
     × (see x ≡ y)
 option_from see None y h = absurd (None≢Some h)
 option_from see (Some x) y h = (x, refl, some_same h)
 
 -- what has the same examples is least and never at once
-pub least_same : (P Q : List ℕ → Type 0) → ((id : List ℕ) → P id → Q id) → ((id : List ℕ) → Q id → P id)
+pub least_same : (P Q : List ℕ → Type 0) → ((id : List ℕ) → P id → Q id)
+    → ((id : List ℕ) → Q id → P id)
     → (id : List ℕ) → IsLeast P id → IsLeast Q id
 least_same P Q to fro id h = (to id h.0, λ other q. h.1 other (fro other q))
 
@@ -86,9 +95,11 @@ never_same P Q fro h = λ id q. h id (fro id q)
 -- ---- the words
 
 module _ (Store Seen : Type 0)
-    (head : Store → Option Head) (claims : Store → List Claim) (IsFormed : Store → Type 0) (IsTied : Store → Type 0)
+    (head : Store → Option Head) (claims : Store → List Claim) (IsFormed : Store → Type 0)
+    (IsTied : Store → Type 0)
     (frame_of : Store → Frame) (read : Store → Package)
-    (head' : Seen → Option Head) (claims' : Seen → List Claim) (IsFormed' : Seen → Type 0) (IsTied' : Seen → Type 0)
+    (head' : Seen → Option Head) (claims' : Seen → List Claim) (IsFormed' : Seen → Type 0)
+    (IsTied' : Seen → Type 0)
     (frame_of' : Seen → Frame) (read' : Seen → Package)
     (see : Store → Seen) (same_head : (s : Store) → head' (see s) ≡ head s)
     (same_claims : (s : Store) → claims' (see s) ≡ claims s)
@@ -205,7 +216,8 @@ module _ (Store Seen : Type 0)
     loans_same c = count_seen see (model.is_loan_of Store head claims IsFormed IsTied frame_of read c)
         (model.is_loan_of Seen head' claims' IsFormed' IsTied' frame_of' read' c) (loan_seen c) stores
 
-    pub counted_to : (test : ℕ → Bool) (id : List ℕ) → model.Counted Store head claims IsFormed IsTied frame_of read
+    pub counted_to : (test : ℕ → Bool) (id : List ℕ) → model.Counted Store head claims IsFormed IsTied
+        frame_of read
         test stores id → model.Counted Seen head' claims' IsFormed' IsTied' frame_of' read' test (map see stores) id
     counted_to test id h = (
       see h.0,
@@ -218,7 +230,8 @@ module _ (Store Seen : Type 0)
           (loans_same h.1) ∙ h.6,
     )
 
-    pub counted_fro : (test : ℕ → Bool) (id : List ℕ) → model.Counted Seen head' claims' IsFormed' IsTied' frame_of'
+    pub counted_fro : (test : ℕ → Bool) (id : List ℕ) → model.Counted Seen head' claims' IsFormed' IsTied'
+        frame_of'
         read' test (map see stores) id → model.Counted Store head claims IsFormed IsTied frame_of read test stores id
     counted_fro test id h =
         let from : (s : Store) × Contains stores s × (see s ≡ h.0) = seen_from see stores h.0 h.2 in (
@@ -254,12 +267,14 @@ module _ (Store Seen : Type 0)
     )
 
     foreign_of : (root s loan : Store) (c : Claim) (id : List ℕ)
-        → find (model.is_root Store head claims IsFormed IsTied frame_of read) stores ≡ Some root → Contains stores s
+        → find (model.is_root Store head claims IsFormed IsTied frame_of read) stores ≡ Some root
+        → Contains stores s
         → model.IsOpenSplitOf Seen head' claims' IsFormed' IsTied' frame_of' read' (map see stores) (see s) c
         → Contains stores loan → model.is_loan_of Seen head' claims' IsFormed' IsTied' frame_of' read' c
         (see loan) ≡ true
         → model.uuid_of Seen head' claims' IsFormed' IsTied' frame_of' read' (see loan) ≡ id
-        → ((frame_of' (see loan) ≡ frame_of' (see root) → ⊥) ⊎ (IsBelow (head' (see s)) (head' (see loan)) → ⊥))
+        → ((frame_of' (see loan) ≡ frame_of' (see root) → ⊥)
+        ⊎ (IsBelow (head' (see s)) (head' (see loan)) → ⊥))
         → model.ForeignFrame Store head claims IsFormed IsTied frame_of read stores id
     foreign_of root s loan c id is there o here made named apart = (
       root,
@@ -297,4 +312,5 @@ module _ (Store Seen : Type 0)
         ⊎ (IsBelow (head' (see s_from.0)) (head' (see loan_from.0)) → ⊥)) (sym root_from.2)
         (subst (λ x. (frame_of' (see loan_from.0) ≡ frame_of' root → ⊥)
         ⊎ (IsBelow (head' x) (head' (see loan_from.0)) → ⊥)) (sym s_from.2)
-        (subst (λ x. (frame_of' x ≡ frame_of' root → ⊥) ⊎ (IsBelow (head' s) (head' x) → ⊥)) (sym loan_from.2) apart)))
+        (subst (λ x. (frame_of' x ≡ frame_of' root → ⊥) ⊎ (IsBelow (head' s) (head' x) → ⊥))
+        (sym loan_from.2) apart)))

@@ -1,6 +1,8 @@
 -- The least of some UUIDs, and which UUIDs are looked for.
-use Rattle.std.specs.Prelude.{◌≡◌, ◌⊎◌, ℕ, ℤ, pos, negsuc, zero, suc, Bool, true, false, cond, ◌&&◌, ◌==◌, nat_le}
-use Rattle.std.specs.Prelude.{bytes_eq, List, [], ◌∷◌, ◌++◌, Option, Some, None, count_by, Contains, option_map}
+use Rattle.std.specs.Prelude.{◌≡◌, ◌⊎◌, ℕ, ℤ, pos, negsuc, zero, suc, Bool, true, false, cond}
+use Rattle.std.specs.Prelude.{◌&&◌, ◌==◌, nat_le}
+use Rattle.std.specs.Prelude.{bytes_eq, List, [], ◌∷◌, ◌++◌, Option, Some, None, count_by, Contains}
+use Rattle.std.specs.Prelude.{option_map}
 use Rattle.std.specs.Prelude.{IfSome, IfNone, refl}
 use Rattle.std.proofs.Common.{sym, ap, subst, ◌∙◌, arith, inl, inr}
 use Rattle.std.proofs.lemmas.Bool.{true≢false, false_from_ne_true}
@@ -39,7 +41,8 @@ use Rattle.opening_faults.proofs.Turning.{key_of, not_within, and_swap, found_he
 pub itself : (k : List ℕ) → is_before k k ≡ false
 itself k = false_from_ne_true (is_before k k) (λ h. before_one_way k k h h)
 
-pub not_before : (other x id : List ℕ) → is_before other x ≡ false → is_before x id ≡ false → is_before other id ≡ false
+pub not_before : (other x id : List ℕ) → is_before other x ≡ false → is_before x id ≡ false
+    → is_before other id ≡ false
 not_before other x id a b = false_from_ne_true (is_before other id) (λ lt.
     elim (bytes_eq x id) as (λ v. bytes_eq x id ≡ v → ⊥) [
       | true ↦ λ e. true≢false (sym (ap (is_before other) ((bytes_eq-Decides x id).0 e) ∙ lt) ∙ a)
@@ -49,18 +52,21 @@ not_before other x id a b = false_from_ne_true (is_before other id) (λ lt.
 pub last_there : {X : Type 0} (xs more : List X) (x : X) → more ≡ xs ++ x ∷ [] → Contains more x
 last_there xs more x is = Contains-In x more (subst (In x) (sym is) (In-append x xs (x ∷ []) (inr (inl refl))))
 
-pub still_there : {X : Type 0} (xs more : List X) (x y : X) → more ≡ xs ++ x ∷ [] → Contains xs y → Contains more y
+pub still_there : {X : Type 0} (xs more : List X) (x y : X) → more ≡ xs ++ x ∷ [] → Contains xs y
+    → Contains more y
 still_there xs more x y is h = Contains-In y more (subst (In y) (sym is)
     (In-append y xs (x ∷ []) (inl (contained xs y h))))
 
-pub there_or_last : {X : Type 0} (xs more : List X) (x y : X) → more ≡ xs ++ x ∷ [] → Contains more y → Contains xs y
+pub there_or_last : {X : Type 0} (xs more : List X) (x y : X) → more ≡ xs ++ x ∷ [] → Contains more y
+    → Contains xs y
     ⊎ (x ≡ y)
 there_or_last xs more x y is h = elim (In-of_append y xs (x ∷ []) (subst (In y) is (contained more y h))) [
   | inl i ↦ inl (Contains-In y xs i)
   | inr j ↦ elim j [ inl e ↦ inr e | inr none ↦ absurd none ]
 ]
 
-pub least_more : (o : Option (List ℕ)) (xs more : List (List ℕ)) (id : List ℕ) → more ≡ xs ++ id ∷ [] → IsLeastOf o xs
+pub least_more : (o : Option (List ℕ)) (xs more : List (List ℕ)) (id : List ℕ) → more ≡ xs ++ id ∷ []
+    → IsLeastOf o xs
     → IsLeastOf (Some (lesser o id)) more
 least_more None xs more id is none = (
   last_there xs more id is,
@@ -98,7 +104,8 @@ never_by P ids fro h = λ id p. h id (fro id p)
 
 -- ---- what is put behind the others
 
-pub pushed_none : (wanted : Bool) (text : List ℕ) (ids : List (List ℕ)) → wanted ≡ false → IsPushed wanted text ids ids
+pub pushed_none : (wanted : Bool) (text : List ℕ) (ids : List (List ℕ)) → wanted ≡ false
+    → IsPushed wanted text ids ids
 pushed_none wanted text ids off = record {
   kept = λ id h. h;
   sound = λ id h. inl h;
@@ -113,7 +120,8 @@ pushed_not wanted text ids none = record {
   whole = λ id fit on is. absurd (none id fit is);
 }
 
-pub pushed_one : (wanted : Bool) (text : List ℕ) (old new : List (List ℕ)) (one : List ℕ) → new ≡ old ++ one ∷ []
+pub pushed_one : (wanted : Bool) (text : List ℕ) (old new : List (List ℕ)) (one : List ℕ)
+    → new ≡ old ++ one ∷ []
     → wanted ≡ true → text ≡ uuid_text one → IsUuid one → IsPushed wanted text old new
 pushed_one wanted text old new one all on is fit = record {
   kept = λ id h. still_there old new one id all h;
@@ -127,12 +135,12 @@ pushed_one wanted text old new one all on is fit = record {
 pub none_wanted : (test : OpenSplit → Bool) → AreWanted test [] []
 none_wanted test = record {
   sound = λ id h. absurd (contained [] id h);
-  whole =
-      λ id split fit h. absurd (contained [] split h);
+  whole = λ id split fit h. absurd (contained [] split h);
 }
 
 pub wanted_more : (test : OpenSplit → Bool) (xs more : List OpenSplit) (split : OpenSplit) (wanted : Bool)
-    (old new : List (List ℕ)) → more ≡ xs ++ split ∷ [] → wanted ≡ test split → IsPushed wanted split.target old new
+    (old new : List (List ℕ)) → more ≡ xs ++ split ∷ [] → wanted ≡ test split
+    → IsPushed wanted split.target old new
     → AreWanted test xs old → AreWanted test more new
 wanted_more test xs more split wanted old new is same pushed was = record {
   sound = λ id h. elim (pushed.sound id h) [
@@ -150,11 +158,13 @@ wanted_more test xs more split wanted old new is same pushed was = record {
 -- what is told of the key of a split is how many stores are its loan
 module _ (sights : List Sight) (counts : BTreeMap (List ℕ) Copies)
     (counted : (key : List ℕ) → get (slice_cmp nat_cmp) counts key ≡ told (count_by (has_key key) sights)) where
-  key_is : (n : ℕ) (target : List ℕ) (o : Option StoreHead) → option_map_or (λ h. bytes_eq (head_key h) (n ∷ target))
+  key_is : (n : ℕ) (target : List ℕ) (o : Option StoreHead) → option_map_or
+      (λ h. bytes_eq (head_key h) (n ∷ target))
       o false ≡ option_map_or (λ h. bytes_eq (uuid_text h.uuid) target && is_within (pos n) (pos n) (pos h.loan)) o
       false
   key_is n target None = refl
-  key_is n target (Some h) = bytes_eq_swap (head_key h) (n ∷ target) ∙ key_of (uuid_text h.uuid) target h.loan (pos n)
+  key_is n target (Some h) = bytes_eq_swap (head_key h) (n ∷ target)
+      ∙ key_of (uuid_text h.uuid) target h.loan (pos n)
 
   loan_is : (c : Claim) (o : Option StoreHead) → option_map_or
       (λ h. bytes_eq (uuid_text h.uuid) c.target && is_within c.seq c.seq (pos h.loan)) (option_map head_said o) false
@@ -243,7 +253,8 @@ module _ (sights : List Sight) (splits : List OpenSplit) (all : AreOpenSplits si
 -- ---- the least of what is listed, where there is any
 
 pub some_least : (P : List ℕ → Type 0) (o : Option (List ℕ)) (ids : List (List ℕ))
-    → ((id : List ℕ) → Contains ids id → P id) → ((id : List ℕ) → P id → Contains ids id) → IsLeastOf o ids
+    → ((id : List ℕ) → Contains ids id → P id) → ((id : List ℕ) → P id → Contains ids id)
+    → IsLeastOf o ids
     → IfSome o (λ id. IsLeast P id)
 some_least P None ids to fro h = tt
 some_least P (Some id) ids to fro h = least_by P ids to fro id h

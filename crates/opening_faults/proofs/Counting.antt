@@ -1,5 +1,6 @@
 -- How many stores have a key, told one after the other.
-use Rattle.std.specs.Prelude.{◌≡◌, ℕ, zero, suc, ◌+◌, Bool, true, false, cond, List, [], ◌∷◌, ◌++◌, Option, Some}
+use Rattle.std.specs.Prelude.{◌≡◌, ℕ, zero, suc, ◌+◌, Bool, true, false, cond, List, [], ◌∷◌}
+use Rattle.std.specs.Prelude.{◌++◌, Option, Some}
 use Rattle.std.specs.Prelude.{bytes_eq, count_by, refl}
 use Rattle.std.proofs.Common.{sym, ap, ◌∙◌, arith}
 use Rattle.std.specs.Ordering.{nat_cmp}
@@ -48,13 +49,15 @@ told_of_more p mid new xs more x is was step =
 
 -- a key that is counted once more
 pub key_counted : (m n : BTreeMap (List ℕ) Copies) (k : List ℕ) (more : Copies)
-    → more ≡ told_more (get (slice_cmp nat_cmp) m k) → Updates (slice_cmp nat_cmp) m n k (Some more) → (q : List ℕ)
+    → more ≡ told_more (get (slice_cmp nat_cmp) m k) → Updates (slice_cmp nat_cmp) m n k (Some more)
+    → (q : List ℕ)
     → get (slice_cmp nat_cmp) n q ≡ cond (bytes_eq k q) (Some (told_more (get (slice_cmp nat_cmp) m q)))
     (get (slice_cmp nat_cmp) m q)
 key_counted m n k more is h q =
     at_key m n k (Some more) h q
     ∙ elim (bytes_eq k q) as (λ v. bytes_eq k q ≡ v → cond v (Some more) (get (slice_cmp nat_cmp) m q)
     ≡ cond v (Some (told_more (get (slice_cmp nat_cmp) m q))) (get (slice_cmp nat_cmp) m q)) [
-      | true ↦ λ e. ap Some is ∙ ap (λ x. Some (told_more (get (slice_cmp nat_cmp) m x))) ((bytes_eq-Decides k q).0 e)
+      | true ↦ λ e. ap Some is ∙ ap (λ x. Some (told_more (get (slice_cmp nat_cmp) m x)))
+          ((bytes_eq-Decides k q).0 e)
       | false ↦ λ e. refl
     ] refl

@@ -1,5 +1,6 @@
 -- The stores found round by round, as they are told by standings, and the open splits of each round.
-use Rattle.std.specs.Prelude.{◌≡◌, ℕ, zero, suc, ◌≤◌, Bool, true, false, cond, not, ◌&&◌, ◌||◌, List, [], ◌∷◌, filter}
+use Rattle.std.specs.Prelude.{◌≡◌, ℕ, zero, suc, ◌≤◌, Bool, true, false, cond, not, ◌&&◌, ◌||◌}
+use Rattle.std.specs.Prelude.{List, [], ◌∷◌, filter}
 use Rattle.std.specs.Prelude.{length, refl, flat_map}
 use Rattle.std.proofs.Common.{sym, ap, subst, ◌∙◌, arith, inl, inr}
 use Rattle.std.proofs.lemmas.Bool.{true≢false, false≢true, and_parts, and_from, false_from_ne_true, cases_lt}
@@ -41,7 +42,8 @@ taken_first f t p x xs =
     ]
 
 -- what a test takes that is one of two
-pub taken_either : {X Y : Type 0} (f : X → List Y) (t v u : X → Bool) (p : Y → Bool) → ((x : X) → u x ≡ (t x || v x))
+pub taken_either : {X Y : Type 0} (f : X → List Y) (t v u : X → Bool) (p : Y → Bool)
+    → ((x : X) → u x ≡ (t x || v x))
     → (xs : List X)
     → list_any p (flat_map f (filter u xs)) ≡ (list_any p (flat_map f (filter t xs)) || list_any p
     (flat_map f (filter v xs)))
@@ -84,9 +86,11 @@ module _ (stores : List Sight) where
   pub found_is : (k : ℕ) (s : Sight) → is_found (standing k stores s) ≡ at k s
   found_is zero s = elim (is_root s) as (λ v. is_found (cond v Fresh Stray) ≡ v) [ true ↦ refl | false ↦ refl ]
   found_is (suc k) s =
-      elim (at k s) as (λ v. at k s ≡ v → is_found (cond v Settled (cond (at (suc k) s) Fresh Stray)) ≡ at (suc k) s) [
+      elim (at k s) as (λ v. at k s ≡ v → is_found (cond v Settled (cond (at (suc k) s) Fresh Stray))
+      ≡ at (suc k) s) [
         | true ↦ λ e. sym (grows k (suc k) s (omega arith) e)
-        | false ↦ λ e. elim (at (suc k) s) as (λ v. is_found (cond v Fresh Stray) ≡ v) [ true ↦ refl | false ↦ refl ]
+        | false ↦ λ e. elim (at (suc k) s) as (λ v. is_found (cond v Fresh Stray) ≡ v)
+            [ true ↦ refl | false ↦ refl ]
       ] refl
 
   fresh_root : (s : Sight) → fresh zero s ≡ is_root s
@@ -96,7 +100,8 @@ module _ (stores : List Sight) where
   fresh_later k s =
       elim (at k s) as (λ v. is_fresh (cond v Settled (cond (at (suc k) s) Fresh Stray)) ≡ (not v && at (suc k) s)) [
         | true ↦ refl
-        | false ↦ elim (at (suc k) s) as (λ v. is_fresh (cond v Fresh Stray) ≡ v) [ true ↦ refl | false ↦ refl ]
+        | false ↦ elim (at (suc k) s) as (λ v. is_fresh (cond v Fresh Stray) ≡ v)
+            [ true ↦ refl | false ↦ refl ]
       ]
 
   pub fresh_found : (k : ℕ) (s : Sight) → fresh k s ≡ true → IsFoundIn k stores s
@@ -131,7 +136,8 @@ module _ (stores : List Sight) where
       (filter_same (fresh zero) (at zero) stores (All-each (λ s. fresh zero s ≡ at zero s) fresh_root stores))
   said_with (suc k) p = sym (said_more k p)
 
-  pub news_in : (k : ℕ) (s : Sight) (c : Claim) → In s stores → at k s ≡ true → In c (claims_seen s) → In c (said k)
+  pub news_in : (k : ℕ) (s : Sight) (c : Claim) → In s stores → at k s ≡ true → In c (claims_seen s)
+      → In c (said k)
   news_in k s c i h j = In-flat_map claims_seen s c (filter (at k) stores) (In-filter (at k) s stores i h) j
 
   -- ---- one round more
@@ -140,7 +146,8 @@ module _ (stores : List Sight) where
   made k s c = is_loan_of c s && is_open_claim (said k) c
 
   -- a store that is not found is made by a split of a store of this round, or of none
-  pub made_just_now : (k : ℕ) (s : Sight) → at k s ≡ false → list_any (made k s) (said k) ≡ true → (x : Sight)
+  pub made_just_now : (k : ℕ) (s : Sight) → at k s ≡ false → list_any (made k s) (said k) ≡ true
+      → (x : Sight)
       × In x stores × (fresh k x ≡ true) × (c : Claim) × In c (claims_seen x) × (made k s c ≡ true)
   made_just_now k s none h =
       let it = any_of_taken claims_seen (at k) (made k s) stores h in
@@ -162,7 +169,8 @@ module _ (stores : List Sight) where
       ]
 
   -- how a store stands one round later, by whether it is lent just now
-  pub stands_later : (k : ℕ) (s : Sight) (lent : Bool) → (at k s ≡ false → lent ≡ list_any (made k s) (said k))
+  pub stands_later : (k : ℕ) (s : Sight) (lent : Bool) → (at k s ≡ false
+      → lent ≡ list_any (made k s) (said k))
       → one_later (standing k stores s) lent ≡ standing (suc k) stores s
   stands_later k s lent h =
       elim (at k s) as (λ v. at k s ≡ v → one_later (standing k stores s) lent

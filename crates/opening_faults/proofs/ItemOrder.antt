@@ -1,5 +1,6 @@
 -- Keys of items: their order and when two are one.
-use Rattle.std.proofs.Common.{◌≡◌, ℕ, suc, List, [], ◌∷◌, ◌++◌, length, refl, sym, ap, ◌∙◌, arith, true, false, Bool}
+use Rattle.std.proofs.Common.{◌≡◌, ℕ, suc, List, [], ◌∷◌, ◌++◌, length, refl, sym, ap, ◌∙◌}
+use Rattle.std.proofs.Common.{arith, true, false, Bool}
 use Rattle.std.specs.Prelude.{◌&&◌, nat_eq, bytes_eq}
 use Rattle.std.proofs.lemmas.Bool.Decides.{nat_tests}
 use Rattle.std.specs.declared.cmp.Ordering.{Ordering}
@@ -54,7 +55,8 @@ parts_same (x ∷ xs) (y ∷ ys) f g =
     ∙ ap (λ v. nat_eq x y && v) (parts_same xs ys f g) ∙ and_assoc (nat_eq x y) (bytes_eq xs ys) (bytes_eq f g)
 
 -- two keys are one where size, identity and digest are
-pub keys_same : (s t : ℕ) (a b f g : List ℕ) → bytes_eq (s ∷ length a ∷ (a ++ f)) (t ∷ length b ∷ (b ++ g))
+pub keys_same : (s t : ℕ) (a b f g : List ℕ) → bytes_eq (s ∷ length a ∷ (a ++ f))
+    (t ∷ length b ∷ (b ++ g))
     ≡ ((bytes_eq a b && nat_eq s t) && bytes_eq f g)
 keys_same s t a b f g = ap (λ v. nat_eq s t && v) (parts_same a b f g)
     ∙ swap_first (nat_eq s t) (bytes_eq a b) (bytes_eq f g) ∙ and_assoc (bytes_eq a b) (nat_eq s t) (bytes_eq f g)

@@ -1,5 +1,6 @@
 -- Lists that grow by one, as loops make them.
-use Rattle.std.specs.Prelude.{◌≡◌, ℕ, zero, suc, ◌<◌, Bool, true, false, cond, ◌&&◌, ◌||◌, List, [], ◌∷◌, ◌++◌, map}
+use Rattle.std.specs.Prelude.{◌≡◌, ℕ, zero, suc, ◌<◌, Bool, true, false, cond, ◌&&◌, ◌||◌, List}
+use Rattle.std.specs.Prelude.{[], ◌∷◌, ◌++◌, map}
 use Rattle.std.specs.Prelude.{filter, flat_map, length, refl, unwrap_or, slice_get}
 use Rattle.std.proofs.Common.{sym, ap, ◌∙◌, arith, append_assoc, get_or}
 use Rattle.std.proofs.lemmas.List.Folds.{list_any-append}
@@ -18,7 +19,8 @@ pub any_more : {X : Type 0} (p : X → Bool) (old mid new : Bool) (xs more : Lis
     → mid ≡ (old || list_any p xs) → new ≡ (mid || p x) → new ≡ (old || list_any p more)
 any_more p old mid new xs more x is was step =
     step ∙ ap (λ b. b || p x) was ∙ or_assoc old (list_any p xs) (p x)
-    ∙ ap (λ b. old || b) (ap (λ b. list_any p xs || b) (sym (or-false (p x))) ∙ sym (list_any-append p xs (x ∷ []))
+    ∙ ap (λ b. old || b) (ap (λ b. list_any p xs || b) (sym (or-false (p x)))
+    ∙ sym (list_any-append p xs (x ∷ []))
     ∙ ap (list_any p) (sym is))
 
 pub map_more : {X Y : Type 0} (f : X → Y) (xs more : List X) (x : X) → more ≡ xs ++ x ∷ []
@@ -69,7 +71,8 @@ mapped_at f x y (z ∷ zs) (suc j) h = mapped_at f x y zs j (omega (arith, h))
 -- what a list made by a function has at a place
 pub at_place : {X Y : Type 0} (f : X → Y) (xs : List X) (ys : List Y) (i : ℕ) (x : X) (y : Y) → ys ≡ map f xs
     → i < length xs → x ≡ get_or xs i x → unwrap_or (slice_get ys i) y ≡ f x
-at_place f xs ys i x y is lt at = ap (λ zs. unwrap_or (slice_get zs i) y) is ∙ mapped_at f x y xs i lt ∙ ap f (sym at)
+at_place f xs ys i x y is lt at = ap (λ zs. unwrap_or (slice_get zs i) y) is ∙ mapped_at f x y xs i lt
+    ∙ ap f (sym at)
 
 -- what passes, each turned into another, behind others, with one more
 pub passing_more : {X Y : Type 0} (f : X → Y) (p : X → Bool) (old mid new : List Y) (xs more : List X) (x : X)
@@ -86,7 +89,8 @@ passing_more f p old mid new xs more x is was step =
     last false = refl
 
 -- a list made by a function, with one more
-pub made_more : {X Y : Type 0} (f : X → Y) (mid new : List Y) (xs more : List X) (x : X) (y : Y) → more ≡ xs ++ x ∷ []
+pub made_more : {X Y : Type 0} (f : X → Y) (mid new : List Y) (xs more : List X) (x : X) (y : Y)
+    → more ≡ xs ++ x ∷ []
     → mid ≡ map f xs → y ≡ f x → new ≡ mid ++ y ∷ [] → new ≡ map f more
 made_more f mid new xs more x y is was one step = step ∙ ap (λ ys. ys ++ y ∷ []) was
     ∙ ap (λ z. map f xs ++ z ∷ []) one ∙ sym (map_more f xs more x is)

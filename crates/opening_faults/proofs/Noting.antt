@@ -1,5 +1,6 @@
 -- Maps of merges with text keys.
-use Rattle.std.specs.Prelude.{◌≡◌, ℕ, ℤ, true, false, cond, ◌&&◌, ◌||◌, List, Option, Some, bytes_eq, int_lt, refl}
+use Rattle.std.specs.Prelude.{◌≡◌, ℕ, ℤ, true, false, cond, ◌&&◌, ◌||◌, List, Option, Some}
+use Rattle.std.specs.Prelude.{bytes_eq, int_lt, refl}
 use Rattle.std.specs.Prelude.{String}
 use Rattle.std.proofs.Common.{sym, ap, ◌∙◌}
 use Rattle.std.specs.Option.{option_map_or}
@@ -14,7 +15,8 @@ use Rattle.sheet_types.proofs.Basics.{or-false}
 use Rattle.opening_faults.specs.Merges.{is_above}
 
 -- a source whose number is now the greater of two
-pub noted_text : {Y : Type 0} (m new : BTreeMap (String Y) ℤ) (bs source : List ℕ) (last : Option ℤ) (seq top : ℤ)
+pub noted_text : {Y : Type 0} (m new : BTreeMap (String Y) ℤ) (bs source : List ℕ) (last : Option ℤ)
+    (seq top : ℤ)
     → bs ≡ source → last ≡ get_by_text m source
     → ((n : ℤ) → int_lt n top ≡ (option_map_or (int_lt n) last false || int_lt n seq))
     → tree.UpdatesBy string_cmp (λ k. slice_cmp nat_cmp bs (string_bytes k)) m new (Some top)

@@ -1,6 +1,8 @@
 -- What is known after each round: how the stores stand, which merges are noted, which open splits are listed.
-use Rattle.std.specs.Prelude.{◌≡◌, ◌⊎◌, ℕ, ℤ, pos, negsuc, zero, suc, ◌<◌, ◌≤◌, Bool, true, false, cond, not, ◌&&◌}
-use Rattle.std.specs.Prelude.{◌||◌, nat_lt, nat_eq, bytes_eq, List, [], ◌∷◌, ◌++◌, map, filter, length, refl, Option}
+use Rattle.std.specs.Prelude.{◌≡◌, ◌⊎◌, ℕ, ℤ, pos, negsuc, zero, suc, ◌<◌, ◌≤◌, Bool, true}
+use Rattle.std.specs.Prelude.{false, cond, not, ◌&&◌}
+use Rattle.std.specs.Prelude.{◌||◌, nat_lt, nat_eq, bytes_eq, List, [], ◌∷◌, ◌++◌, map, filter, length}
+use Rattle.std.specs.Prelude.{refl, Option}
 use Rattle.std.specs.Prelude.{Some, None, option_map, Contains, String}
 use Rattle.std.proofs.Common.{sym, ap, subst, ◌∙◌, arith, inl, inr}
 use Rattle.std.proofs.lemmas.Bool.{true≢false, and_parts, and_from, false_from_ne_true, cases_lt}
@@ -37,7 +39,8 @@ use Rattle.opening_faults.proofs.Growing.{news_in, made, made_just_now, stands_l
 pub of_filter : {X : Type 0} (t : X → Bool) (x : X) (xs : List X) → In x (filter t xs) → In x xs × (t x ≡ true)
 of_filter t x [] i = absurd i
 of_filter t x (y ∷ ys) i =
-    elim (t y) as (λ v. t y ≡ v → In x (cond v (y ∷ filter t ys) (filter t ys)) → In x (y ∷ ys) × (t x ≡ true)) [
+    elim (t y) as (λ v. t y ≡ v → In x (cond v (y ∷ filter t ys) (filter t ys)) → In x (y ∷ ys)
+    × (t x ≡ true)) [
       | true ↦ λ e j. elim j [
         | inl same ↦ (inl same, ap t (sym same) ∙ e)
         | inr later ↦ let r : In x ys × (t x ≡ true) = of_filter t x ys later in (inr r.0, r.1)
@@ -71,7 +74,8 @@ and_swap true false = refl
 and_swap false true = refl
 and_swap false false = refl
 
-pub key_of : (text target : List ℕ) (loan : ℕ) (seq : ℤ) → option_map_or (λ made. bytes_eq made (loan ∷ text))
+pub key_of : (text target : List ℕ) (loan : ℕ) (seq : ℤ) → option_map_or
+    (λ made. bytes_eq made (loan ∷ text))
     (number_key seq target) false ≡ (bytes_eq text target && is_within seq seq (pos loan))
 key_of text target loan (pos n) =
     and_swap (nat_eq n loan) (bytes_eq target text) ∙ ap (λ b. b && nat_eq n loan) (bytes_eq_swap target text)
@@ -103,7 +107,8 @@ split_from : (p : Claim → Bool) (s : Sight) (split : OpenSplit) → In split (
 split_from p s split i =
     let Found : Type 0 = (h : StoreHead) × (s.head ≡ Some h) × (c : Claim) × In c (claims_seen s) × (p c ≡ true)
     × (split_made h c ≡ split) in
-    elim s.head as (λ o. s.head ≡ o → In split (option_map_or (λ h. map (split_made h) (filter p (claims_seen s))) o
+    elim s.head as (λ o. s.head ≡ o → In split (option_map_or
+    (λ h. map (split_made h) (filter p (claims_seen s))) o
     []) → Found) [
       | None ↦ λ e j. absurd j
       | Some h ↦ λ e j.
@@ -131,7 +136,8 @@ module _ (stores : List Sight) where
   pub found_headed : (j : ℕ) (s : Sight) → at stores j s ≡ true → (h : StoreHead) × (s.head ≡ Some h)
   found_headed zero s g = elim (headed s.head) [
     | inl h ↦ h
-    | inr none ↦ absurd (true≢false (sym g ∙ ap (λ o. option_map_or (λ x. nat_eq x.depth 0) (option_map head_said o)
+    | inr none ↦ absurd (true≢false (sym g ∙ ap (λ o. option_map_or (λ x. nat_eq x.depth 0)
+        (option_map head_said o)
         false) none))
   ]
   found_headed (suc j) s g =
@@ -163,7 +169,8 @@ module _ (stores : List Sight) where
           refl,
         )
 
-    here_whole : (s : Sight) (c : Claim) (h : StoreHead) → In s stores → IsFoundIn k stores s → In c (claims_seen s)
+    here_whole : (s : Sight) (c : Claim) (h : StoreHead) → In s stores → IsFoundIn k stores s
+        → In c (claims_seen s)
         → is_open_claim (said stores k) c ≡ true → s.head ≡ Some h → In (split_made h c) here
     here_whole s c h i found j «open» e =
         In-flat_map (splits_in p) s (split_made h c) (filter (fresh stores k) stores)
@@ -197,7 +204,8 @@ module _ (stores : List Sight) where
       made_lent s h e none g =
           let it = made_just_now stores k s none g in
           let parts = and_parts (is_loan_of it.3 s) (is_open_claim (said stores k) it.3) it.5 in
-          let above : (x : StoreHead) × (it.0.head ≡ Some x) = found_headed k it.0 (fresh_found stores k it.0 it.2).0 in
+          let above : (x : StoreHead) × (it.0.head ≡ Some x) =
+          found_headed k it.0 (fresh_found stores k it.0 it.2).0 in
           any_in (makes_key (head_key h)) (split_made above.0 it.3) here
           (here_whole it.0 it.3 above.0 it.1 (fresh_found stores k it.0 it.2) it.4 parts.1 above.1)
           (key_same h above.0 it.3 ∙ sym (loan_headed s h it.3 e) ∙ parts.0)
@@ -226,11 +234,11 @@ module _ (stores : List Sight) where
   pub none_listed : AreListed stores zero []
   none_listed = record {
     sound = λ split i. absurd (contained [] split i);
-    whole =
-        λ j s c h lt i found k «open» e. absurd (omega (arith, lt));
+    whole = λ j s c h lt i found k «open» e. absurd (omega (arith, lt));
   }
 
-  pub more_listed : (k : ℕ) (old new : List OpenSplit) → new ≡ old ++ splits_at k stores → AreListed stores k old
+  pub more_listed : (k : ℕ) (old new : List OpenSplit) → new ≡ old ++ splits_at k stores
+      → AreListed stores k old
       → AreListed stores (suc k) new
   more_listed k old new all was = record {
     sound = λ split i. elim (In-of_append split old (splits_at k stores)
@@ -247,7 +255,8 @@ module _ (stores : List Sight) where
       later_or j lt = elim (cases_lt j k) [ inl less ↦ inl less | inr le ↦ inr (omega (arith, lt, le)) ]
 
       one : (j : ℕ) (s : Sight) (c : Claim) (h : StoreHead) → Contains stores s → IsFoundIn j stores s
-          → Contains (claims_seen s) c → is_open_claim (said stores j) c ≡ true → s.head ≡ Some h → (j < k) ⊎ (j ≡ k)
+          → Contains (claims_seen s) c → is_open_claim (said stores j) c ≡ true → s.head ≡ Some h
+          → (j < k) ⊎ (j ≡ k)
           → In (split_made h c) old ⊎ In (split_made h c) (splits_at k stores)
       one j s c h i found m «open» e past = elim past [
         | inl lt ↦ inl (contained old (split_made h c) (was.whole j s c h lt i found m «open» e))
@@ -266,7 +275,8 @@ module _ (stores : List Sight) where
   }
 
   -- the merges of this round are noted too
-  pub noted_now : {Y : Type 0} (k : ℕ) (merges new : BTreeMap (String Y) ℤ) → HasMerges merges (said_before stores k)
+  pub noted_now : {Y : Type 0} (k : ℕ) (merges new : BTreeMap (String Y) ℤ)
+      → HasMerges merges (said_before stores k)
       → ((source : List ℕ) (n : ℤ) → is_above new source n ≡
       (is_above merges source n || list_any (merges_after source n) (news stores k)))
       → HasMerges new (said stores k)

@@ -1,5 +1,6 @@
 -- Live stores that are not fit, one place after the other.
-use Rattle.std.specs.Prelude.{◌≡◌, ◌↔◌, ℕ, zero, suc, ◌+◌, ◌<◌, ◌≤◌, Bool, true, false, List, [], ◌∷◌, length, Some}
+use Rattle.std.specs.Prelude.{◌≡◌, ◌↔◌, ℕ, zero, suc, ◌+◌, ◌<◌, ◌≤◌, Bool, true, false}
+use Rattle.std.specs.Prelude.{List, [], ◌∷◌, length, Some}
 use Rattle.std.specs.Prelude.{slice_get, IsTrue}
 use Rattle.std.proofs.Common.{sym, ap, subst, ◌∙◌, arith, inl, inr, get_or}
 use Rattle.std.proofs.lemmas.Bool.{cases_lt}
@@ -21,7 +22,8 @@ module _ (live fit : List Bool) (sights : List Sight) where
   none_below ids = adds_none (IsUnfitBelow live fit sights 0) ids (λ id h. omega (arith, h.1))
 
   pub unfit_more : (i : ℕ) (s : Sight) (unfit : Bool) (old mid new : List (List ℕ)) → i < length sights
-      → s ≡ get_or sights i s → (IsTrue unfit ↔ ((slice_get live i ≡ Some true) × (slice_get fit i ≡ Some false)))
+      → s ≡ get_or sights i s → (IsTrue unfit ↔ ((slice_get live i ≡ Some true)
+      × (slice_get fit i ≡ Some false)))
       → Adds (IsUnfitBelow live fit sights i) old mid → Adds (IsUnfitAt unfit s) mid new
       → Adds (IsUnfitBelow live fit sights (i + 1)) old new
   unfit_more i s unfit old mid new lt at tells was now = record {
@@ -54,7 +56,8 @@ module _ (live fit : List Bool) (sights : List Sight) where
           (slice_get-get_or sights i s lt ∙ ap Some (sym at)) in
           (h, ap (λ v. v.head) (sym same) ∙ e, n, tells.1 (l, f))
 
-  pub unfit_all : (n : ℕ) (ids : List (List ℕ)) → length sights ≤ n → Adds (IsUnfitBelow live fit sights n) [] ids
+  pub unfit_all : (n : ℕ) (ids : List (List ℕ)) → length sights ≤ n
+      → Adds (IsUnfitBelow live fit sights n) [] ids
       → Adds (IsUnfit live fit sights) [] ids
   unfit_all n ids le h = record {
     kept = h.kept;

@@ -1,5 +1,6 @@
 -- What additions say of items, and the items of which none says what is seen. Profile.
-use Rattle.std.specs.Prelude.{◌≡◌, ℕ, ◌&&◌, false, List, [], ◌∷◌, ◌++◌, Bool, Option, Contains, unwrap_or, length}
+use Rattle.std.specs.Prelude.{◌≡◌, ℕ, ◌&&◌, false, List, [], ◌∷◌, ◌++◌, Bool, Option, Contains}
+use Rattle.std.specs.Prelude.{unwrap_or, length}
 use Rattle.std.specs.Ordering.{nat_cmp}
 use Rattle.std.specs.Cmp.Lexicographic.{slice_cmp}
 use Rattle.std.specs.BTreeSet.{BTreeSet, contains}

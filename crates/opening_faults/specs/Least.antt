@@ -1,5 +1,6 @@
 -- The least of some packages. Profile.
-use Rattle.std.specs.Prelude.{◌≡◌, ◌⊎◌, ℕ, Bool, true, false, List, Option, Some, None, MatchOption, if◌then◌else◌}
+use Rattle.std.specs.Prelude.{◌≡◌, ◌⊎◌, ℕ, Bool, true, false, List, Option, Some, None, MatchOption}
+use Rattle.std.specs.Prelude.{if◌then◌else◌}
 use Rattle.std.specs.Prelude.{Contains}
 use Rattle.sheet_types.specs.Lines.{IsUuid}
 use Rattle.sheet_types.specs.Ordered.{is_before}
@@ -33,5 +34,6 @@ pub record AreWanted (test : OpenSplit → Bool) (splits : List OpenSplit) (ids 
 -- the UUID of this text is put behind the others, where it is looked for and is one
 pub record IsPushed (wanted : Bool) (text : List ℕ) (old new : List (List ℕ)) : Type 0 where
   pub kept : (id : List ℕ) → Contains old id → Contains new id
-  pub sound : (id : List ℕ) → Contains new id → Contains old id ⊎ (IsUuid id × (wanted ≡ true) × (text ≡ uuid_text id))
+  pub sound : (id : List ℕ) → Contains new id → Contains old id
+      ⊎ (IsUuid id × (wanted ≡ true) × (text ≡ uuid_text id))
   pub whole : (id : List ℕ) → IsUuid id → wanted ≡ true → text ≡ uuid_text id → Contains new id

@@ -1,5 +1,6 @@
 -- Open splits by the last merge of each package. Profile.
-use Rattle.std.specs.Prelude.{◌≡◌, ℕ, ℤ, Bool, false, not, ◌&&◌, List, length, bytes_eq, nat_lt, int_lt, String}
+use Rattle.std.specs.Prelude.{◌≡◌, ℕ, ℤ, Bool, false, not, ◌&&◌, List, length, bytes_eq, nat_lt, int_lt}
+use Rattle.std.specs.Prelude.{String}
 use Rattle.std.specs.List.{list_any}
 use Rattle.std.specs.Option.{option_map_or}
 use Rattle.std.specs.BTreeMap.{BTreeMap, get_by_text}
@@ -15,7 +16,8 @@ is_above merges source n = option_map_or (int_lt n) (get_by_text merges source) 
 
 -- of each source the greatest number of a merge among the claims is noted
 abbrev pub HasMerges : {Y : Type 0} → BTreeMap (String Y) ℤ → List Claim → Type 0
-HasMerges merges claims = (source : List ℕ) (n : ℤ) → is_above merges source n ≡ list_any (merges_after source n) claims
+HasMerges merges claims = (source : List ℕ) (n : ℤ) → is_above merges source n
+    ≡ list_any (merges_after source n) claims
 
 -- a split with a target, of which no later merge is noted
 abbrev pub is_open_by : {Y : Type 0} → BTreeMap (String Y) ℤ → Claim → Bool

@@ -1,5 +1,6 @@
 -- The open splits of the stores of a round, and all of them. Profile.
-use Rattle.std.specs.Prelude.{◌≡◌, ℕ, ℤ, pos, negsuc, Bool, false, List, [], ◌∷◌, map, filter, flat_map, Option, Some}
+use Rattle.std.specs.Prelude.{◌≡◌, ℕ, ℤ, pos, negsuc, Bool, false, List, [], ◌∷◌, map, filter}
+use Rattle.std.specs.Prelude.{flat_map, Option, Some}
 use Rattle.std.specs.Prelude.{None, bytes_eq, Contains}
 use Rattle.std.specs.Option.{option_map_or}
 use Rattle.std.specs.Ordering.{nat_cmp}
@@ -58,7 +59,8 @@ IsOpenSplit stores split = (s : Sight) × (c : Claim) × Contains stores s × Is
 -- the list has just the open splits of the stores
 pub record AreOpenSplits (stores : List Sight) (splits : List OpenSplit) : Type 0 where
   pub sound : (split : OpenSplit) → Contains splits split → IsOpenSplit stores split
-  pub whole : (s : Sight) (c : Claim) (h : StoreHead) → Contains stores s → IsOpenSplitOf stores s c → s.head ≡ Some h
+  pub whole : (s : Sight) (c : Claim) (h : StoreHead) → Contains stores s → IsOpenSplitOf stores s c
+      → s.head ≡ Some h
       → Contains splits (split_made h c)
 
 -- what a split claims, as far as its loan is known by it

@@ -31,7 +31,8 @@ pub fn least_altered(
     ledger: &[Receipt],
     sights: &[Sight],
 ) -> Result<Option<Uuid>, OutOfMemory>
-    ensures { IfOk result (λ found. (w : World) → IsSeenWith ledger.now sights.now w → least (altered w) ≡ found) }
+    ensures { IfOk result (λ found. (w : World) → IsSeenWith ledger.now sights.now w
+        → least (altered w) ≡ found) }
 {
     let added = additions(alloc, ledger)?;
     let ids = altered_ids(alloc, &added, sights)?;

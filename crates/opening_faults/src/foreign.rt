@@ -106,7 +106,8 @@ fn push_apart(
 
 // Puts the UUID of a store behind the others, where it has a head.
 fn push_uuid(ids: &mut Vec<Uuid>, sight: &Sight) -> Result<(), AllocError>
-    ensures { IfOk result (λ _. ids.new.items ≡ ids.old.items ++ option_map_or (λ h. h.uuid ∷ []) sight.now.head []) }
+    ensures { IfOk result (λ _. ids.new.items ≡ ids.old.items
+        ++ option_map_or (λ h. h.uuid ∷ []) sight.now.head []) }
 {
     let Some(head) = &sight.head else {
         return Ok(());

@@ -1,5 +1,6 @@
 //! Which splits are open: of each package the greatest number of a merge is noted.
-ghost use Rattle.std.specs.Prelude.{◌≡◌, ◌&&◌, ◌||◌, ℕ, ℤ, List, false, map, length, bytes_eq, nat_lt, int_lt, IfOk};
+ghost use Rattle.std.specs.Prelude.{◌≡◌, ◌&&◌, ◌||◌, ℕ, ℤ, List, false, map, length, bytes_eq};
+ghost use Rattle.std.specs.Prelude.{nat_lt, int_lt, IfOk};
 ghost use Rattle.std.specs.List.{list_any};
 ghost use Rattle.std.specs.Option.{option_map_or};
 ghost use Rattle.sheet_types.specs.Opening.{claims_merge};

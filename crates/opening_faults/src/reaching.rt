@@ -1,5 +1,6 @@
 //! Which stores are live, and which splits are open.
-ghost use Rattle.std.specs.Prelude.{◌≡◌, ◌++◌, ◌||◌, ◌&&◌, ◌∷◌, ℕ, ℤ, suc, List, [], map, filter, flat_map, unwrap_or};
+ghost use Rattle.std.specs.Prelude.{◌≡◌, ◌++◌, ◌||◌, ◌&&◌, ◌∷◌, ℕ, ℤ, suc, List, [], map};
+ghost use Rattle.std.specs.Prelude.{filter, flat_map, unwrap_or};
 ghost use Rattle.std.specs.Prelude.{slice_get, bytes_eq, IfOk, if◌then◌else◌};
 ghost use Rattle.std.specs.List.{list_any};
 ghost use Rattle.std.specs.Ordering.{nat_cmp};
@@ -50,7 +51,7 @@ pub fn reach(alloc: Global, sights: &[Sight]) -> Result<Reached, OutOfMemory>
     }
     let opened = open_now(alloc, &mut merges, sights, standings.as_slice())?;
     push_all(&mut splits, opened)?;
-    let live = found(alloc, standings.as_slice())?;
+    let live = found_flags(alloc, standings.as_slice())?;
     Ok(Reached { live, splits })
 }
 
@@ -115,7 +116,7 @@ fn first_standing(sight: &Sight) -> Standing
 }
 
 // Which of the stores are found.
-fn found(alloc: Global, standings: &[Standing]) -> Result<Vec<bool>, AllocError>
+fn found_flags(alloc: Global, standings: &[Standing]) -> Result<Vec<bool>, AllocError>
     ensures { IfOk result (λ live. live.items ≡ map is_found standings.now) }
 {
     standings.iter().map(is_found).collect(alloc)
@@ -155,7 +156,8 @@ fn note_fresh(
     sights: &[Sight],
     standings: &[Standing],
 ) -> Result<(), AllocError>
-    ensures { IfOk result (λ _. (t : Sight → Standing) → standings.now ≡ map t sights.now → (source : List ℕ) (n : ℤ)
+    ensures { IfOk result (λ _. (t : Sight → Standing) → standings.now ≡ map t sights.now
+        → (source : List ℕ) (n : ℤ)
         → is_above merges.new source n ≡ (is_above merges.old source n || list_any (merges_after source n)
         (flat_map claims_seen (filter (λ s. is_fresh (t s)) sights.now)))) }
 {

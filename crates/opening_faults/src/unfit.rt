@@ -1,5 +1,6 @@
 //! The least package among live stores that are not what they ought to be.
-ghost use Rattle.std.specs.Prelude.{◌≡◌, ◌↔◌, [], true, false, Some, slice_get, IsTrue, IfOk, IfSome, IfNone};
+ghost use Rattle.std.specs.Prelude.{◌≡◌, ◌↔◌, [], true, false, Some, slice_get, IsTrue, IfOk, IfSome};
+ghost use Rattle.std.specs.Prelude.{IfNone};
 ghost use Rattle.sheet_types.specs.Opening.{IsLeast, IsNever};
 ghost use Rattle.opening_faults.specs.Foreign.{Adds};
 ghost use Rattle.opening_faults.specs.Unfit.{IsUnfitAt, IsUnfit};

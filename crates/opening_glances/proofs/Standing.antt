@@ -23,8 +23,7 @@ beside db v t glance (inl first) = record {
   view = v;
   sight = t;
   heads = first_head glance.head;
-  claims =
-      claims_same db (claims_seen t) v.claims glance.claims first.1.claims;
+  claims = claims_same db (claims_seen t) v.claims glance.claims first.1.claims;
 }
   where
     first_head : ReadsEitherHead db (head_seen t) → head_seen t ≡ v.head
@@ -34,8 +33,7 @@ beside db v t glance (inr second) = record {
   view = v;
   sight = t;
   heads = second_head glance.head;
-  claims =
-      claims_same db (claims_seen t) v.claims glance.claims second.1.claims;
+  claims = claims_same db (claims_seen t) v.claims glance.claims second.1.claims;
 }
   where
     second_head : ReadsEitherHead db (head_seen t) → head_seen t ≡ v.head
@@ -88,7 +86,8 @@ as_long (db ∷ dbs) (t ∷ ts) g = ap (λ n. suc n) (as_long dbs ts g.1)
 pub left_out_stand : LeftOutStand
 left_out_stand dbs sights live others w g opened left stands =
     let long : length (live_flags sights) ≡ length dbs = length-map sights _ ∙ as_long dbs sights g in
-    let r : (views : List StoreSight) × AllZip IsViewAtEither dbs views × (flagged (live_flags sights) views ≡ live) =
+    let r : (views : List StoreSight) × AllZip IsViewAtEither dbs views
+    × (flagged (live_flags sights) views ≡ live) =
     put_together IsViewAtEither dbs (live_flags sights) live others long opened left in
     let taken : live ≡ live_views r.0 = sym r.2 ∙ ap (λ flags. flagged flags r.0) (told_live dbs sights r.0 g r.1)
     ∙ flagged_by (is_live_view r.0) r.0 in (

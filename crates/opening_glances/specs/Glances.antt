@@ -10,7 +10,8 @@ use Rattle.opening_v1.specs.Either.{SaysFirst}
 
 -- the head that the store says, at the first version where it says that one, and else at the second; or none
 abbrev pub ReadsEitherHead : Database → Option Head → Type 0
-ReadsEitherHead db found = (SaysFirst db × ReadsHeadAt (pos 1) db found) ⊎ ((SaysFirst db → ⊥) × ReadsHead db found)
+ReadsEitherHead db found = (SaysFirst db × ReadsHeadAt (pos 1) db found)
+    ⊎ ((SaysFirst db → ⊥) × ReadsHead db found)
 
 -- its head and its claims are right, as those of each right view are
 pub record IsGlanceOf (db : Database) (sight : Sight) : Type 0 where

@@ -25,7 +25,8 @@ use Rattle.opening_laws.proofs.OneView.{view_of_kept}
 module _ {S : Type 0} (g : Ghosts S) (w : World) (kept : IsKeptWorld w) (stores : List (Held S))
     (of : AreStoresOf g stores w) where
   -- a store is one of a package, or a stray
-  store_role : (h : Held S) → In h stores → ((p : Package) × In p w.packages × IsStoreOf g w h p) ⊎ IsStrayStore g w h
+  store_role : (h : Held S) → In h stores → ((p : Package) × In p w.packages × IsStoreOf g w h p)
+      ⊎ IsStrayStore g w h
   store_role h i = elim (In-of_append h of.members of.others
       (In-permuted h stores (of.members ++ of.others) of.all i)) [
         | inl m ↦ inl (zip_left (IsStoreOf g w) h of.members w.packages of.each m)
@@ -42,7 +43,8 @@ module _ {S : Type 0} (g : Ghosts S) (w : World) (kept : IsKeptWorld w) (stores 
             (sym (stay.holds is_open).now_is) (s.2 (stay.was_open is_open)) in
             let view = view_of_kept w s.0 (state g h).now v (All-In _ s.0 w.packages kept.0.packages s.1)
             (All-In IsInBounds s.0 w.packages (packages_are_in_bounds w kept.0 kept.1) s.1) reads right in
-            absurd (true≢false (sym (member_found w kept.0 views seen s.0 v s.1 (contained views v among) view) ∙ dead))
+            absurd (true≢false (sym (member_found w kept.0 views seen s.0 v s.1 (contained views v among) view)
+            ∙ dead))
         | inr stray ↦ subst (SaysUnknown w) (sym (stay.holds is_open).now_is) (stray (stay.was_open is_open))
       ]
 

@@ -1,5 +1,6 @@
 -- The stores of a world at rest, and those that are opened from what a crash left.
-use Rattle.std.specs.Prelude.{◌≡◌, false, List, [], ◌∷◌, ◌++◌, map, refl, is_some, ◌==◌, bytes_eq, IsPermutation}
+use Rattle.std.specs.Prelude.{◌≡◌, false, List, [], ◌∷◌, ◌++◌, map, refl, is_some, ◌==◌, bytes_eq}
+use Rattle.std.specs.Prelude.{IsPermutation}
 use Rattle.std.specs.Prelude.{Contains}
 use Rattle.std.proofs.Common.{sym, ap, subst, ◌∙◌, inl, inr, append_assoc}
 use Rattle.std.proofs.lemmas.Bool.{true≢false}
@@ -63,7 +64,8 @@ unknown_again w s trees adopted is h (inl first) = absurd (not_first w.frame is.
 unknown_again w s trees adopted is h (inr said) =
     let reads : Reads w.frame is.other s.now = reads_again w.frame is.other s trees adopted is.reads in
     let e : h ≡ head_of is.other = head_is_known w.frame is.other s.now h reads said in
-    let low : ((h.depth == 0) ≡ false) × _ = lent_head_is_low s.now h said (ap (λ x. is_some x.parent) e ∙ is.lent) in
+    let low : ((h.depth == 0) ≡ false) × _ = lent_head_is_low s.now h said
+    (ap (λ x. is_some x.parent) e ∙ is.lent) in
     record {
       lent = low.0;
       uuid = low.1;

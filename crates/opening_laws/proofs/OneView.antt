@@ -1,6 +1,7 @@
 -- A right view of a store that reads as a package of a register is the view of that package, and one of a stray is a
 -- stray's.
-use Rattle.std.specs.Prelude.{◌≡◌, ℤ, pos, [], ◌∷◌, map, Bool, true, false, refl, Option, Some, None, MatchOption, ⊤}
+use Rattle.std.specs.Prelude.{◌≡◌, ℤ, pos, [], ◌∷◌, map, Bool, true, false, refl, Option, Some, None}
+use Rattle.std.specs.Prelude.{MatchOption, ⊤}
 use Rattle.std.proofs.Common.{ap, sym, ◌∙◌, inl, inr}
 use Rattle.sqlite.specs.Effect.{Database}
 use Rattle.sheet_types.specs.Opening.{Head, head_of}
@@ -50,8 +51,7 @@ view_of_second w p db v kept bounds reads view =
       formed = whole.formed;
       head = head_of p;
       headed = whole.headed;
-      frame =
-          whole.frame;
+      frame = whole.frame;
       dated = whole.dated;
       items = whole.items;
       receipts = whole.receipts;
@@ -71,7 +71,8 @@ view_of_second w p db v kept bounds reads view =
 
 -- a stray, by the heads that it may say
 stray_head : (version : ℤ) (w : World) (db : Database) (o : Option Head)
-    → ((h : Head) → IsHeadAt version db h → IsUnknown w h) → ReadsHeadAt version db o → MatchOption o ⊤ (IsUnknown w)
+    → ((h : Head) → IsHeadAt version db h → IsUnknown w h) → ReadsHeadAt version db o
+    → MatchOption o ⊤ (IsUnknown w)
 stray_head version w db None unknown said = tt
 stray_head version w db (Some h) unknown said = unknown h said
 

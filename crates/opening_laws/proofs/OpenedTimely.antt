@@ -1,5 +1,6 @@
 -- The receipts of a world that was opened say moments.
-use Rattle.std.specs.Prelude.{◌≡◌, ◌≤◌, ℕ, true, List, [], ◌∷◌, ◌++◌, map, filter, flat_map, length, IsTrue}
+use Rattle.std.specs.Prelude.{◌≡◌, ◌≤◌, ℕ, true, List, [], ◌∷◌, ◌++◌, map, filter, flat_map}
+use Rattle.std.specs.Prelude.{length, IsTrue}
 use Rattle.std.specs.List.{AllZip, AllByRecursion}
 use Rattle.std.proofs.Common.{sym, ap, subst, arith, inl, inr}
 use Rattle.std.proofs.lemmas.List.Elements.{All-from_recursion, recursion_from_All}
@@ -67,7 +68,11 @@ module _ {S : Type 0} (g : Ghosts S) where
   all_times [] [] right = tt
   all_times [] (v ∷ views) right = absurd right
   all_times (h ∷ stores) [] right = absurd right
-  all_times (h ∷ stores) (v ∷ views) right = (view_times (state g h).now v right.0.1, all_times stores views right.1)
+  all_times (h ∷ stores) (v ∷ views) right = (
+    view_times (state g h).now v right.0.1,
+    all_times stores views
+        right.1,
+  )
 
   pub opened_is_timely : OpenedIsTimely g
   opened_is_timely stores found is clean low =

@@ -18,7 +18,8 @@ use Rattle.opening_laws.specs.Laws.{OpensAgain, MeetsNoFault}
 use Rattle.opening_laws.proofs.AllViews.{views_of_stores}
 
 -- where none of the nine holds, memory or a store gave out
-wanted : (views : List StoreSight) → HasNoFault views → (fault : RecoverFault) → IsFaultOf views fault → IsWant fault
+wanted : (views : List StoreSight) → HasNoFault views → (fault : RecoverFault) → IsFaultOf views fault
+    → IsWant fault
 wanted views none NoArchive is = absurd (none.some_archive is)
 wanted views none TwoArchives is = absurd (none.no_other_archive is)
 wanted views none (NotAPackage id) is = absurd (none.formed id is.1.0)

@@ -23,7 +23,8 @@ use Rattle.opening_laws.specs.Stores.{IsStoreOf}
 
 module _ {S : Type 0} (g : Ghosts S) (settles : Settles g) where
   -- a store that is opened from what a crash left of one at rest shows the same
-  same_again : (a b : Held S) (trees : Trees) → IsTrue (state g a).is_open → Rests (state g a) → IsLive (state g a)
+  same_again : (a b : Held S) (trees : Trees) → IsTrue (state g a).is_open → Rests (state g a)
+      → IsLive (state g a)
       → (state g a).may_leave trees → IsAdopted (state g b) trees → (state g a).now ≡ (state g b).now
   same_again a b trees is_open rests live left adopted =
       let now : (state g a).now.trees ≡ (state g b).now.trees =

@@ -18,7 +18,8 @@ module _ {A B : Type 0} (R : A → B → Type 0) where
   rights ps = map (λ p. p.right) ps
 
   -- the pairs of two lists
-  pairs_of : (xs : List A) (ys : List B) → AllZip R xs ys → (ps : List Pair) × (xs ≡ lefts ps) × (ys ≡ rights ps)
+  pairs_of : (xs : List A) (ys : List B) → AllZip R xs ys → (ps : List Pair) × (xs ≡ lefts ps)
+      × (ys ≡ rights ps)
   pairs_of [] [] h = ([], refl, refl)
   pairs_of [] (y ∷ ys) h = absurd h
   pairs_of (x ∷ xs) [] h = absurd h
@@ -52,7 +53,8 @@ module _ {A B : Type 0} (R : A → B → Type 0) where
       (y ∷ more.0, more.1, ap (λ l. y ∷ l) more.2, (h.0, more.3), more.4)
 
 -- what two relations in turn come to
-pub zip_through : {A B C : Type 0} (R : A → B → Type 0) (Q : A → C → Type 0) (P : C → Type 0) (T : B → C → Type 0)
+pub zip_through : {A B C : Type 0} (R : A → B → Type 0) (Q : A → C → Type 0) (P : C → Type 0)
+    (T : B → C → Type 0)
     → ((a : A) (b : B) (c : C) → R a b → P c → Q a c → T b c)
     → (as' : List A) (bs : List B) (cs : List C) → AllByRecursion P cs → AllZip R as' bs → AllZip Q as' cs
     → AllZip T bs cs
@@ -69,7 +71,8 @@ zip_through R Q P T f (a ∷ as') (b ∷ bs) (c ∷ cs) p r q = (
 
 -- a fact of the first of each pair gives one of the second
 pub zip_all : {A B : Type 0} (R : A → B → Type 0) (P : A → Type 0) (T : B → Type 0)
-    → ((a : A) (b : B) → R a b → P a → T b) → (as' : List A) (bs : List B) → AllByRecursion P as' → AllZip R as' bs
+    → ((a : A) (b : B) → R a b → P a → T b) → (as' : List A) (bs : List B) → AllByRecursion P as'
+    → AllZip R as' bs
     → AllByRecursion T bs
 zip_all R P T f [] [] p r = tt
 zip_all R P T f [] (b ∷ bs) p r = absurd r

@@ -39,12 +39,14 @@ module _ {S : Type 0} (g : Ghosts S) where
 
   -- The world that they are opened as stands for the register.
   abbrev pub OpensAgain : Type 0
-  OpensAgain = (w : World) (stores : List (Held S)) (found : Recovered S) → IsKeptWorld w → AreStoresOf g stores w →
+  OpensAgain = (w : World) (stores : List (Held S)) (found : Recovered S) → IsKeptWorld w → AreStoresOf g stores w
+      →
       (is : IsRecovered g stores found) → AreClean g is.now → StandsFor g found.world w
 
   -- Where they are not opened, it is for none of the nine faults.
   abbrev pub MeetsNoFault : Type 0
-  MeetsNoFault = (w : World) (stores : List (Held S)) (refused : Unopened S) → IsKeptWorld w → AreStoresOf g stores w →
+  MeetsNoFault = (w : World) (stores : List (Held S)) (refused : Unopened S) → IsKeptWorld w
+      → AreStoresOf g stores w →
       IsUnopened g stores refused → AreClean g refused.stores.items → IsWant refused.fault
 
   -- the stores are those of the world, and no stray reads as a package of it
@@ -53,7 +55,8 @@ module _ {S : Type 0} (g : Ghosts S) where
 
   -- The strays are handed out beside it, and no store of a package is.
   abbrev pub StraysAreTold : Type 0
-  StraysAreTold = (w : World) (stores : List (Held S)) (found : Recovered S) → IsKeptWorld w → AreStoresOf g stores w →
+  StraysAreTold = (w : World) (stores : List (Held S)) (found : Recovered S) → IsKeptWorld w
+      → AreStoresOf g stores w →
       (is : IsRecovered g stores found) → AreClean g is.now → AllByRecursion (IsStrayStore g w) found.strays.items
 
   -- The receipts of a world that was opened say moments, as the opening has read; so it can be stopped and opened
@@ -71,10 +74,12 @@ module _ {S : Type 0} (g : Ghosts S) where
 
   -- So it is opened again as that register, with whatever strays beside it, or memory or a store gave out.
   abbrev pub RestIsOpened : Type 0
-  RestIsOpened = (seen : Seen S) (w : World) (stores : List (Held S)) → IsHeld g seen → seen.has_failed ≡ false →
+  RestIsOpened = (seen : Seen S) (w : World) (stores : List (Held S)) → IsHeld g seen → seen.has_failed ≡ false
+      →
       StandsFor g seen w → IsTimely w → AreWithStrays g w (held g seen) stores →
       ((found : Recovered S) (is : IsRecovered g stores found) → AreClean g is.now → StandsFor g found.world w)
-      × ((refused : Unopened S) → IsUnopened g stores refused → AreClean g refused.stores.items → IsWant refused.fault)
+      × ((refused : Unopened S) → IsUnopened g stores refused → AreClean g refused.stores.items
+      → IsWant refused.fault)
 
   -- Stores that are opened from whatever a crash left of a world at rest are its stores. Each connection that stands
   -- is live (`Connection::schema` says so of it).
@@ -97,10 +102,9 @@ module _ {S : Type 0} (g : Ghosts S) where
   abbrev pub StandsForOneOf : World → Request → Seen S → Type 0
   StandsForOneOf w q seen = StandsFor g seen w ⊎ StandsFor g seen (outcome w q).1
 
-  -- After a fault of a request to a usable world, stores that are opened from whatever a crash left, with whatever is a
-  -- stray of both worlds beside them, come to the world before, or to the one that the request was to make; or memory
-  -- or
-  -- a store gave out.
+  -- After a fault of a request to a usable world, stores that are opened from whatever a crash
+  -- left, with whatever is a stray of both worlds beside them, come to the world before, or to the
+  -- one that the request was to make; or memory or a store gave out.
   abbrev pub CrashIsOpened : Type 0
   CrashIsOpened = (q : Request) (old : Seen S) (reply : Result Receipt Refusal) (new : Seen S) (w : World)
       (contents : List Trees) (again stores : List (Held S)) →
@@ -109,7 +113,8 @@ module _ {S : Type 0} (g : Ghosts S) where
       AreClean g (held g new) → MayBeLeft g (held g new) contents → AreReopened g again contents →
       AreWithStrays g w again stores → AreWithStrays g (outcome w q).1 again stores →
       ((found : Recovered S) (is : IsRecovered g stores found) → AreClean g is.now → StandsForOneOf w q found.world)
-      × ((refused : Unopened S) → IsUnopened g stores refused → AreClean g refused.stores.items → IsWant refused.fault)
+      × ((refused : Unopened S) → IsUnopened g stores refused → AreClean g refused.stores.items
+      → IsWant refused.fault)
 
   -- ---- one world
 

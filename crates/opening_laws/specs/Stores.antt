@@ -26,9 +26,8 @@ module _ {S : Type 0} (g : Ghosts S) where
   abbrev pub IsStoreOf : World → Held S → Package → Type 0
   IsStoreOf w h p = IsTrue (state g h).is_open → Reads w.frame p (state g h).now
 
-  -- where it is open, whatever head it says, of either version, is that of a loan that is no package of the world; it
-  -- may
-  -- have none, and be any database
+  -- where it is open, whatever head it says, of either version, is that of a loan that is no
+  -- package of the world; it may have none, and be any database
   abbrev pub IsStrayStore : World → Held S → Type 0
   IsStrayStore w h = IsTrue (state g h).is_open → SaysUnknown w (state g h).now
 

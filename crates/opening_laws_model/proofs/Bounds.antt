@@ -1,5 +1,6 @@
 -- Moments and bounds: that each request keeps them, and what they say of single packages and of strays.
-use Rattle.std.specs.Prelude.{◌≡◌, ℕ, ◌+◌, ◌<◌, ◌≤◌, true, false, ◌&&◌, ◌==◌, List, [], ◌∷◌, ◌++◌, length, refl, Some}
+use Rattle.std.specs.Prelude.{◌≡◌, ℕ, ◌+◌, ◌<◌, ◌≤◌, true, false, ◌&&◌, ◌==◌, List, []}
+use Rattle.std.specs.Prelude.{◌∷◌, ◌++◌, length, refl, Some}
 use Rattle.std.specs.Prelude.{None, MatchOption, ⊤, pos, bytes_eq}
 use Rattle.std.proofs.Common.{sym, ap, subst, ◌∙◌, arith}
 use Rattle.std.proofs.lemmas.Bool.{true≢false, and_parts, false_from_ne_true}
@@ -39,7 +40,8 @@ headless w v none = record {
       (pos r.seq) (pos h.loan)) o false) none) (receipts_of w) (In-all (receipts_of w));
 }
 
-unknown : (w : World) (v : StoreSight) (h : Head) → IsRegister w → v.head ≡ Some h → IsUnknown w h → IsStrayView w v
+unknown : (w : World) (v : StoreSight) (h : Head) → IsRegister w → v.head ≡ Some h → IsUnknown w h
+    → IsStrayView w v
 unknown w v h register some is = record {
   no_root = ap (λ o. option_map_or (λ x. x.depth == 0) o false) some ∙ is.lent;
   unnamed = All-weaker (λ r. In r (receipts_of w)) (λ r. is_open_among (receipts_of w) r ≡ true
@@ -74,7 +76,8 @@ unknown_is_stray w v register h =
 -- ---- packages
 
 -- numbers begin with 1
-above_none : (archive : List ℕ) (past rs : List Receipt) → IsLedger archive past rs → AllByRecursion (λ r. 1 ≤ r.seq) rs
+above_none : (archive : List ℕ) (past rs : List Receipt) → IsLedger archive past rs
+    → AllByRecursion (λ r. 1 ≤ r.seq) rs
 above_none archive past [] h = tt
 above_none archive past (r ∷ rs) h = (omega (arith, h.0.number), above_none archive (past ++ r ∷ []) rs h.1)
 
@@ -82,7 +85,8 @@ module _ (w : World) (register : IsRegister w) (timely : IsTimely w) where
   sound : AllByRecursion IsSound (receipts_of w)
   sound =
       let ledger = register.balanced.ledger in
-      let low : AllByRecursion (λ r. 1 ≤ r.seq) (receipts_of w) = above_none (archive_of w) [] (receipts_of w) ledger in
+      let low : AllByRecursion (λ r. 1 ≤ r.seq) (receipts_of w) =
+      above_none (archive_of w) [] (receipts_of w) ledger in
       let high : AllByRecursion (λ r. r.seq < length {A = Receipt} [] + length (receipts_of w) + 1) (receipts_of w) =
       ledger_numbers (archive_of w) [] (receipts_of w) ledger in
       let things : AllByRecursion (λ r. AllByRecursion IsThing r.items) (receipts_of w) =
@@ -105,20 +109,24 @@ module _ (w : World) (register : IsRegister w) (timely : IsTimely w) where
   levelled p i =
       elim p.parent as (λ o. p.parent ≡ o → IsLevelled p) [
         | None ↦ λ none.
-            let root : (p.depth ≡ 0) × (p.loan ≡ 0) = subst (λ o. MatchOption o ((p.depth ≡ 0) × (p.loan ≡ 0))
+            let root : (p.depth ≡ 0) × (p.loan ≡ 0) = subst (λ o. MatchOption o
+            ((p.depth ≡ 0) × (p.loan ≡ 0))
             (λ u. (is_live w u ≡ true) × (p.depth ≡ (holdings w u).depth + 1) × (p.depth ≤ greatest_depth)))
             none (kept w register p i).parent in
             record {
               depth = omega (arith, root.0);
               loan = omega (arith, root.1);
               level =
-                  subst (λ o. MatchOption o ((p.depth ≡ 0) × (p.loan ≡ 0)) (λ _. (1 ≤ p.depth) × (1 ≤ p.loan)))
+                  subst (λ o. MatchOption o ((p.depth ≡ 0) × (p.loan ≡ 0))
+                  (λ _. (1 ≤ p.depth) × (1 ≤ p.loan)))
                   (sym none) root;
             }
         | Some u ↦ λ some.
-            let below : (is_live w u ≡ true) × (p.depth ≡ (holdings w u).depth + 1) × (p.depth ≤ greatest_depth) =
+            let below : (is_live w u ≡ true) × (p.depth ≡ (holdings w u).depth + 1)
+            × (p.depth ≤ greatest_depth) =
             subst (λ o. MatchOption o ((p.depth ≡ 0) × (p.loan ≡ 0))
-            (λ x. (is_live w x ≡ true) × (p.depth ≡ (holdings w x).depth + 1) × (p.depth ≤ greatest_depth))) some
+            (λ x. (is_live w x ≡ true) × (p.depth ≡ (holdings w x).depth + 1) × (p.depth ≤ greatest_depth)))
+            some
             (kept w register p i).parent in
             let l : Lent w register p = lent_by w register p u i some in
             let s : IsSound l.receipt = sound_at l.parent l.receipt l.live l.stands in
@@ -128,7 +136,8 @@ module _ (w : World) (register : IsRegister w) (timely : IsTimely w) where
               depth = below.2;
               loan = omega (arith, l.number, s.high);
               level =
-                  subst (λ o. MatchOption o ((p.depth ≡ 0) × (p.loan ≡ 0)) (λ _. (1 ≤ p.depth) × (1 ≤ p.loan)))
+                  subst (λ o. MatchOption o ((p.depth ≡ 0) × (p.loan ≡ 0))
+                  (λ _. (1 ≤ p.depth) × (1 ≤ p.loan)))
                   (sym some) (deep, lent);
             }
       ] refl

@@ -1,5 +1,6 @@
 -- Of views of a register's stores those of its packages are found, and no stray is.
-use Rattle.std.specs.Prelude.{◌≡◌, ℕ, zero, suc, ◌+◌, ◌<◌, ◌≤◌, Bool, true, false, not, ◌&&◌, ◌||◌, ◌==◌, nat_lt}
+use Rattle.std.specs.Prelude.{◌≡◌, ℕ, zero, suc, ◌+◌, ◌<◌, ◌≤◌, Bool, true, false, not}
+use Rattle.std.specs.Prelude.{◌&&◌, ◌||◌, ◌==◌, nat_lt}
 use Rattle.std.specs.Prelude.{List, [], filter, length, refl, Some, None, is_some, unwrap_or, MatchOption, pos}
 use Rattle.std.specs.Prelude.{bytes_eq, int_le, int_lt}
 use Rattle.std.proofs.Common.{sym, ap, subst, ◌∙◌, arith, rules, inl, inr}
@@ -46,7 +47,8 @@ pub is_its_loan : (w : World) (v : StoreSight) (p : Package) (r : Receipt) → I
 is_its_loan w v p r is target number =
     loan_by w v p (claim_of r) is ∙ and_from (bytes_eq (uuid_text p.uuid) (claim_of r).target)
     (is_within (pos r.seq) (pos r.seq) (pos p.loan))
-    (ap (λ o. bytes_eq (uuid_text p.uuid) (option_map_or uuid_text o [])) target ∙ bytes_eq_itself (uuid_text p.uuid))
+    (ap (λ o. bytes_eq (uuid_text p.uuid) (option_map_or uuid_text o [])) target
+    ∙ bytes_eq_itself (uuid_text p.uuid))
     (ap (λ n. is_within (pos r.seq) (pos r.seq) (pos n)) (sym number) ∙ within_itself r.seq)
 
 module _ (w : World) (register : IsRegister w) (views : List StoreSight) (of : AreViewsOfWorld views w) where
@@ -58,11 +60,13 @@ module _ (w : World) (register : IsRegister w) (views : List StoreSight) (of : A
       (λ v. v.frame) (λ v. v.reads_as) views k v
 
   abbrev pub said : ℕ → List Claim
-  said k = rounds.said StoreSight (λ v. v.head) (λ v. v.claims) (λ v. v.is_formed ≡ true) (λ v. v.is_tied ≡ true)
+  said k = rounds.said StoreSight (λ v. v.head) (λ v. v.claims) (λ v. v.is_formed ≡ true)
+      (λ v. v.is_tied ≡ true)
       (λ v. v.frame) (λ v. v.reads_as) views k
 
   pub grows : (j k : ℕ) (v : StoreSight) → j ≤ k → at j v ≡ true → at k v ≡ true
-  grows = rounds.grows StoreSight (λ v. v.head) (λ v. v.claims) (λ v. v.is_formed ≡ true) (λ v. v.is_tied ≡ true)
+  grows = rounds.grows StoreSight (λ v. v.head) (λ v. v.claims) (λ v. v.is_formed ≡ true)
+      (λ v. v.is_tied ≡ true)
       (λ v. v.frame) (λ v. v.reads_as) views
 
   -- a merge that ends the loan of a receipt
@@ -84,7 +88,8 @@ module _ (w : World) (register : IsRegister w) (views : List StoreSight) (of : A
 
   -- ---- what is open by claims is open by the ledger
 
-  pub open_here : (k : ℕ) (v : StoreSight) (p : Package) (r : Receipt) → In v views → at k v ≡ true → In p w.packages
+  pub open_here : (k : ℕ) (v : StoreSight) (p : Package) (r : Receipt) → In v views → at k v ≡ true
+      → In p w.packages
       → IsViewOfPackage w v p → In r p.receipts
       → is_open_claim (said k) (claim_of r) ≡ true → is_open_among ledger r ≡ true
   open_here k v p r i found ip is j h =
@@ -128,7 +133,8 @@ module _ (w : World) (register : IsRegister w) (views : List StoreSight) (of : A
   pub never : (n k : ℕ) (v : StoreSight) → k < n → In v views → IsStrayView w v → at k v ≡ true → ⊥
   never zero k v lt i stray h = omega (arith, lt)
   never (suc n) k v lt i stray h =
-      elim (rounds.origin StoreSight (λ v. v.head) (λ v. v.claims) (λ v. v.is_formed ≡ true) (λ v. v.is_tied ≡ true)
+      elim (rounds.origin StoreSight (λ v. v.head) (λ v. v.claims) (λ v. v.is_formed ≡ true)
+      (λ v. v.is_tied ≡ true)
       (λ v. v.frame) (λ v. v.reads_as) views k v h) [
         | inl root ↦ true≢false (sym root ∙ stray.no_root)
         | inr o ↦ elim (role w views of o.2 o.3) [
@@ -182,7 +188,8 @@ module _ (w : World) (register : IsRegister w) (views : List StoreSight) (of : A
       let both : (is_merge m.0 ≡ true) × (bytes_eq (claim_of m.0).source (claim_of r).target ≡ true) =
       and_parts (is_merge m.0) (bytes_eq (claim_of m.0).source (claim_of r).target) ended.0 in
       let there : In m.0 ledger = in_ledger w register s.package m.0 s.live m.1 in
-      let source : (c : List ℕ) × (m.0.source ≡ Some c) × (is_uuid c ≡ true) = comes_from w register m.0 there both.0 in
+      let source : (c : List ℕ) × (m.0.source ≡ Some c) × (is_uuid c ≡ true) =
+      comes_from w register m.0 there both.0 in
       let texts : uuid_text source.0 ≡ uuid_text child.0 = ap (λ o. option_map_or uuid_text o []) (sym source.1)
       ∙ (bytes_eq-Decides (claim_of m.0).source (claim_of r).target).0 both.1
       ∙ ap (λ o. option_map_or uuid_text o []) child.1 in
@@ -206,7 +213,8 @@ module _ (w : World) (register : IsRegister w) (views : List StoreSight) (of : A
   -- a package without parent is an archive
   archive_depth : (p : Package) → HasParent w p → p.parent ≡ None → p.depth ≡ 0
   archive_depth p h none = (subst (λ o. MatchOption o ((p.depth ≡ 0) × (p.loan ≡ 0))
-      (λ x. (is_live w x ≡ true) × (p.depth ≡ (holdings w x).depth + 1) × (p.depth ≤ greatest_depth))) none h).0
+      (λ x. (is_live w x ≡ true) × (p.depth ≡ (holdings w x).depth + 1) × (p.depth ≤ greatest_depth))) none
+      h).0
 
   -- the view of a package is found where that of its parent is
   found_by : (p : Package) (v : StoreSight) → In p w.packages → In v views → IsViewOfPackage w v p

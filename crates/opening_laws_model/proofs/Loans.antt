@@ -1,5 +1,6 @@
 -- Splits and merges of a register: which package an open split lent, and which split lent a package.
-use Rattle.std.specs.Prelude.{◌≡◌, ℕ, ◌+◌, ◌≤◌, Bool, true, false, not, ◌&&◌, ◌==◌, nat_lt, List, [], ◌∷◌, ◌++◌, find}
+use Rattle.std.specs.Prelude.{◌≡◌, ℕ, ◌+◌, ◌≤◌, Bool, true, false, not, ◌&&◌, ◌==◌, nat_lt}
+use Rattle.std.specs.Prelude.{List, [], ◌∷◌, ◌++◌, find}
 use Rattle.std.specs.Prelude.{filter, flat_map, refl, Some, None, is_some, is_none, unwrap_or, MatchOption, ⊤}
 use Rattle.std.specs.Prelude.{bytes_eq, cond}
 use Rattle.std.proofs.Common.{sym, ap, subst, ◌∙◌, arith, inl, inr}
@@ -84,10 +85,12 @@ never_archive archive past (r ∷ rs) h = (
 )
 
 -- an element that passes
-pub In-of_filter : {X : Type 0} (t : X → Bool) (x : X) (xs : List X) → In x (filter t xs) → In x xs × (t x ≡ true)
+pub In-of_filter : {X : Type 0} (t : X → Bool) (x : X) (xs : List X) → In x (filter t xs) → In x xs
+    × (t x ≡ true)
 In-of_filter t x [] i = absurd i
 In-of_filter t x (y ∷ ys) i =
-    elim (t y) as (λ v. t y ≡ v → In x (cond v (y ∷ filter t ys) (filter t ys)) → In x (y ∷ ys) × (t x ≡ true)) [
+    elim (t y) as (λ v. t y ≡ v → In x (cond v (y ∷ filter t ys) (filter t ys)) → In x (y ∷ ys)
+    × (t x ≡ true)) [
       | true ↦ λ e j. elim j [
         | inl same ↦ (inl same, subst (λ z. t z ≡ true) same e)
         | inr k ↦ let r = In-of_filter t x ys k in (inr r.0, r.1)
@@ -127,7 +130,8 @@ module _ (w : World) (register : IsRegister w) where
       (subst (λ u. bytes_eq u q.uuid ≡ true) (sym e) (bytes_eq_itself q.uuid)) (bytes_eq_itself q.uuid)
 
   -- a receipt stands in one package
-  pub one_home : (p q : Package) (r : Receipt) → In p w.packages → In q w.packages → In r p.receipts → In r q.receipts
+  pub one_home : (p q : Package) (r : Receipt) → In p w.packages → In q w.packages → In r p.receipts
+      → In r q.receipts
       → p ≡ q
   one_home p q r ip iq jp jq =
       let home : (x : Package) → In x w.packages → In r x.receipts → IsHome w x r =
@@ -142,16 +146,19 @@ module _ (w : World) (register : IsRegister w) where
   says r i = All-In (λ x. (e : Entry) × IsReceiptOf x e) r ledger
       (ledger_entered (archive_of w) [] ledger register.balanced.ledger) i
 
-  pub lends_to : (r : Receipt) → In r ledger → is_split r ≡ true → (child : List ℕ) × (r.target ≡ Some child)
+  pub lends_to : (r : Receipt) → In r ledger → is_split r ≡ true → (child : List ℕ)
+      × (r.target ≡ Some child)
       × (is_uuid child ≡ true)
   lends_to r i split = let e = says r i in split_target r e.0 e.1 split
 
-  pub comes_from : (r : Receipt) → In r ledger → is_merge r ≡ true → (child : List ℕ) × (r.source ≡ Some child)
+  pub comes_from : (r : Receipt) → In r ledger → is_merge r ≡ true → (child : List ℕ)
+      × (r.source ≡ Some child)
       × (is_uuid child ≡ true)
   comes_from r i merge = let e = says r i in merge_source r e.0 e.1 merge
 
   -- a merge that undoes a split of a package stands in it too
-  pub undone_here : (p : Package) (r m : Receipt) (child : List ℕ) → In p w.packages → In r p.receipts → In m ledger
+  pub undone_here : (p : Package) (r m : Receipt) (child : List ℕ) → In p w.packages → In r p.receipts
+      → In m ledger
       → is_split r ≡ true → is_merge m ≡ true → r.target ≡ Some child → m.source ≡ Some child
       → nat_lt r.seq m.seq ≡ true → In m p.receipts
   undone_here p r m child ip jr jm split merge target source later =
@@ -256,7 +263,8 @@ module _ (w : World) (register : IsRegister w) where
       let entered : In r ledger = in_ledger p r i j in
       let split : is_split r ≡ true = (and_parts (is_split r) (is_some r.target)
       (and_parts (is_split r && is_some r.target) _ is_open).0).0 in
-      let child : (child : List ℕ) × (r.target ≡ Some child) × (is_uuid child ≡ true) = lends_to r entered split in
+      let child : (child : List ℕ) × (r.target ≡ Some child) × (is_uuid child ≡ true) =
+      lends_to r entered split in
       let alive : is_live w child.0 ≡ true = subst (λ o. is_live w (unwrap_or o []) ≡ true) child.1
       (All-In (λ s. is_open_among ledger s ≡ true → is_live w (unwrap_or s.target []) ≡ true) r ledger
       register.open_loans entered is_open) in
@@ -285,7 +293,8 @@ module _ (w : World) (register : IsRegister w) where
           (and_from (is_split l.receipt) (ends_at l.receipt.target q.uuid) l.split
           (ends_at_some l.receipt.target q.uuid l.target))
           (and_from (is_split r) (ends_at r.target q.uuid) split (ends_at_some r.target q.uuid target)) in
-          let home : l.parent ≡ p = one_home l.parent p r l.live i (subst (λ x. In x l.parent.receipts) same l.stands)
+          let home : l.parent ≡ p = one_home l.parent p r l.live i
+          (subst (λ x. In x l.parent.receipts) same l.stands)
           j in
           record {
             loan = q;

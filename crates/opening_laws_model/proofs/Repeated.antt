@@ -1,5 +1,6 @@
 -- A request that got a receipt gets the same one in the world that it made.
-use Rattle.std.specs.Prelude.{◌≡◌, ◌⊎◌, ℕ, ◌+◌, ◌≤◌, Bool, true, false, cond, not, ◌&&◌, ◌||◌, List, [], ◌∷◌, map}
+use Rattle.std.specs.Prelude.{◌≡◌, ◌⊎◌, ℕ, ◌+◌, ◌≤◌, Bool, true, false, cond, not, ◌&&◌}
+use Rattle.std.specs.Prelude.{◌||◌, List, [], ◌∷◌, map}
 use Rattle.std.specs.Prelude.{find, flat_map, refl, Option, Some, None, MatchOption, Ok, Err, bytes_eq}
 use Rattle.std.proofs.Common.{sym, ap, subst, ◌∙◌, arith, inl, inr}
 use Rattle.std.proofs.lemmas.Bool.{true≢false, false_from_ne_true, and_parts}
@@ -46,7 +47,8 @@ module _ (w : World) (r : Receipt) where
   IsEntered ps = (x : Package) × In x ps × In r x.receipts
 
   -- after the change of a live package that enters it
-  changed_has : (f : Package → Package) (p : List ℕ) → is_live w p ≡ true → ((x : Package) → In r (f x).receipts)
+  changed_has : (f : Package → Package) (p : List ℕ) → is_live w p ≡ true
+      → ((x : Package) → In r (f x).receipts)
       → (x : Package) × In x w.packages × (x.uuid ≡ p) × In (f x)
       (map (λ y. cond (bytes_eq y.uuid p) (f y) y) w.packages)
   changed_has f p live enters =
@@ -63,7 +65,8 @@ module _ (w : World) (r : Receipt) where
             it,
       )
 
-  entered_in : (f : Package → Package) (p : List ℕ) → is_live w p ≡ true → ((x : Package) → In r (f x).receipts)
+  entered_in : (f : Package → Package) (p : List ℕ) → is_live w p ≡ true
+      → ((x : Package) → In r (f x).receipts)
       → IsEntered (map (λ y. cond (bytes_eq y.uuid p) (f y) y) w.packages)
   entered_in f p live enters = let it = changed_has f p live enters in (f it.0, it.3, enters it.0)
 

@@ -1,5 +1,6 @@
 -- Views of a world's stores, one by one: each is that of a package or of a stray, and each package has one.
-use Rattle.std.specs.Prelude.{◌≡◌, ◌⊎◌, ◌≤◌, Bool, true, false, cond, List, [], ◌∷◌, ◌++◌, refl, count_by}
+use Rattle.std.specs.Prelude.{◌≡◌, ◌⊎◌, ◌≤◌, Bool, true, false, cond, List, [], ◌∷◌, ◌++◌}
+use Rattle.std.specs.Prelude.{refl, count_by}
 use Rattle.std.specs.Prelude.{IsPermutation}
 use Rattle.std.proofs.Common.{subst, arith, inl, inr}
 use Rattle.std.proofs.lemmas.List.Elements.{All-from_recursion, recursion_from_All}
@@ -21,7 +22,8 @@ In-permuted x xs ys h i = All-In (λ z. In z ys) x xs (recursion_from_All (λ z.
     (All-from_recursion (λ z. In z ys) ys (In-all ys)))) i
 
 -- the partner of an element
-pub zip_left : {A B : Type 0} (R : A → B → Type 0) (x : A) (xs : List A) (ys : List B) → AllZip R xs ys → In x xs
+pub zip_left : {A B : Type 0} (R : A → B → Type 0) (x : A) (xs : List A) (ys : List B) → AllZip R xs ys
+    → In x xs
     → (y : B) × In y ys × R x y
 zip_left R x [] ys h i = absurd i
 zip_left R x (a ∷ xs) [] h i = absurd h
@@ -30,7 +32,8 @@ zip_left R x (a ∷ xs) (b ∷ ys) h i = elim i [
   | inr j ↦ let r = zip_left R x xs ys h.1 j in (r.0, inr r.1, r.2)
 ]
 
-pub zip_right : {A B : Type 0} (R : A → B → Type 0) (y : B) (xs : List A) (ys : List B) → AllZip R xs ys → In y ys
+pub zip_right : {A B : Type 0} (R : A → B → Type 0) (y : B) (xs : List A) (ys : List B) → AllZip R xs ys
+    → In y ys
     → (x : A) × In x xs × R x y
 zip_right R y xs [] h i = absurd i
 zip_right R y [] (b ∷ ys) h i = absurd h
@@ -41,7 +44,8 @@ zip_right R y (a ∷ xs) (b ∷ ys) h i = elim i [
 
 -- where the partner of each that passes passes, no fewer of the partners do
 pub zip_count_le : {A B : Type 0} (R : A → B → Type 0) (P : B → Type 0) (t : A → Bool) (u : B → Bool)
-    → ((x : A) (y : B) → P y → R x y → t x ≡ true → u y ≡ true) → (xs : List A) (ys : List B) → AllByRecursion P ys
+    → ((x : A) (y : B) → P y → R x y → t x ≡ true → u y ≡ true) → (xs : List A) (ys : List B)
+    → AllByRecursion P ys
     → AllZip R xs ys → count_by t xs ≤ count_by u ys
 zip_count_le R P t u f [] [] all h = omega arith
 zip_count_le R P t u f [] (b ∷ ys) all h = absurd h
@@ -87,7 +91,8 @@ module _ (w : World) (views : List StoreSight) (of : AreViewsOfWorld views w) wh
 
   -- a test that no stray passes is passed by no more views than packages that it names
   pub count_views : (t : StoreSight → Bool) (u : Package → Bool) → AllByRecursion (λ v. t v ≡ false) of.others
-      → ((v : StoreSight) (p : Package) → In p w.packages → IsViewOfPackage w v p → t v ≡ true → u p ≡ true)
+      → ((v : StoreSight) (p : Package) → In p w.packages → IsViewOfPackage w v p → t v ≡ true
+      → u p ≡ true)
       → count_by t views ≤ count_by u w.packages
   count_views t u none f = omega (
     arith,

@@ -1,5 +1,6 @@
 -- Views of a register's stores stand for it.
-use Rattle.std.specs.Prelude.{◌≡◌, ℕ, ◌+◌, ◌≤◌, Bool, true, false, cond, ◌&&◌, ◌==◌, nat_le, List, [], ◌∷◌, map}
+use Rattle.std.specs.Prelude.{◌≡◌, ℕ, ◌+◌, ◌≤◌, Bool, true, false, cond, ◌&&◌, ◌==◌, nat_le}
+use Rattle.std.specs.Prelude.{List, [], ◌∷◌, map}
 use Rattle.std.specs.Prelude.{filter, find, length, refl, Option, Some, None, is_none, MatchOption, pos, bytes_eq}
 use Rattle.std.specs.Prelude.{count_by, Contains}
 use Rattle.std.proofs.Common.{sym, ap, subst, ◌∙◌, arith, inl, inr}
@@ -78,7 +79,8 @@ module _ (w : World) (register : IsRegister w) (views : List StoreSight) (of : A
 
   -- ---- the archive
 
-  root_archive : (v : StoreSight) (p : Package) → In p w.packages → IsViewOfPackage w v p → is_root v ≡ is_archive p
+  root_archive : (v : StoreSight) (p : Package) → In p w.packages → IsViewOfPackage w v p
+      → is_root v ≡ is_archive p
   root_archive v p i is = ap (λ o. option_map_or (λ h. h.depth == 0) o false) is.head
       ∙ level p (kept w register p i).parent
     where
@@ -92,7 +94,8 @@ module _ (w : World) (register : IsRegister w) (views : List StoreSight) (of : A
       above n = grind (arith, nat_tests)
 
       level : (q : Package) → HasParent w q → (q.depth == 0) ≡ is_archive q
-      level q h = by_parent q.parent q.depth q.loan _ h (λ u has. ap (λ n. n == 0) has.1 ∙ above (holdings w u).depth)
+      level q h = by_parent q.parent q.depth q.loan _ h (λ u has. ap (λ n. n == 0) has.1
+          ∙ above (holdings w u).depth)
 
   none_rooted : AllByRecursion (λ v. is_root v ≡ false) of.others
   none_rooted = All-weaker (IsStrayView w) (λ v. is_root v ≡ false) (λ v s. s.no_root) of.others of.beside
@@ -148,8 +151,7 @@ module _ (w : World) (register : IsRegister w) (views : List StoreSight) (of : A
         stands = r.1;
         says = r.2;
         is_open = is_open;
-        lent =
-            lends w register seen.package r.0 seen.live r.1 is_open;
+        lent = lends w register seen.package r.0 seen.live r.1 is_open;
       }
 
   target_of : (s : StoreSight) (c : Claim) (o : Open s c) → c.target ≡ uuid_text o.lent.loan.uuid
@@ -171,9 +173,11 @@ module _ (w : World) (register : IsRegister w) (views : List StoreSight) (of : A
       (uuid_at o.lent.loan o.lent.live) text)
 
   -- no stray is
-  no_stray : (s : StoreSight) (c : Claim) (o : Open s c) (v : StoreSight) → IsStrayView w v → is_loan_of c v ≡ false
+  no_stray : (s : StoreSight) (c : Claim) (o : Open s c) (v : StoreSight) → IsStrayView w v
+      → is_loan_of c v ≡ false
   no_stray s c o v stray = ap (λ x. is_loan_of x v) (sym o.says)
-      ∙ All-In (λ r. is_open_among ledger r ≡ true → is_loan_of (claim_of r) v ≡ false) o.receipt ledger stray.unnamed
+      ∙ All-In (λ r. is_open_among ledger r ≡ true → is_loan_of (claim_of r) v ≡ false) o.receipt ledger
+      stray.unnamed
       (in_ledger w register o.seen.package o.receipt o.seen.live o.stands) o.is_open
 
   once : (s : StoreSight) (c : Claim) → Open s c → count_by (is_loan_of c) views ≤ 1
@@ -204,7 +208,8 @@ module _ (w : World) (register : IsRegister w) (views : List StoreSight) (of : A
       (found_seen w register views of 0 root it.0 it.1).is.frame
 
   at_home : (s : StoreSight) (c : Claim) (loan : StoreSight)
-      → model.IsAtHome StoreSight (λ v. v.head) (λ v. v.claims) (λ v. v.is_formed ≡ true) (λ v. v.is_tied ≡ true)
+      → model.IsAtHome StoreSight (λ v. v.head) (λ v. v.claims) (λ v. v.is_formed ≡ true)
+      (λ v. v.is_tied ≡ true)
       (λ v. v.frame) (λ v. v.reads_as) views s c loan
   at_home s c loan root is there opens there' makes =
       let o : Open s c = open_of s c (contained s views there) opens in
@@ -221,7 +226,8 @@ module _ (w : World) (register : IsRegister w) (views : List StoreSight) (of : A
             )
       ]
 
-  order : model.InOrder StoreSight (λ v. v.head) (λ v. v.claims) (λ v. v.is_formed ≡ true) (λ v. v.is_tied ≡ true)
+  order : model.InOrder StoreSight (λ v. v.head) (λ v. v.claims) (λ v. v.is_formed ≡ true)
+      (λ v. v.is_tied ≡ true)
       (λ v. v.frame) (λ v. v.reads_as) views
   order = record {
     one_archive = one_archive;
@@ -296,8 +302,7 @@ module _ (w : World) (register : IsRegister w) (views : List StoreSight) (of : A
       root_there.0,
       root_there.1,
       λ n. record {
-        frame =
-            sym (root_frame root_there.0 root_there.1) n;
+        frame = sym (root_frame root_there.0 root_there.1) n;
         packages = packages_are n;
       },
     );
@@ -306,5 +311,6 @@ module _ (w : World) (register : IsRegister w) (views : List StoreSight) (of : A
   }
 
   pub no_faults : HasNoFault views
-  no_faults = no_fault StoreSight (λ v. v.head) (λ v. v.claims) (λ v. v.is_formed ≡ true) (λ v. v.is_tied ≡ true)
+  no_faults = no_fault StoreSight (λ v. v.head) (λ v. v.claims) (λ v. v.is_formed ≡ true)
+      (λ v. v.is_tied ≡ true)
       (λ v. v.frame) (λ v. v.reads_as) views w stands

@@ -11,7 +11,8 @@ use Rattle.sheet_laws.specs.Laws.{StoreSight}
 -- ---- the model's words, of views
 
 abbrev pub is_root : StoreSight → Bool
-is_root = model.is_root StoreSight (λ v. v.head) (λ v. v.claims) (λ v. v.is_formed ≡ true) (λ v. v.is_tied ≡ true)
+is_root = model.is_root StoreSight (λ v. v.head) (λ v. v.claims) (λ v. v.is_formed ≡ true)
+    (λ v. v.is_tied ≡ true)
     (λ v. v.frame) (λ v. v.reads_as)
 
 abbrev pub is_loan_of : Claim → StoreSight → Bool

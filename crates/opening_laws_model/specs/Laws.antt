@@ -15,22 +15,26 @@ use Rattle.opening_laws_model.specs.Timely.{IsTimely, IsInBounds}
 
 -- Views of a register's stores stand for it, in whatever order they are and whatever strays are beside them.
 abbrev pub RegisterStands : Type 0
-RegisterStands = (w : World) (views : List StoreSight) → IsRegister w → AreViewsOfWorld views w → StoresStandFor views w
+RegisterStands = (w : World) (views : List StoreSight) → IsRegister w → AreViewsOfWorld views w
+    → StoresStandFor views w
 
 -- So none of the nine faults of opening holds of them.
 abbrev pub RegisterHasNoFault : Type 0
-RegisterHasNoFault = (w : World) (views : List StoreSight) → IsRegister w → AreViewsOfWorld views w → HasNoFault views
+RegisterHasNoFault = (w : World) (views : List StoreSight) → IsRegister w → AreViewsOfWorld views w
+    → HasNoFault views
 
 -- The views of the world's packages are live, and those of the strays are not.
 abbrev pub StraysAreApart : Type 0
 StraysAreApart = (w : World) (views : List StoreSight) → IsRegister w → (of : AreViewsOfWorld views w) →
-    AllByRecursion (λ v. is_live views v ≡ true) of.members × AllByRecursion (λ v. is_live views v ≡ false) of.others
+    AllByRecursion (λ v. is_live views v ≡ true) of.members × AllByRecursion (λ v. is_live views v ≡ false)
+    of.others
 
 -- ---- strays by their heads
 
 -- A view without head is that of a stray, and so is one whose head is that of a loan which is no package of the world.
 abbrev pub UnknownIsStray : Type 0
-UnknownIsStray = (w : World) (v : StoreSight) → IsRegister w → MatchOption v.head ⊤ (IsUnknown w) → IsStrayView w v
+UnknownIsStray = (w : World) (v : StoreSight) → IsRegister w → MatchOption v.head ⊤ (IsUnknown w)
+    → IsStrayView w v
 
 -- ---- moments and bounds
 

@@ -1,5 +1,6 @@
 -- The head of a store that reads as a package is the package's.
-use Rattle.std.proofs.Common.{◌≡◌, ℕ, ◌≤◌, pos, List, [], ◌∷◌, true, Option, Some, None, is_some, refl, sym, ap, ◌∙◌}
+use Rattle.std.proofs.Common.{◌≡◌, ℕ, ◌≤◌, pos, List, [], ◌∷◌, true, Option, Some, None, is_some}
+use Rattle.std.proofs.Common.{refl, sym, ap, ◌∙◌}
 use Rattle.std.proofs.Common.{length, arith}
 use Rattle.std.specs.Prelude.{MatchOption, ⊤, ◌==◌, unsigned_abs, ◌↔◌}
 use Rattle.std.proofs.lemmas.Bool.{false≢true, false_from_ne_true, eqb-true}
@@ -72,7 +73,8 @@ lent_head_is_low db h said lent =
 
 level_of : (parent : Option (List ℕ)) (depth loan : ℕ) → MatchOption parent ((depth ≡ 0) × (loan ≡ 0))
     (λ _. (1 ≤ depth) × (1 ≤ loan))
-    → ((optional_uuid_text parent ≡ []) ↔ (pos depth ≡ pos 0)) × ((pos loan ≡ pos 0) ↔ (pos depth ≡ pos 0))
+    → ((optional_uuid_text parent ≡ []) ↔ (pos depth ≡ pos 0))
+    × ((pos loan ≡ pos 0) ↔ (pos depth ≡ pos 0))
 level_of None depth loan h = (((λ _. ap pos h.0), (λ _. refl)), ((λ _. ap pos h.0), (λ _. ap pos h.1)))
 level_of (Some id) depth loan h = (
   ((λ e. absurd (uuid_some id e)), (λ e. absurd (none depth h.0 e))),

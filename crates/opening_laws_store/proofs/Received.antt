@@ -1,5 +1,6 @@
 -- The rows of receipts, and of what they moved, are in their ranges, and claim what the receipts say.
-use Rattle.std.proofs.Common.{◌≡◌, ℕ, ◌+◌, ◌<◌, ◌≤◌, pos, ◌≤ℤ◌, ◌<ℤ◌, List, [], ◌∷◌, map, Bool, true, false, cond}
+use Rattle.std.proofs.Common.{◌≡◌, ℕ, ◌+◌, ◌<◌, ◌≤◌, pos, ◌≤ℤ◌, ◌<ℤ◌, List, []}
+use Rattle.std.proofs.Common.{◌∷◌, map, Bool, true, false, cond}
 use Rattle.std.proofs.Common.{Option, Some, None, is_some, refl, sym, ap, subst, ◌∙◌, arith}
 use Rattle.std.specs.Prelude.{◌&&◌, flat_map, int_le, IsPermutation, MatchBool}
 use Rattle.std.specs.List.{AllByRecursion, enumerate_from}
@@ -61,8 +62,10 @@ as_item : (b : Bool) (m : Moved) → b ≡ true → MatchBool b ((m.other ≡ No
 as_item true m e h = h
 as_item false m e h = absurd (false≢true e)
 
-as_link : (b : Bool) (m : Moved) → b ≡ false → MatchBool b ((m.other ≡ None) × (is_some m.fingerprint ≡ true))
-    ((is_some m.other ≡ true) × (m.size ≡ 0) × (m.fingerprint ≡ None)) → (is_some m.other ≡ true) × (m.size ≡ 0)
+as_link : (b : Bool) (m : Moved) → b ≡ false → MatchBool b ((m.other ≡ None)
+    × (is_some m.fingerprint ≡ true))
+    ((is_some m.other ≡ true) × (m.size ≡ 0) × (m.fingerprint ≡ None)) → (is_some m.other ≡ true)
+    × (m.size ≡ 0)
     × (m.fingerprint ≡ None)
 as_link true m e h = absurd (true≢false e)
 as_link false m e h = h
@@ -74,7 +77,8 @@ digest_text None some fit = absurd (false≢true some)
 digest_text (Some digest) some fit = record { digest = digest; long = fit; is = refl }
 
 -- another end that is there
-other_text : (o : Option (List ℕ)) → is_some o ≡ true → is_fit_end o ≡ true → IsUuidText (optional_uuid_text o)
+other_text : (o : Option (List ℕ)) → is_some o ≡ true → is_fit_end o ≡ true
+    → IsUuidText (optional_uuid_text o)
 other_text None some fit = absurd (false≢true some)
 other_text (Some id) some fit = record { id = id; uuid = fit; is = refl }
 
@@ -117,14 +121,14 @@ receipt_range r sound fit = record {
     n_tiles = low r.tiles;
     n_media = low r.media;
     n_rows = low r.rows;
-    n_links =
-        low r.links;
+    n_links = low r.links;
     n_bytes = low r.bytes;
   };
 }
 
 -- the rows of things stand from a place on
-stand_from : (seq n : ℕ) (things : List Moved) → AllByRecursion (λ m. IsThing m × (is_fit_moved m ≡ true)) things
+stand_from : (seq n : ℕ) (things : List Moved) → AllByRecursion (λ m. IsThing m × (is_fit_moved m ≡ true))
+    things
     → StandFrom (pos seq) n (map (λ m. moved_row seq m.0 m.1) (enumerate_from n things))
 stand_from seq n [] h = tt
 stand_from seq n (m ∷ things) h = (thing_range seq n m h.0.0 h.0.1, refl, refl, stand_from seq (n + 1) things h.1)
@@ -163,7 +167,8 @@ put_map : {X Y : Type 0} (key : Y → List ℕ) (g : X → Y) (x : X) (ys : List
     → put key (g x) (map g ys) ≡ map g (put (λ y. key (g y)) x ys)
 put_map key g x [] = refl
 put_map key g x (y ∷ ys) =
-    elim (is_before (key (g y)) (key (g x))) as (λ b. cond b (g y ∷ put key (g x) (map g ys)) (g x ∷ g y ∷ map g ys)
+    elim (is_before (key (g y)) (key (g x))) as (λ b. cond b (g y ∷ put key (g x) (map g ys))
+    (g x ∷ g y ∷ map g ys)
     ≡ map g (cond b (y ∷ put (λ z. key (g z)) x ys) (x ∷ y ∷ ys))) [
       | true ↦ ap (λ l. g y ∷ l) (put_map key g x ys)
       | false ↦ refl
@@ -178,7 +183,8 @@ arranged_map key g (x ∷ xs) = ap (put key (g x)) (arranged_map key g xs)
 module _ (entered of_package : List Receipt) (receipts : List ReceiptRow) (moved : List MovedRow)
     (says : SaysReceipts entered of_package receipts moved) (order : IsArranged receipt_key of_package) where
   pub rows_are : receipts ≡ map receipt_row of_package
-  rows_are = says.receipts ∙ arranged_map receipt_shape.key receipt_row entered ∙ ap (map receipt_row) (sym says.kept)
+  rows_are = says.receipts ∙ arranged_map receipt_shape.key receipt_row entered
+      ∙ ap (map receipt_row) (sym says.kept)
 
   pub claims_are : map claim_of_row receipts ≡ map claim_of of_package
   claims_are = ap (map claim_of_row) rows_are ∙ map-map claim_of_row receipt_row of_package

@@ -1,5 +1,6 @@
 -- Rows and identities of a package answer to each other, and mapping rows to rows.
-use Rattle.std.proofs.Common.{◌≡◌, ℕ, ℤ, pos, List, [], ◌∷◌, map, true, false, cond, refl, sym, ap, subst, ◌∙◌, inl}
+use Rattle.std.proofs.Common.{◌≡◌, ℕ, ℤ, pos, List, [], ◌∷◌, map, true, false, cond, refl, sym, ap}
+use Rattle.std.proofs.Common.{subst, ◌∙◌, inl}
 use Rattle.std.specs.Prelude.{◌&&◌, flat_map}
 use Rattle.std.specs.List.{AllByRecursion}
 use Rattle.std.specs.Ordering.{int_eq}
@@ -50,8 +51,7 @@ module _ (f : Frame) (p : Package) (t : Tables) (says : Says f p t) where
         zoom_level = zoom;
         tile_column = column;
         tile_row = row;
-        tile_data =
-            bytes;
+        tile_data = bytes;
       } in
       let here : In own (tile_rows n.number n.item.content) =
       subst (λ c. In own (tile_rows n.number c)) (sym e) (inl refl) in

@@ -1,5 +1,6 @@
 -- The words of opening over stores, and over those of them alone that live: each word is the same.
-use Rattle.std.specs.Prelude.{◌≡◌, ℕ, zero, suc, ◌≤◌, Bool, true, false, ◌&&◌, ◌||◌, ◌==◌, nat_le, List, map, filter}
+use Rattle.std.specs.Prelude.{◌≡◌, ℕ, zero, suc, ◌≤◌, Bool, true, false, ◌&&◌, ◌||◌, ◌==◌}
+use Rattle.std.specs.Prelude.{nat_le, List, map, filter}
 use Rattle.std.specs.Prelude.{find, length, refl, Option, count_by, flat_map, Contains}
 use Rattle.std.proofs.Common.{sym, ap, subst, ◌∙◌, arith, inl, inr}
 use Rattle.std.proofs.lemmas.Bool.{and_from, cases_lt}
@@ -61,7 +62,8 @@ module _ (Store : Type 0) (head : Store → Option Head) (claims : Store → Lis
       elim (cases_lt k (length stores)) [
         | inl lt ↦ rounds.grows Store head claims IsFormed IsTied frame_of read stores (suc k) (length stores) s
             (omega (arith, lt)) h
-        | inr le ↦ found_is_live k s i (sym (All-In (λ x. here (suc k) x ≡ here k x) s stores (still k le) i) ∙ h)
+        | inr le ↦ found_is_live k s i (sym (All-In (λ x. here (suc k) x ≡ here k x) s stores (still k le) i)
+            ∙ h)
       ]
 
 -- ---- those that live, alone
@@ -182,7 +184,8 @@ module _ (Store : Type 0) (head : Store → Option Head) (claims : Store → Lis
   loans_same : (s : Store) (c : Claim) → Contains stores s → Open s c
       → count_by (loan_of c) alone ≡ count_by (loan_of c) stores
   loans_same s c i h = counted_again (loan_of c) lives stores
-      (All-weaker (λ x. In x stores) (λ x. loan_of c x ≡ true → lives x ≡ true) (λ x j is. loans_live s c i h x j is)
+      (All-weaker (λ x. In x stores) (λ x. loan_of c x ≡ true → lives x ≡ true)
+      (λ x j is. loans_live s c i h x j is)
       stores (In-all stores))
 
   root_lives : (s : Store) → root s ≡ true → lives s ≡ true
@@ -236,14 +239,16 @@ module _ (Store : Type 0) (head : Store → Option Head) (claims : Store → Lis
       → model.Dangling Store head claims IsFormed IsTied frame_of read alone id
   dangling_fro id h = (h.0, subst (λ ls. Contains ls h.0) (sym live_again) h.1, h.2, h.3)
 
-  pub counted_to : (test : ℕ → Bool) (id : List ℕ) → model.Counted Store head claims IsFormed IsTied frame_of read
+  pub counted_to : (test : ℕ → Bool) (id : List ℕ) → model.Counted Store head claims IsFormed IsTied frame_of
+      read
       test alone id → model.Counted Store head claims IsFormed IsTied frame_of read test stores id
   counted_to test id h =
       let here : Contains stores h.0 = there h.0 h.2 in
       let is_open : Open h.0 h.1 = open_to h.0 h.1 h.3 in
       (h.0, h.1, here, is_open, h.4, h.5, ap test (sym (loans_same h.0 h.1 here is_open)) ∙ h.6)
 
-  pub counted_fro : (test : ℕ → Bool) (id : List ℕ) → model.Counted Store head claims IsFormed IsTied frame_of read
+  pub counted_fro : (test : ℕ → Bool) (id : List ℕ) → model.Counted Store head claims IsFormed IsTied frame_of
+      read
       test stores id → model.Counted Store head claims IsFormed IsTied frame_of read test alone id
   counted_fro test id h = (
     h.0,

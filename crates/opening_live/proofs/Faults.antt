@@ -13,11 +13,13 @@ use Rattle.opening_verdict.specs.Views.{IsFaultOf, live_views}
 use Rattle.opening_live.proofs.Alone as alone
 
 abbrev NotA : List StoreSight → List ℕ → Type 0
-NotA = model.NotAPackage StoreSight (λ v. v.head) (λ v. v.claims) (λ v. v.is_formed ≡ true) (λ v. v.is_tied ≡ true)
+NotA = model.NotAPackage StoreSight (λ v. v.head) (λ v. v.claims) (λ v. v.is_formed ≡ true)
+    (λ v. v.is_tied ≡ true)
     (λ v. v.frame) (λ v. v.reads_as)
 
 abbrev Copies : List StoreSight → List ℕ → Type 0
-Copies = model.TwoCopies StoreSight (λ v. v.head) (λ v. v.claims) (λ v. v.is_formed ≡ true) (λ v. v.is_tied ≡ true)
+Copies = model.TwoCopies StoreSight (λ v. v.head) (λ v. v.claims) (λ v. v.is_formed ≡ true)
+    (λ v. v.is_tied ≡ true)
     (λ v. v.frame) (λ v. v.reads_as)
 
 abbrev Missing : List StoreSight → List ℕ → Type 0
@@ -29,12 +31,14 @@ Foreign = model.ForeignFrame StoreSight (λ v. v.head) (λ v. v.claims) (λ v. v
     (λ v. v.is_tied ≡ true) (λ v. v.frame) (λ v. v.reads_as)
 
 abbrev Hangs : List StoreSight → List ℕ → Type 0
-Hangs = model.Dangling StoreSight (λ v. v.head) (λ v. v.claims) (λ v. v.is_formed ≡ true) (λ v. v.is_tied ≡ true)
+Hangs = model.Dangling StoreSight (λ v. v.head) (λ v. v.claims) (λ v. v.is_formed ≡ true)
+    (λ v. v.is_tied ≡ true)
     (λ v. v.frame) (λ v. v.reads_as)
 
 module _ (vs : List StoreSight) where
   a_to : (id : List ℕ) → NotA (live_views vs) id → NotA vs id
-  a_to = alone.unformed_to StoreSight (λ v. v.head) (λ v. v.claims) (λ v. v.is_formed ≡ true) (λ v. v.is_tied ≡ true)
+  a_to = alone.unformed_to StoreSight (λ v. v.head) (λ v. v.claims) (λ v. v.is_formed ≡ true)
+      (λ v. v.is_tied ≡ true)
       (λ v. v.frame) (λ v. v.reads_as) vs
 
   a_fro : (id : List ℕ) → NotA vs id → NotA (live_views vs) id
@@ -42,47 +46,58 @@ module _ (vs : List StoreSight) where
       (λ v. v.is_tied ≡ true) (λ v. v.frame) (λ v. v.reads_as) vs
 
   c_to : (id : List ℕ) → Copies (live_views vs) id → Copies vs id
-  c_to = alone.counted_to StoreSight (λ v. v.head) (λ v. v.claims) (λ v. v.is_formed ≡ true) (λ v. v.is_tied ≡ true)
+  c_to = alone.counted_to StoreSight (λ v. v.head) (λ v. v.claims) (λ v. v.is_formed ≡ true)
+      (λ v. v.is_tied ≡ true)
       (λ v. v.frame) (λ v. v.reads_as) vs (nat_le 2)
 
   c_fro : (id : List ℕ) → Copies vs id → Copies (live_views vs) id
-  c_fro = alone.counted_fro StoreSight (λ v. v.head) (λ v. v.claims) (λ v. v.is_formed ≡ true) (λ v. v.is_tied ≡ true)
+  c_fro = alone.counted_fro StoreSight (λ v. v.head) (λ v. v.claims) (λ v. v.is_formed ≡ true)
+      (λ v. v.is_tied ≡ true)
       (λ v. v.frame) (λ v. v.reads_as) vs (nat_le 2)
 
   m_to : (id : List ℕ) → Missing (live_views vs) id → Missing vs id
-  m_to = alone.counted_to StoreSight (λ v. v.head) (λ v. v.claims) (λ v. v.is_formed ≡ true) (λ v. v.is_tied ≡ true)
+  m_to = alone.counted_to StoreSight (λ v. v.head) (λ v. v.claims) (λ v. v.is_formed ≡ true)
+      (λ v. v.is_tied ≡ true)
       (λ v. v.frame) (λ v. v.reads_as) vs (λ n. n == 0)
 
   m_fro : (id : List ℕ) → Missing vs id → Missing (live_views vs) id
-  m_fro = alone.counted_fro StoreSight (λ v. v.head) (λ v. v.claims) (λ v. v.is_formed ≡ true) (λ v. v.is_tied ≡ true)
+  m_fro = alone.counted_fro StoreSight (λ v. v.head) (λ v. v.claims) (λ v. v.is_formed ≡ true)
+      (λ v. v.is_tied ≡ true)
       (λ v. v.frame) (λ v. v.reads_as) vs (λ n. n == 0)
 
   f_to : (id : List ℕ) → Foreign (live_views vs) id → Foreign vs id
-  f_to = alone.foreign_to StoreSight (λ v. v.head) (λ v. v.claims) (λ v. v.is_formed ≡ true) (λ v. v.is_tied ≡ true)
+  f_to = alone.foreign_to StoreSight (λ v. v.head) (λ v. v.claims) (λ v. v.is_formed ≡ true)
+      (λ v. v.is_tied ≡ true)
       (λ v. v.frame) (λ v. v.reads_as) vs
 
   f_fro : (id : List ℕ) → Foreign vs id → Foreign (live_views vs) id
-  f_fro = alone.foreign_fro StoreSight (λ v. v.head) (λ v. v.claims) (λ v. v.is_formed ≡ true) (λ v. v.is_tied ≡ true)
+  f_fro = alone.foreign_fro StoreSight (λ v. v.head) (λ v. v.claims) (λ v. v.is_formed ≡ true)
+      (λ v. v.is_tied ≡ true)
       (λ v. v.frame) (λ v. v.reads_as) vs
 
   d_to : (id : List ℕ) → Hangs (live_views vs) id → Hangs vs id
-  d_to = alone.dangling_to StoreSight (λ v. v.head) (λ v. v.claims) (λ v. v.is_formed ≡ true) (λ v. v.is_tied ≡ true)
+  d_to = alone.dangling_to StoreSight (λ v. v.head) (λ v. v.claims) (λ v. v.is_formed ≡ true)
+      (λ v. v.is_tied ≡ true)
       (λ v. v.frame) (λ v. v.reads_as) vs
 
   d_fro : (id : List ℕ) → Hangs vs id → Hangs (live_views vs) id
   d_fro = alone.dangling_fro StoreSight (λ v. v.head) (λ v. v.claims) (λ v. v.is_formed ≡ true)
       (λ v. v.is_tied ≡ true) (λ v. v.frame) (λ v. v.reads_as) vs
 
-  one_to : model.IsOne StoreSight (λ v. v.head) (λ v. v.claims) (λ v. v.is_formed ≡ true) (λ v. v.is_tied ≡ true)
+  one_to : model.IsOne StoreSight (λ v. v.head) (λ v. v.claims) (λ v. v.is_formed ≡ true)
+      (λ v. v.is_tied ≡ true)
       (λ v. v.frame) (λ v. v.reads_as) (live_views vs) → model.IsOne StoreSight (λ v. v.head) (λ v. v.claims)
       (λ v. v.is_formed ≡ true) (λ v. v.is_tied ≡ true) (λ v. v.frame) (λ v. v.reads_as) vs
-  one_to = alone.one_to StoreSight (λ v. v.head) (λ v. v.claims) (λ v. v.is_formed ≡ true) (λ v. v.is_tied ≡ true)
+  one_to = alone.one_to StoreSight (λ v. v.head) (λ v. v.claims) (λ v. v.is_formed ≡ true)
+      (λ v. v.is_tied ≡ true)
       (λ v. v.frame) (λ v. v.reads_as) vs
 
-  one_fro : model.IsOne StoreSight (λ v. v.head) (λ v. v.claims) (λ v. v.is_formed ≡ true) (λ v. v.is_tied ≡ true)
+  one_fro : model.IsOne StoreSight (λ v. v.head) (λ v. v.claims) (λ v. v.is_formed ≡ true)
+      (λ v. v.is_tied ≡ true)
       (λ v. v.frame) (λ v. v.reads_as) vs → model.IsOne StoreSight (λ v. v.head) (λ v. v.claims)
       (λ v. v.is_formed ≡ true) (λ v. v.is_tied ≡ true) (λ v. v.frame) (λ v. v.reads_as) (live_views vs)
-  one_fro = alone.one_fro StoreSight (λ v. v.head) (λ v. v.claims) (λ v. v.is_formed ≡ true) (λ v. v.is_tied ≡ true)
+  one_fro = alone.one_fro StoreSight (λ v. v.head) (λ v. v.claims) (λ v. v.is_formed ≡ true)
+      (λ v. v.is_tied ≡ true)
       (λ v. v.frame) (λ v. v.reads_as) vs
 
   pub fault_to : (fault : RecoverFault) → IsFaultOf (live_views vs) fault → IsFaultOf vs fault
@@ -127,7 +142,8 @@ module _ (vs : List StoreSight) where
     alone.order_to StoreSight (λ v. v.head) (λ v. v.claims) (λ v. v.is_formed ≡ true)
         (λ v. v.is_tied ≡ true) (λ v. v.frame) (λ v. v.reads_as) vs h.0,
     alone.account_to StoreSight (λ v. v.head)
-        (λ v. v.claims) (λ v. v.is_formed ≡ true) (λ v. v.is_tied ≡ true) (λ v. v.frame) (λ v. v.reads_as) vs h.1,
+        (λ v. v.claims) (λ v. v.is_formed ≡ true) (λ v. v.is_tied ≡ true) (λ v. v.frame) (λ v. v.reads_as) vs
+        h.1,
   )
   fault_to (Altered id) h = (
     alone.order_to StoreSight (λ v. v.head) (λ v. v.claims) (λ v. v.is_formed ≡ true)
@@ -135,7 +151,8 @@ module _ (vs : List StoreSight) where
     (λ q. h.1 (alone.account_fro StoreSight (λ v. v.head) (λ v. v.claims) (λ v. v.is_formed ≡ true)
         (λ v. v.is_tied ≡ true) (λ v. v.frame) (λ v. v.reads_as) vs q)),
     alone.altered_to StoreSight (λ v. v.head)
-        (λ v. v.claims) (λ v. v.is_formed ≡ true) (λ v. v.is_tied ≡ true) (λ v. v.frame) (λ v. v.reads_as) vs id h.2,
+        (λ v. v.claims) (λ v. v.is_formed ≡ true) (λ v. v.is_tied ≡ true) (λ v. v.frame) (λ v. v.reads_as) vs
+        id h.2,
   )
   fault_to OutOfMemory h = tt
   fault_to StoreFault h = alone.large_to StoreSight (λ v. v.head) (λ v. v.claims) (λ v. v.is_formed ≡ true)
@@ -144,7 +161,8 @@ module _ (vs : List StoreSight) where
   pub fault_fro : (fault : RecoverFault) → IsFaultOf vs fault → IsFaultOf (live_views vs) fault
   fault_fro NoArchive h = alone.no_archive_fro StoreSight (λ v. v.head) (λ v. v.claims) (λ v. v.is_formed ≡ true)
       (λ v. v.is_tied ≡ true) (λ v. v.frame) (λ v. v.reads_as) vs h
-  fault_fro TwoArchives h = alone.two_archives_fro StoreSight (λ v. v.head) (λ v. v.claims) (λ v. v.is_formed ≡ true)
+  fault_fro TwoArchives h = alone.two_archives_fro StoreSight (λ v. v.head) (λ v. v.claims)
+      (λ v. v.is_formed ≡ true)
       (λ v. v.is_tied ≡ true) (λ v. v.frame) (λ v. v.reads_as) vs h
   fault_fro (NotAPackage id) h = (one_fro h.0, least_same (NotA vs) (NotA (live_views vs)) a_fro a_to id h.1)
   fault_fro (TwoCopies id) h = (
@@ -183,7 +201,8 @@ module _ (vs : List StoreSight) where
     alone.order_fro StoreSight (λ v. v.head) (λ v. v.claims) (λ v. v.is_formed ≡ true)
         (λ v. v.is_tied ≡ true) (λ v. v.frame) (λ v. v.reads_as) vs h.0,
     alone.account_fro StoreSight (λ v. v.head)
-        (λ v. v.claims) (λ v. v.is_formed ≡ true) (λ v. v.is_tied ≡ true) (λ v. v.frame) (λ v. v.reads_as) vs h.1,
+        (λ v. v.claims) (λ v. v.is_formed ≡ true) (λ v. v.is_tied ≡ true) (λ v. v.frame) (λ v. v.reads_as) vs
+        h.1,
   )
   fault_fro (Altered id) h = (
     alone.order_fro StoreSight (λ v. v.head) (λ v. v.claims) (λ v. v.is_formed ≡ true)
@@ -191,7 +210,8 @@ module _ (vs : List StoreSight) where
     (λ q. h.1 (alone.account_to StoreSight (λ v. v.head) (λ v. v.claims) (λ v. v.is_formed ≡ true)
         (λ v. v.is_tied ≡ true) (λ v. v.frame) (λ v. v.reads_as) vs q)),
     alone.altered_fro StoreSight (λ v. v.head)
-        (λ v. v.claims) (λ v. v.is_formed ≡ true) (λ v. v.is_tied ≡ true) (λ v. v.frame) (λ v. v.reads_as) vs id h.2,
+        (λ v. v.claims) (λ v. v.is_formed ≡ true) (λ v. v.is_tied ≡ true) (λ v. v.frame) (λ v. v.reads_as) vs
+        id h.2,
   )
   fault_fro OutOfMemory h = tt
   fault_fro StoreFault h = alone.large_fro StoreSight (λ v. v.head) (λ v. v.claims) (λ v. v.is_formed ≡ true)

@@ -1,5 +1,6 @@
 -- What flags take of a list, and a list put together from what they take and what they leave.
-use Rattle.std.specs.Prelude.{◌≡◌, ◌≤◌, Bool, true, false, cond, not, List, [], ◌∷◌, map, filter, zip, length, refl}
+use Rattle.std.specs.Prelude.{◌≡◌, ◌≤◌, Bool, true, false, cond, not, List, [], ◌∷◌, map, filter}
+use Rattle.std.specs.Prelude.{zip, length, refl}
 use Rattle.std.proofs.Common.{ap, arith}
 use Rattle.std.specs.List.{AllZip}
 use Rattle.opening_live.specs.Chosen.{flagged}
@@ -26,7 +27,8 @@ flagged_fewer (false ∷ flags) (x ∷ xs) = let less : length (flagged flags xs
 -- A list that has these of what the flags take, and those of what they leave.
 pub put_together : {A B : Type 0} (R : A → B → Type 0) (xs : List A) (flags : List Bool) (taken left : List B)
     → length flags ≡ length xs
-    → AllZip R (flagged flags xs) taken → AllZip R (flagged (map not flags) xs) left → (ys : List B) × AllZip R xs ys
+    → AllZip R (flagged flags xs) taken → AllZip R (flagged (map not flags) xs) left → (ys : List B)
+    × AllZip R xs ys
     × (flagged flags ys ≡ taken)
 put_together R [] [] [] [] long h g = ([], tt, refl)
 put_together R [] [] (y ∷ ys) left long h g = absurd h

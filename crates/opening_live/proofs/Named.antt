@@ -1,5 +1,6 @@
 -- All stores that live may live; so those that may, alone, tell which stores live.
-use Rattle.std.specs.Prelude.{◌≡◌, ℕ, ℤ, zero, suc, Bool, true, false, cond, not, ◌&&◌, ◌||◌, nat_lt, List, [], ◌∷◌}
+use Rattle.std.specs.Prelude.{◌≡◌, ℕ, ℤ, zero, suc, Bool, true, false, cond, not, ◌&&◌, ◌||◌}
+use Rattle.std.specs.Prelude.{nat_lt, List, [], ◌∷◌}
 use Rattle.std.specs.Prelude.{map, filter, zip, length, refl, Option, Some, None, flat_map, bytes_eq, int_lt, String}
 use Rattle.std.proofs.Common.{sym, ap, subst, ◌∙◌, inl, inr}
 use Rattle.std.proofs.lemmas.Bool.{true≢false, and_parts, and_from, false_from_ne_true}
@@ -101,7 +102,8 @@ module _ (stores : List Sight) (t : Sight → Bool) (keeps : (s : Sight) → is_
   some = filter t stores
 
   taken : (k : ℕ) → filter (at stores k) some ≡ filter (at stores k) stores
-  taken k = taken_again (at stores k) t stores (All-weaker (λ s. In s stores) (λ s. at stores k s ≡ true → t s ≡ true)
+  taken k = taken_again (at stores k) t stores (All-weaker (λ s. In s stores)
+      (λ s. at stores k s ≡ true → t s ≡ true)
       (λ s i h. keeps s (found_is_live stores k s i h)) stores (In-all stores))
 
   said_by : (k : ℕ) → ((s : Sight) → at some k s ≡ at stores k s) → said some k ≡ said stores k
@@ -112,7 +114,8 @@ module _ (stores : List Sight) (t : Sight → Bool) (keeps : (s : Sight) → is_
   reached_same zero s = refl
   reached_same (suc k) s =
       ap (λ b. b || list_any (λ c. is_loan_of c s && is_open_claim (said some k) c) (said some k)) (reached_same k s)
-      ∙ ap (λ cs. at stores k s || list_any (λ c. is_loan_of c s && is_open_claim cs c) cs) (said_by k (reached_same k))
+      ∙ ap (λ cs. at stores k s || list_any (λ c. is_loan_of c s && is_open_claim cs c) cs)
+      (said_by k (reached_same k))
 
   -- it tells with them who lives
   pub live_by_them : (s : Sight) → In s stores → (t s && is_live_store some s) ≡ is_live_store stores s
@@ -120,13 +123,15 @@ module _ (stores : List Sight) (t : Sight → Bool) (keeps : (s : Sight) → is_
       elim (t s) as (λ v. t s ≡ v → (v && is_live_store some s) ≡ is_live_store stores s) [
         | true ↦ λ e. same_test (is_live_store some s) (is_live_store stores s)
             (λ g. found_is_live stores (length some) s i (sym (reached_same (length some) s) ∙ g))
-            (λ g. found_is_live some (length stores) s (In-filter t s stores i e) (reached_same (length stores) s ∙ g))
+            (λ g. found_is_live some (length stores) s (In-filter t s stores i e)
+            (reached_same (length stores) s ∙ g))
         | false ↦ λ e. sym (false_from_ne_true (is_live_store stores s) (λ g. true≢false (sym (keeps s g) ∙ e)))
       ] refl
 
 -- ---- flags
 
-map_there : {X Y : Type 0} (f g : X → Y) (xs : List X) → ((x : X) → In x xs → f x ≡ g x) → map f xs ≡ map g xs
+map_there : {X Y : Type 0} (f g : X → Y) (xs : List X) → ((x : X) → In x xs → f x ≡ g x)
+    → map f xs ≡ map g xs
 map_there f g [] same = refl
 map_there f g (x ∷ xs) same = ap (λ y. y ∷ map f xs) (same x (inl refl))
     ∙ ap (λ ys. g x ∷ ys) (map_there f g xs (λ z i. same z (inr i)))
@@ -162,5 +167,6 @@ pub live_twice : {Y : Type 0} (stores : List Sight) (ys : List Y) (t : Sight →
     → flagged (live_flags (filter t stores)) (flagged (map t stores) ys) ≡ flagged (live_flags stores) ys
 live_twice stores ys t same =
     taken_twice t (is_live_store (filter t stores)) stores ys
-    ∙ ap (λ flags. flagged flags ys) (map_there (λ s. t s && is_live_store (filter t stores) s) (is_live_store stores)
+    ∙ ap (λ flags. flagged flags ys) (map_there (λ s. t s && is_live_store (filter t stores) s)
+    (is_live_store stores)
     stores (live_by_them stores t (λ s h. same s ∙ lives_may stores s h)))

@@ -1,5 +1,6 @@
 -- Which stores live depends on their heads and their claims alone.
-use Rattle.std.specs.Prelude.{◌≡◌, ◌==◌, ℕ, zero, suc, Bool, true, false, ◌&&◌, ◌||◌, List, [], ◌∷◌, ◌++◌, map}
+use Rattle.std.specs.Prelude.{◌≡◌, ◌==◌, ℕ, zero, suc, Bool, true, false, ◌&&◌, ◌||◌, List, []}
+use Rattle.std.specs.Prelude.{◌∷◌, ◌++◌, map}
 use Rattle.std.specs.Prelude.{filter, length, refl, Option, flat_map}
 use Rattle.std.proofs.Common.{sym, ap, ◌∙◌}
 use Rattle.std.proofs.lemmas.List.{length-map}
@@ -23,14 +24,17 @@ flat_seen see f g same [] = refl
 flat_seen see f g same (x ∷ xs) = ap (λ ys. ys ++ flat_map g (map see xs)) (same x)
     ∙ ap (λ ys. f x ++ ys) (flat_seen see f g same xs)
 
-any_same : {X : Type 0} (p q : X → Bool) → ((x : X) → q x ≡ p x) → (xs : List X) → list_any q xs ≡ list_any p xs
+any_same : {X : Type 0} (p q : X → Bool) → ((x : X) → q x ≡ p x) → (xs : List X)
+    → list_any q xs ≡ list_any p xs
 any_same p q same [] = refl
 any_same p q same (x ∷ xs) = ap (λ b. b || list_any q xs) (same x) ∙ ap (λ b. p x || b) (any_same p q same xs)
 
 module _ (Store Seen : Type 0)
-    (head : Store → Option Head) (claims : Store → List Claim) (IsFormed : Store → Type 0) (IsTied : Store → Type 0)
+    (head : Store → Option Head) (claims : Store → List Claim) (IsFormed : Store → Type 0)
+    (IsTied : Store → Type 0)
     (frame_of : Store → Frame) (read : Store → Package)
-    (head' : Seen → Option Head) (claims' : Seen → List Claim) (IsFormed' : Seen → Type 0) (IsTied' : Seen → Type 0)
+    (head' : Seen → Option Head) (claims' : Seen → List Claim) (IsFormed' : Seen → Type 0)
+    (IsTied' : Seen → Type 0)
     (frame_of' : Seen → Frame) (read' : Seen → Package)
     (see : Store → Seen) (same_head : (s : Store) → head' (see s) ≡ head s)
     (same_claims : (s : Store) → claims' (see s) ≡ claims s) (stores : List Store) where
@@ -93,8 +97,10 @@ pub flags_are : (ps : List Pair) → live_flags (map (λ p. p.sight) ps)
     ≡ map (is_live_view (map (λ p. p.view) ps)) (map (λ p. p.view) ps)
 flags_are ps =
     map_map (λ p. p.sight) (is_live_store (map (λ p. p.sight) ps)) ps
-    ∙ map_same (λ p. is_live_store (map (λ q. q.sight) ps) p.sight) (λ p. is_live_view (map (λ q. q.view) ps) p.view)
-    (λ p. live_seen Pair Sight (λ q. q.view.head) (λ q. q.view.claims) AnyPair AnyPair (λ q. q.view.frame) nothing_of
+    ∙ map_same (λ p. is_live_store (map (λ q. q.sight) ps) p.sight)
+    (λ p. is_live_view (map (λ q. q.view) ps) p.view)
+    (λ p. live_seen Pair Sight (λ q. q.view.head) (λ q. q.view.claims) AnyPair AnyPair (λ q. q.view.frame)
+    nothing_of
     head_seen claims_seen Any Any frame_seen nothing_read (λ q. q.sight) (λ q. q.heads) (λ q. q.claims) ps p
     ∙ sym (live_seen Pair StoreSight (λ q. q.view.head) (λ q. q.view.claims) AnyPair AnyPair (λ q. q.view.frame)
     nothing_of (λ v. v.head) (λ v. v.claims) (λ v. v.is_formed ≡ true) (λ v. v.is_tied ≡ true) (λ v. v.frame)

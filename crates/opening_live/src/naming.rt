@@ -162,7 +162,8 @@ pub(crate) fn those_named(
     loans: &BTreeSet<LoanKey>,
     sights: Vec<Sight>,
 ) -> Result<Vec<Sight>, OutOfMemory>
-    ensures { IfOk result (λ chosen. chosen.items ≡ filter (λ s. is_root s || is_lent_in loans.now s) sights.items) }
+    ensures { IfOk result (λ chosen. chosen.items ≡ filter (λ s. is_root s || is_lent_in loans.now s)
+        sights.items) }
 {
     let mut chosen = Vec::new(alloc);
     for sight in sights {

@@ -1,5 +1,6 @@
 -- The numbers that are looked for are those of the receipts that name what a fault is of.
-use Rattle.std.specs.Prelude.{◌≡◌, ℕ, zero, suc, true, false, not, List, map, nat_le, bytes_eq, count_by, Contains}
+use Rattle.std.specs.Prelude.{◌≡◌, ℕ, zero, suc, true, false, not, List, map, nat_le, bytes_eq, count_by}
+use Rattle.std.specs.Prelude.{Contains}
 use Rattle.std.specs.Prelude.{refl}
 use Rattle.std.proofs.Common.{sym, ap, ◌∙◌, arith}
 use Rattle.std.proofs.lemmas.Bool.Decides.{nat_tests}
@@ -64,7 +65,8 @@ module _ (sights : List Sight) (splits : List OpenSplit) (all : AreOpenSplits si
         made.2,
         made.3,
         ap (λ x. x.target) (sym is) ∙ sym ((bytes_eq-Decides (uuid_text id) split.target).0 text),
-        ap (λ x. is_count loans (count_by (is_loan_of (claim_made x)) sights)) (sym is) ∙ sym (many_of split) ∙ many,
+        ap (λ x. is_count loans (count_by (is_loan_of (claim_made x)) sights)) (sym is) ∙ sym (many_of split)
+            ∙ many,
         ap (λ x. x.seq) (sym is) ∙ seq,
       )
 

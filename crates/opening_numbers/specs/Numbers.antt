@@ -1,5 +1,6 @@
 -- Which receipts name what a fault is of, by what stores say of themselves. Profile.
-use Rattle.std.specs.Prelude.{◌≡◌, ◌⊎◌, ◌≤◌, ◌==◌, ℕ, ℤ, pos, Bool, true, false, not, nat_le, List, Option}
+use Rattle.std.specs.Prelude.{◌≡◌, ◌⊎◌, ◌≤◌, ◌==◌, ℕ, ℤ, pos, Bool, true, false, not}
+use Rattle.std.specs.Prelude.{nat_le, List, Option}
 use Rattle.std.specs.Prelude.{MatchOption, bytes_eq, count_by, Contains}
 use Rattle.std.specs.Option.{option_map_or}
 use Rattle.sheet_types.specs.Lines.{entry_from}
@@ -40,9 +41,9 @@ abbrev pub IsAdditionOf : List Sight → List ℕ → ℕ → Type 0
 IsAdditionOf stores id n = (s : Sight) × (c : Claim) × Contains stores s × (is_live_store stores s ≡ true)
     × Contains (claims_seen s) c × (adds_item id c ≡ true) × (c.seq ≡ pos n)
 
--- Of two copies, no copy, or a loan that is not at home: an open split of the package, of which two stores, none, or
--- one
--- is the loan. Of an item: its addition. No receipt names what the other faults are of.
+-- Of two copies, no copy, or a loan that is not at home: an open split of the package, of which two
+-- stores, none, or one is the loan. Of an item: its addition. No receipt names what the other
+-- faults are of.
 abbrev pub Names : List Sight → RecoverFault → ℕ → Type 0
 Names stores (TwoCopies id) n = IsSplitOf (nat_le 2) stores id n
 Names stores (MissingPackage id) n = IsSplitOf (λ k. k == 0) stores id n

@@ -74,7 +74,8 @@ fn last_split(
     id: Uuid,
     loans: Loans,
 ) -> Result<u64, OutOfMemory>
-    ensures { IfOk result (IsLast (Among (λ split. IsOfSplit id loans (copies_of counts.now split) split) splits.now)) }
+    ensures { IfOk result (IsLast (Among (λ split. IsOfSplit id loans (copies_of counts.now split) split)
+        splits.now)) }
 {
     let mut last: u64 = 0;
     for split in splits {

@@ -1,5 +1,6 @@
 -- What became of the stores that were handed in: only read, or brought, and the strays as they were.
-use Rattle.std.specs.Prelude.{◌≡◌, ℕ, List, [], ◌∷◌, ◌++◌, map, refl, Option, Some, None, MatchOption, Ok, IsTrue}
+use Rattle.std.specs.Prelude.{◌≡◌, ℕ, List, [], ◌∷◌, ◌++◌, map, refl, Option, Some, None}
+use Rattle.std.specs.Prelude.{MatchOption, Ok, IsTrue}
 use Rattle.std.specs.List.{AllZip, AllByRecursion}
 use Rattle.std.proofs.Common.{sym, ap, subst, ◌∙◌, inl, inr}
 use Rattle.std.proofs.lemmas.List.Elements.{All-from_recursion, recursion_from_All}
@@ -55,7 +56,8 @@ module _ {S : Type 0} (g : Ghosts S) where
         right.1,
   )
 
-  pub fault_before : (old new : List (Held S)) (fault : RecoverFault) → AreOnlyRead g old new → IsFaultAt g new fault
+  pub fault_before : (old new : List (Held S)) (fault : RecoverFault) → AreOnlyRead g old new
+      → IsFaultAt g new fault
       → IsFaultAt g old fault
   fault_before old new fault stay (inl want) = inl want
   fault_before old new fault stay (inr (views, right, is)) = inr (views, reread old new views stay right, is)
@@ -134,7 +136,8 @@ module _ {S : Type 0} (g : Ghosts S) where
     )
 
     may_of : (stores read now : List (Held S)) (ps : List (Place S)) → read ≡ map (λ p. p.old) ps
-        → now ≡ map (λ p. p.now) ps → AreAtRest g stores → AreOnlyRead g stores read → AreOpenWhereClean g read
+        → now ≡ map (λ p. p.now) ps → AreAtRest g stores → AreOnlyRead g stores read
+        → AreOpenWhereClean g read
         → AllByRecursion Tried ps → MayAllBeBrought g stores now
     may_of stores read now ps old_is new_is rests stay opens tried =
         subst (MayAllBeBrought g stores) (sym new_is)
@@ -161,7 +164,8 @@ module _ {S : Type 0} (g : Ghosts S) where
   -- ---- the strays
 
   -- what goes with a store that was read
-  pub read_of : {A B : Type 0} (P : A → Type 0) (R : A → B → Type 0) (xs : List A) (ys : List B) → AllByRecursion P xs
+  pub read_of : {A B : Type 0} (P : A → Type 0) (R : A → B → Type 0) (xs : List A) (ys : List B)
+      → AllByRecursion P xs
       → AllZip R xs ys → AllByRecursion (λ y. (x : A) × P x × R x y) ys
   read_of P R [] [] each zip = tt
   read_of P R [] (y ∷ ys) each zip = absurd zip
@@ -175,7 +179,8 @@ module _ {S : Type 0} (g : Ghosts S) where
   stray_still (Some k) old now hs done = refl
 
   strays_still : (ps : List (Place S)) → AllByRecursion (λ p. MatchOption p.kept (p.now ≡ p.old)
-      (λ _. IsTurned g {E = Fault} p.old p.now (Ok tt))) ps → strays_of (map (λ p. p.now) ps) (map (λ p. p.kept) ps)
+      (λ _. IsTurned g {E = Fault} p.old p.now (Ok tt))) ps → strays_of (map (λ p. p.now) ps)
+      (map (λ p. p.kept) ps)
       ≡ strays_of (map (λ p. p.old) ps) (map (λ p. p.kept) ps)
   strays_still [] done = refl
   strays_still (p ∷ ps) done = ap (with_stray p.now p.kept) (strays_still ps done.1)
@@ -186,5 +191,6 @@ module _ {S : Type 0} (g : Ghosts S) where
   same_strays kept read now turned =
       ap (λ l. strays_of l kept) turned.new_is ∙ ap (strays_of (map (λ (p : Place S). p.now) turned.places))
       turned.kept_is ∙ strays_still turned.places turned.each
-      ∙ sym (ap (λ l. strays_of l kept) turned.old_is ∙ ap (strays_of (map (λ (p : Place S). p.old) turned.places))
+      ∙ sym (ap (λ l. strays_of l kept) turned.old_is ∙ ap (strays_of
+      (map (λ (p : Place S). p.old) turned.places))
       turned.kept_is)

@@ -1,6 +1,7 @@
 -- Stores that were seen are judged: the frame is that of their world, what their receipts name is known, and their
 -- views are right.
-use Rattle.std.specs.Prelude.{◌≡◌, ◌⊎◌, ℕ, zero, suc, ◌==◌, Bool, true, false, cond, List, [], ◌∷◌, ◌++◌, map}
+use Rattle.std.specs.Prelude.{◌≡◌, ◌⊎◌, ℕ, zero, suc, ◌==◌, Bool, true, false, cond, List, []}
+use Rattle.std.specs.Prelude.{◌∷◌, ◌++◌, map}
 use Rattle.std.specs.Prelude.{flat_map, find, refl, Option, Some, None, option_map, slice_get, Result, Ok, Err, IfOk}
 use Rattle.std.specs.Prelude.{IfErr}
 use Rattle.std.specs.List.{AllZip, AllByRecursion}
@@ -35,12 +36,14 @@ mapped_or f g (Some x) = refl
 
 -- the first that passes
 pub found_first : {X : Type 0} (p : X → Bool) (xs : List X) (n : ℕ) (x : X)
-    → AllByRecursion (λ y. p y ≡ false) (take n xs) → slice_get xs n ≡ Some x → p x ≡ true → find p xs ≡ Some x
+    → AllByRecursion (λ y. p y ≡ false) (take n xs) → slice_get xs n ≡ Some x → p x ≡ true
+    → find p xs ≡ Some x
 found_first p [] n x each place is = absurd (let e = place in cc)
 found_first p (y ∷ ys) zero x each place is = let same : y ≡ x = cc in rw (ap p same ∙ is) (ap Some same)
 found_first p (y ∷ ys) (suc n) x each place is = rw each.0 (found_first p ys n x each.1 place is)
 
-pub none_found : {X : Type 0} (p : X → Bool) (xs : List X) → AllByRecursion (λ y. p y ≡ false) xs → find p xs ≡ None
+pub none_found : {X : Type 0} (p : X → Bool) (xs : List X) → AllByRecursion (λ y. p y ≡ false) xs
+    → find p xs ≡ None
 none_found p [] each = refl
 none_found p (x ∷ xs) each = rw each.0 (none_found p xs each.1)
 
@@ -119,7 +122,8 @@ knows_seen known seen views verdict noted seen_as is =
     let formed : AllByRecursion (λ v. v.is_tied ≡ true → P v) (live_views views) =
     All-both (λ v. v.is_formed ≡ true → v.is_tied ≡ true → P v) (λ v. v.is_formed ≡ true)
     (λ v. v.is_tied ≡ true → P v) (λ v so formed. so formed) (live_views views) some is.stands.in_order.formed in
-    let all : AllByRecursion P (live_views views) = All-both (λ v. v.is_tied ≡ true → P v) (λ v. v.is_tied ≡ true) P
+    let all : AllByRecursion P (live_views views) = All-both (λ v. v.is_tied ≡ true → P v)
+    (λ v. v.is_tied ≡ true) P
     (λ v so tied. so tied) (live_views views) formed is.stands.in_order.tied in
     let packages : AllByRecursion Each is.world.packages =
     subst (AllByRecursion Each) (sym (ap (λ w. w.packages) is.stands.read_as.2))
@@ -133,7 +137,8 @@ pub ok_so : {X E : Type 0} (P Q : X → Type 0) (r : Result X E) → ((x : X) �
 ok_so P Q (Ok x) so is = so x is
 ok_so P Q (Err e) so is = tt
 
-pub err_so : {X E : Type 0} (P Q : E → Type 0) (r : Result X E) → ((e : E) → P e → Q e) → IfErr r P → IfErr r Q
+pub err_so : {X E : Type 0} (P Q : E → Type 0) (r : Result X E) → ((e : E) → P e → Q e) → IfErr r P
+    → IfErr r Q
 err_so P Q (Ok x) so is = tt
 err_so P Q (Err e) so is = so e is
 
@@ -155,8 +160,7 @@ module _ {S : Type 0} (g : Ghosts S) where
       record {
         views = zip.0.right.0 ∷ more.views;
         right = ((zip.0.is_open, zip.0.right.1), more.right);
-        seen_as =
-            (zip.0.right.2, more.seen_as);
+        seen_as = (zip.0.right.2, more.seen_as);
       }
 
   pub judged : (stores : List (Held S)) (seen : List StoreSeen) (frame : Frame) (verdict : Verdict)

@@ -1,5 +1,6 @@
 -- The first of those that wait, found one after the other.
-use Rattle.std.specs.Prelude.{◌≡◌, ⊤, ℕ, ◌+◌, ◌<◌, ◌≤◌, Bool, true, false, List, [], ◌∷◌, ◌++◌, refl, Option, Some}
+use Rattle.std.specs.Prelude.{◌≡◌, ⊤, ℕ, ◌+◌, ◌<◌, ◌≤◌, Bool, true, false, List, []}
+use Rattle.std.specs.Prelude.{◌∷◌, ◌++◌, refl, Option, Some}
 use Rattle.std.specs.Prelude.{None, MatchOption, IfSome, slice_get, cond}
 use Rattle.std.specs.List.{AllByRecursion}
 use Rattle.std.proofs.Common.{sym, ap, subst, ◌∙◌, take, get_or, length}
@@ -17,7 +18,8 @@ Waits = Option (List ℕ)
 
 -- the first of the first n
 pub record IsFirstOf (waiting : List (Option (List ℕ))) (n : ℕ) (found : Option Waiting) : Type 0 where
-  pub some : IfSome found (λ f. (slice_get waiting f.place ≡ Some (Some f.uuid)) × AreBehind f.uuid (take n waiting))
+  pub some : IfSome found (λ f. (slice_get waiting f.place ≡ Some (Some f.uuid))
+      × AreBehind f.uuid (take n waiting))
   pub none : found ≡ None → AllByRecursion (λ waits. waits ≡ None) (take n waiting)
 
 -- what does not come before one does not come before one that comes earlier
@@ -41,14 +43,16 @@ Behind uuid waits = MatchOption waits ⊤ (λ other. is_before other uuid ≡ fa
 none_behind : (uuid : List ℕ) (waits : Option (List ℕ)) → waits ≡ None → Behind uuid waits
 none_behind uuid waits is = subst (Behind uuid) (sym is) tt
 
-earlier_behind : (u v : List ℕ) → is_before u v ≡ true → (waits : Option (List ℕ)) → Behind v waits → Behind u waits
+earlier_behind : (u v : List ℕ) → is_before u v ≡ true → (waits : Option (List ℕ)) → Behind v waits
+    → Behind u waits
 earlier_behind u v before None is = tt
 earlier_behind u v before (Some other) is = not_before other u v before is
 
 module _ (waiting : List (Option (List ℕ))) (n : ℕ) where
   -- with one more place
   one_more : (found : Option Waiting) (waits : Option (List ℕ)) → slice_get waiting n ≡ Some waits
-      → (front : List (Option (List ℕ))) → take (n + 1) waiting ≡ front ++ waits ∷ [] → take n waiting ≡ front
+      → (front : List (Option (List ℕ))) → take (n + 1) waiting ≡ front ++ waits ∷ []
+      → take n waiting ≡ front
       → IsFirstOf waiting n found
       → IsFirstOf waiting (n + 1) (first_of found n waits)
   one_more None None there front more was it = record {
@@ -107,8 +111,7 @@ pub ends : (waiting : List (Option (List ℕ))) (n : ℕ) (found : Option Waitin
 ends waiting n None past it = tt
 ends waiting n (Some f) past it = record {
   there = it.some.0;
-  least =
-      subst (AreBehind f.uuid) (take_all n waiting past) it.some.1;
+  least = subst (AreBehind f.uuid) (take_all n waiting past) it.some.1;
 }
 
 pub ends_none : (waiting : List (Option (List ℕ))) (n : ℕ) (found : Option Waiting) → length waiting ≤ n

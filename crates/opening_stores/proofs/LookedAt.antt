@@ -1,5 +1,6 @@
 -- Stores that are looked at one after the other, and what of the first ones was seen.
-use Rattle.std.specs.Prelude.{◌≡◌, ℕ, zero, suc, ◌+◌, ◌<◌, ◌≤◌, List, [], ◌∷◌, ◌++◌, length, refl, Some, Result, Ok}
+use Rattle.std.specs.Prelude.{◌≡◌, ℕ, zero, suc, ◌+◌, ◌<◌, ◌≤◌, List, [], ◌∷◌, ◌++◌}
+use Rattle.std.specs.Prelude.{length, refl, Some, Result, Ok}
 use Rattle.std.specs.Prelude.{slice_get, slice_set, IsTrue}
 use Rattle.std.specs.List.{AllZip, AllByRecursion}
 use Rattle.std.proofs.Common.{sym, ap, subst, ◌∙◌, arith, drop, take, get_or}
@@ -27,7 +28,8 @@ use Rattle.opening_stores.specs.Stores.{AreAllKeyed, AreOnlyRead, AreOpenWhereCl
 use Rattle.opening_stores.specs.Stores.{LooksAtOne, StaysStore}
 
 -- of lists that go on, place by place
-zip_append : {A B : Type 0} (R : A → B → Type 0) (xs us : List A) (ys vs : List B) → AllZip R xs ys → AllZip R us vs
+zip_append : {A B : Type 0} (R : A → B → Type 0) (xs us : List A) (ys vs : List B) → AllZip R xs ys
+    → AllZip R us vs
     → AllZip R (xs ++ us) (ys ++ vs)
 zip_append R [] us [] vs one two = two
 zip_append R [] us (y ∷ ys) vs one two = absurd one
@@ -68,7 +70,8 @@ zip_itself : {X : Type 0} (P : X → Type 0) (R : X → X → Type 0) → ((x : 
 zip_itself P R f [] each = tt
 zip_itself P R f (x ∷ xs) each = (f x each.0, zip_itself P R f xs each.1)
 
-zip_last : {A B : Type 0} (R : A → B → Type 0) (xs : List A) (ys : List B) (x : A) (y : B) → AllZip R xs ys → R x y
+zip_last : {A B : Type 0} (R : A → B → Type 0) (xs : List A) (ys : List B) (x : A) (y : B) → AllZip R xs ys
+    → R x y
     → AllZip R (xs ++ x ∷ []) (ys ++ y ∷ [])
 zip_last R xs ys x y zip here = zip_append R xs (x ∷ []) ys (y ∷ []) zip (here, tt)
 
@@ -102,8 +105,7 @@ module _ {S : Type 0} (g : Ghosts S) where
     now_is = refl;
     read = tt;
     rests = rests;
-    opens =
-        tt;
+    opens = tt;
     told = λ keyed clean. tt;
   }
 
@@ -194,7 +196,8 @@ module _ {S : Type 0} (g : Ghosts S) where
         (zip_itself Resting (StaysStore g) (λ h rests. stays_still g shuts settles h rests) (drop (n + 1) old) rest)))
 
   -- stores at rest that no one looks at stay as they are
-  pub all_still : Shuts g → Settles g → (stores : List (Held S)) → AreAtRest g stores → AreOnlyRead g stores stores
+  pub all_still : Shuts g → Settles g → (stores : List (Held S)) → AreAtRest g stores
+      → AreOnlyRead g stores stores
   all_still shuts settles stores rests = zip_itself Resting (StaysStore g)
       (λ h rest. stays_still g shuts settles h rest) stores (recursion_from_All Resting stores rests)
 

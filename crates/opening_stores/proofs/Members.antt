@@ -1,5 +1,6 @@
 -- Stores that are judged and brought: each member is its package, and nothing is lost.
-use Rattle.std.specs.Prelude.{◌≡◌, ◌≤◌, ℕ, suc, Bool, true, false, cond, List, [], ◌∷◌, ◌++◌, map, filter, length}
+use Rattle.std.specs.Prelude.{◌≡◌, ◌≤◌, ℕ, suc, Bool, true, false, cond, List, [], ◌∷◌, ◌++◌}
+use Rattle.std.specs.Prelude.{map, filter, length}
 use Rattle.std.specs.Prelude.{refl, Option, Some, None, MatchOption, IsPermutation, IsTrue, Ok}
 use Rattle.std.specs.List.{AllZip, AllByRecursion}
 use Rattle.std.proofs.Common.{sym, ap, subst, ◌∙◌, arith, inl, inr}
@@ -76,7 +77,8 @@ module _ {S : Type 0} (g : Ghosts S) where
     Viewed live h v = live v ≡ true → v.is_formed ≡ true → v.is_tied ≡ true → IsTrue (state g h).is_open
         → Reads v.frame v.reads_as (state g h).now
 
-    member_is : (live : StoreSight → Bool) (h : Held S) (k : Kept) (v : StoreSight) → Viewed live h v → live v ≡ true
+    member_is : (live : StoreSight → Bool) (h : Held S) (k : Kept) (v : StoreSight) → Viewed live h v
+        → live v ≡ true
         → IsKept views w k v → Sound v → IsMember g w (member_of h k) v.reads_as
     member_is live h k v view lives kept sound = record {
       uuid = ap (λ x. x.uuid) kept.head;
@@ -90,7 +92,8 @@ module _ {S : Type 0} (g : Ghosts S) where
 
     members_are : (live : StoreSight → Bool) → ((k : Option Kept) (v : StoreSight) → IsKeptOf views w k v
         → MatchOption k (live v ≡ false) (λ x. (live v ≡ true) × IsKept views w x v))
-        → (stores : List (Held S)) (kept : List (Option Kept)) (vs : List StoreSight) → AllZip (Viewed live) stores vs
+        → (stores : List (Held S)) (kept : List (Option Kept)) (vs : List StoreSight)
+        → AllZip (Viewed live) stores vs
         → AllZip (IsKeptOf views w) kept vs → AllByRecursion Sound (filter live vs)
         → AllZip (IsMember g w) (members_of stores kept) (map (λ v. v.reads_as) (filter live vs))
     members_are live lives [] kept [] view keep sound = tt
@@ -141,7 +144,8 @@ module _ {S : Type 0} (g : Ghosts S) where
   Right h v = IsTrue (state g h).is_open × IsViewAtEither (state g h).now v
 
   -- a right view of a package, at either version
-  pub reads_at_one : (db : Database) (v : StoreSight) → IsViewAtEither db v → v.is_formed ≡ true → v.is_tied ≡ true
+  pub reads_at_one : (db : Database) (v : StoreSight) → IsViewAtEither db v → v.is_formed ≡ true
+      → v.is_tied ≡ true
       → ReadsAtOne v.frame v.reads_as db
   reads_at_one db v (inl first) formed tied = inl (first.1.reads formed tied)
   reads_at_one db v (inr second) formed tied = inr (second.1.reads formed tied)
@@ -153,7 +157,8 @@ module _ {S : Type 0} (g : Ghosts S) where
   Cleanly h = HasCleanDisk (state g h)
 
   done_reads : (views : List StoreSight) (w : World) (kept : Option Kept) (old now : Held S) (v : StoreSight)
-      → IsDone (record { kept = kept; old = old; now = now }) → IsKeptOf views w kept v → Right old v → Cleanly now
+      → IsDone (record { kept = kept; old = old; now = now }) → IsKeptOf views w kept v → Right old v
+      → Cleanly now
       → Viewed views w (is_live_view views) now v
   done_reads views w None old now v done keep right clean = λ lives. absurd (true≢false (sym lives ∙ keep))
   done_reads views w (Some k) old now v done keep right clean =
@@ -184,7 +189,8 @@ module _ {S : Type 0} (g : Ghosts S) where
       let stands : StoresStandFor it.views w = it.is.stands in
       let sound : AllByRecursion (λ v. (v.is_formed ≡ true) × (v.is_tied ≡ true) × (v.frame ≡ w.frame))
       (live_views it.views) =
-      all_three (λ v. v.is_formed ≡ true) (λ v. v.is_tied ≡ true) (λ v. v.frame ≡ w.frame) (live_views it.views)
+      all_three (λ v. v.is_formed ≡ true) (λ v. v.is_tied ≡ true) (λ v. v.frame ≡ w.frame)
+      (live_views it.views)
       stands.in_order.formed stands.in_order.tied (frames_so it.views w stands) in
       let viewed : AllZip (Viewed it.views w (is_live_view it.views)) now it.views =
       subst (λ l. AllZip (Viewed it.views w (is_live_view it.views)) l it.views) (sym turned.new_is)
@@ -232,7 +238,8 @@ module _ {S : Type 0} (g : Ghosts S) where
       (IsPermutation-sym (rest ++ h ∷ []) (h ∷ rest) (IsPermutation-to_front rest h)))
 
   pub nothing_lost : (stores : List (Held S)) (kept : List (Option Kept)) (members : List (Member S))
-      (strays : List (Held S)) → length kept ≡ length stores → members ≡ arranged member_key (members_of stores kept)
+      (strays : List (Held S)) → length kept ≡ length stores
+      → members ≡ arranged member_key (members_of stores kept)
       → strays ≡ strays_of stores kept
       → IsPermutation stores (stores_in members ++ strays)
   nothing_lost stores kept members strays long are strays_are =
@@ -250,7 +257,8 @@ module _ {S : Type 0} (g : Ghosts S) where
 
   -- ---- what is true of each store is true of each member and each stray
 
-  members_have : (P : Held S → Type 0) (stores : List (Held S)) (kept : List (Option Kept)) → AllByRecursion P stores
+  members_have : (P : Held S → Type 0) (stores : List (Held S)) (kept : List (Option Kept))
+      → AllByRecursion P stores
       → AllByRecursion (λ (m : Member S). P m.conn) (members_of stores kept)
   members_have P [] kept each = tt
   members_have P (h ∷ hs) [] each = tt
@@ -291,7 +299,8 @@ module _ {S : Type 0} (g : Ghosts S) where
   done_open None old now done opens clean = subst IsOpenStore (sym done) (opens (subst Cleanly done clean))
   done_open (Some k) old now done opens clean = ((done.turns (opens (done.clean clean))).done clean).1.is_open
 
-  done_all_open : (ps : List (Place S)) → AllByRecursion IsDone ps → AllByRecursion OpensCleanly (map (λ p. p.old) ps)
+  done_all_open : (ps : List (Place S)) → AllByRecursion IsDone ps
+      → AllByRecursion OpensCleanly (map (λ p. p.old) ps)
       → AllByRecursion Cleanly (map (λ p. p.now) ps) → AllByRecursion IsOpenStore (map (λ p. p.now) ps)
   done_all_open [] done opens clean = tt
   done_all_open (p ∷ ps) done opens clean = (
@@ -301,7 +310,8 @@ module _ {S : Type 0} (g : Ghosts S) where
   )
 
   pub members_open : (read now : List (Held S)) (kept : List (Option Kept)) (members : List (Member S))
-      → members ≡ arranged member_key (members_of now kept) → AreAllTurned g kept read now → AreOpenWhereClean g read
+      → members ≡ arranged member_key (members_of now kept) → AreAllTurned g kept read now
+      → AreOpenWhereClean g read
       → AreClean g now → AllOpen g members
   members_open read now kept members are turned opens clean =
       let Q : Member S → Type 0 = λ m. IsOpenStore m.conn in
@@ -333,7 +343,8 @@ module _ {S : Type 0} (g : Ghosts S) where
   arranged_long key (x ∷ xs) = put_long key x (arranged key xs) ∙ ap suc (arranged_long key xs)
 
   -- no more members than stores
-  few_members : (stores : List (Held S)) (kept : List (Option Kept)) → length (members_of stores kept) ≤ length stores
+  few_members : (stores : List (Held S)) (kept : List (Option Kept))
+      → length (members_of stores kept) ≤ length stores
   few_members [] kept = omega arith
   few_members (h ∷ hs) [] = omega arith
   few_members (h ∷ hs) (Some k ∷ ks) = omega (arith, few_members hs ks)

@@ -1,5 +1,6 @@
 -- Stores shared out one after the other, the last one first.
-use Rattle.std.specs.Prelude.{◌≡◌, ℕ, suc, ◌+◌, ◌<◌, List, [], ◌∷◌, ◌++◌, length, refl, Option, Some, None}
+use Rattle.std.specs.Prelude.{◌≡◌, ℕ, suc, ◌+◌, ◌<◌, List, [], ◌∷◌, ◌++◌, length, refl}
+use Rattle.std.specs.Prelude.{Option, Some, None}
 use Rattle.std.proofs.Common.{sym, ap, subst, ◌∙◌, arith, drop}
 use Rattle.std.proofs.Math.Seq.{drop-length, drop-append_seam}
 use Rattle.std.proofs.lemmas.List.{append-nil, length-append}
@@ -15,7 +16,8 @@ use Rattle.opening_stores.proofs.LookedAt.{joined, long_snoc}
 module _ {S : Type 0} where
   -- one store more, with what is kept of it
   one_member : (h : Held S) (k : Option Kept) (hs : List (Held S)) (ks : List (Option Kept))
-      → with_member h k (arranged member_key (members_of hs ks)) ≡ arranged member_key (members_of (h ∷ hs) (k ∷ ks))
+      → with_member h k (arranged member_key (members_of hs ks))
+      ≡ arranged member_key (members_of (h ∷ hs) (k ∷ ks))
   one_member h (Some k) hs ks = refl
   one_member h None hs ks = refl
 
@@ -79,7 +81,8 @@ module _ {S : Type 0} where
     strays_behind k is hs are = ap (λ ks. strays_of (drop (length fewer) all) ks) is
         ∙ ap (λ zs. strays_of zs (k ∷ drop (suc (length fewer)) kept)) are
 
-    pub goes_on : (k : Option Kept) → drop (length fewer) kept ≡ k ∷ drop (suc (length fewer)) kept → (new : Shares S)
+    pub goes_on : (k : Option Kept) → drop (length fewer) kept ≡ k ∷ drop (suc (length fewer)) kept
+        → (new : Shares S)
         → new.members.items ≡ with_member h k shares.members.items
         → new.strays.items ≡ with_stray h k shares.strays.items
         → ((n : ℕ) → HasRoomOf shares (n + 1) → HasRoomOf new n) → IsSharing all kept fewer new
@@ -97,7 +100,8 @@ module _ {S : Type 0} where
   pub ends : (all : List (Held S)) (kept : List (Option Kept)) (rest : List (Held S)) (shares : Shares S)
       → IsSharing all kept rest shares → rest ≡ [] → AreShared all kept shares
   ends all kept rest shares it none = record {
-    members = it.members ∙ ap (λ r. arranged member_key (members_of (drop (length r) all) (drop (length r) kept))) none;
+    members = it.members ∙ ap (λ r. arranged member_key (members_of (drop (length r) all) (drop (length r) kept)))
+        none;
     strays = it.strays ∙ ap (λ r. strays_of (drop (length r) all) (drop (length r) kept)) none;
   }
 

@@ -1,5 +1,6 @@
 -- Of stores that were looked at, and of which some may have been brought, only those of packages may have changed.
-use Rattle.std.specs.Prelude.{◌≡◌, ℕ, true, false, Bool, cond, IsTrue, List, [], ◌∷◌, filter, map, refl, Option, Some}
+use Rattle.std.specs.Prelude.{◌≡◌, ℕ, true, false, Bool, cond, IsTrue, List, [], ◌∷◌, filter, map, refl}
+use Rattle.std.specs.Prelude.{Option, Some}
 use Rattle.std.specs.Prelude.{None, MatchOption}
 use Rattle.std.specs.List.{AllZip, AllByRecursion}
 use Rattle.std.proofs.Common.{sym, ap, subst, ◌∙◌, inl, inr}
@@ -24,7 +25,8 @@ use Rattle.opening_stores.specs.Stores.{AreOnlyRead, StaysStore}
 use Rattle.opening_stores.proofs.Members.{reads_at_one}
 
 -- what is so of those that pass is so of each where it passes
-all_passing : {X : Type 0} (P : X → Type 0) (passes : X → Bool) (xs : List X) → AllByRecursion P (filter passes xs)
+all_passing : {X : Type 0} (P : X → Type 0) (passes : X → Bool) (xs : List X)
+    → AllByRecursion P (filter passes xs)
     → AllByRecursion (λ x. passes x ≡ true → P x) xs
 all_passing P passes [] all = tt
 all_passing P passes (x ∷ xs) all = one (all_passing P passes xs) (passes x) refl
@@ -91,7 +93,8 @@ module _ {S : Type 0} (g : Ghosts S) where
 
   -- what was judged, and then brought as far as memory and the stores went
   pub some_still : (stores read now : List (Held S)) (frame : Frame) (verdict : Verdict) (known : List (List ℕ))
-      → AreOnlyRead g stores read → AreJudged g read frame verdict known → SomeAreTurned g verdict.kept.items read now
+      → AreOnlyRead g stores read → AreJudged g read frame verdict known
+      → SomeAreTurned g verdict.kept.items read now
       → AreStillOrPackages g stores now
   some_still stores read now frame verdict known stay it turned =
       let sound : AllByRecursion IsSoundView (live_views it.views) =

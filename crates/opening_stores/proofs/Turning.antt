@@ -1,5 +1,6 @@
 -- Stores of live packages, brought one after the other in the order of their UUIDs.
-use Rattle.std.specs.Prelude.{◌≡◌, ◌⊎◌, ℕ, zero, suc, ◌+◌, ◌≤◌, Bool, true, false, List, [], ◌∷◌, map, length}
+use Rattle.std.specs.Prelude.{◌≡◌, ◌⊎◌, ℕ, zero, suc, ◌+◌, ◌≤◌, Bool, true, false, List, []}
+use Rattle.std.specs.Prelude.{◌∷◌, map, length}
 use Rattle.std.specs.Prelude.{count_by, refl, is_some, Option, Some, None, MatchOption, Result, Ok, Err, IfErr}
 use Rattle.std.specs.Prelude.{slice_get, slice_set}
 use Rattle.std.specs.List.{AllByRecursion}
@@ -24,7 +25,8 @@ any_err (Err e) is = is
 
 -- ---- fields of records in a list
 
-get_of_map : {X Y : Type 0} (f : X → Y) (xs : List X) (n : ℕ) (y : Y) → slice_get (map f xs) n ≡ Some y → (x : X)
+get_of_map : {X Y : Type 0} (f : X → Y) (xs : List X) (n : ℕ) (y : Y) → slice_get (map f xs) n ≡ Some y
+    → (x : X)
     × (slice_get xs n ≡ Some x) × (f x ≡ y)
 get_of_map f [] n y is = absurd (let e = is in cc)
 get_of_map f (x ∷ xs) zero y is = (x, refl, some_once (Some (f x)) (f x) y refl is)
@@ -43,17 +45,20 @@ map_set f (y ∷ ys) zero x = refl
 map_set f (y ∷ ys) (suc n) x = ap (λ zs. f y ∷ zs) (map_set f ys n x)
 
 -- a field that stays
-map_set_same : {X Y : Type 0} (f : X → Y) (xs : List X) (n : ℕ) (x new : X) → slice_get xs n ≡ Some x → f new ≡ f x
+map_set_same : {X Y : Type 0} (f : X → Y) (xs : List X) (n : ℕ) (x new : X) → slice_get xs n ≡ Some x
+    → f new ≡ f x
     → map f (slice_set xs n new) ≡ map f xs
 map_set_same f [] n x new is same = refl
-map_set_same f (y ∷ ys) zero x new is same = ap (λ z. z ∷ map f ys) (same ∙ sym (ap f (some_once (Some y) y x refl is)))
+map_set_same f (y ∷ ys) zero x new is same = ap (λ z. z ∷ map f ys)
+    (same ∙ sym (ap f (some_once (Some y) y x refl is)))
 map_set_same f (y ∷ ys) (suc n) x new is same = ap (λ zs. f y ∷ zs) (map_set_same f ys n x new is same)
 
 map_twice : {X Y Z : Type 0} (f : X → Y) (g : Y → Z) (xs : List X) → map g (map f xs) ≡ map (λ x. g (f x)) xs
 map_twice f g [] = refl
 map_twice f g (x ∷ xs) = ap (λ zs. g (f x) ∷ zs) (map_twice f g xs)
 
-at_place : {X : Type 0} (P : X → Type 0) (xs : List X) (n : ℕ) (x : X) → slice_get xs n ≡ Some x → AllByRecursion P xs
+at_place : {X : Type 0} (P : X → Type 0) (xs : List X) (n : ℕ) (x : X) → slice_get xs n ≡ Some x
+    → AllByRecursion P xs
     → P x
 at_place P [] n x is each = absurd (let e = is in cc)
 at_place P (y ∷ ys) zero x is each = subst P (some_once (Some y) y x refl is) each.0
@@ -68,7 +73,8 @@ All-put_at P (y ∷ ys) (suc n) x here each = (each.0, All-put_at P ys n x here 
 -- ---- how many wait
 
 -- one less
-fewer_wait : (waiting : List (Option (List ℕ))) (n : ℕ) (uuid : List ℕ) → slice_get waiting n ≡ Some (Some uuid)
+fewer_wait : (waiting : List (Option (List ℕ))) (n : ℕ) (uuid : List ℕ)
+    → slice_get waiting n ≡ Some (Some uuid)
     → count_by is_some (slice_set waiting n None) + 1 ≡ count_by is_some waiting
 fewer_wait [] n uuid is = absurd (let e = is in cc)
 fewer_wait (w ∷ ws) zero uuid is =
@@ -129,7 +135,8 @@ module _ {S : Type 0} (g : Ghosts S) where
   may_role (Some k) (Some u) old now role = inl role
 
   -- one that waits is as it was, and is that of a live package
-  waits_still : (kept : Option Kept) (waits : Option (List ℕ)) (uuid : List ℕ) (old now : Held S) → waits ≡ Some uuid
+  waits_still : (kept : Option Kept) (waits : Option (List ℕ)) (uuid : List ℕ) (old now : Held S)
+      → waits ≡ Some uuid
       → Role kept waits old now → now ≡ old
   waits_still None waits uuid old now is role = role.1
   waits_still (Some k) None uuid old now is role = absurd (let e = is in cc)
@@ -170,7 +177,8 @@ module _ {S : Type 0} (g : Ghosts S) where
   first_role None h = (refl, refl)
   first_role (Some k) h = refl
 
-  all_wait : (kept : List (Option Kept)) (stores : List (Held S)) → length kept ≡ length stores → AllWait kept stores
+  all_wait : (kept : List (Option Kept)) (stores : List (Held S)) → length kept ≡ length stores
+      → AllWait kept stores
   all_wait [] [] long = record { rows = []; kept_is = refl; old_is = refl; now_is = refl; waiting_is = refl; each = tt }
   all_wait [] (h ∷ hs) long = absurd (omega (arith, long))
   all_wait (k ∷ ks) [] long = absurd (omega (arith, long))
@@ -195,8 +203,7 @@ module _ {S : Type 0} (g : Ghosts S) where
         kept_is = it.kept_is;
         old_is = it.old_is;
         now_is = it.now_is;
-        waiting_is =
-            are ∙ it.waiting_is;
+        waiting_is = are ∙ it.waiting_is;
         each = it.each;
         rests = rests;
       }
@@ -266,7 +273,8 @@ module _ {S : Type 0} (g : Ghosts S) where
           let row_new : Row S = record { place = place_new; waits = None } in
           record {
             rows = slice_set it.rows n row_new;
-            kept_is = it.kept_is ∙ sym (map_set_same (λ (x : Row S). x.place.kept) it.rows n row row_new found.1 refl);
+            kept_is = it.kept_is ∙ sym (map_set_same (λ (x : Row S). x.place.kept) it.rows n row row_new found.1
+                refl);
             old_is = it.old_is ∙ sym (map_set_same (λ (x : Row S). x.place.old) it.rows n row row_new found.1 refl);
             now_is = one.others ∙ ap (λ l. slice_set l n one.last) it.now_is
                 ∙ sym (map_set (λ (x : Row S). x.place.now) it.rows n row_new);

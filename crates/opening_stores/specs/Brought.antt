@@ -1,5 +1,6 @@
 -- What an opening makes of the stores of live packages: one of the first version is brought to the second. Profile.
-use Rattle.std.specs.Prelude.{◌≡◌, ◌⊎◌, ℕ, List, map, Option, Some, MatchOption, Result, Ok, slice_get, slice_set}
+use Rattle.std.specs.Prelude.{◌≡◌, ◌⊎◌, ℕ, List, map, Option, Some, MatchOption, Result, Ok, slice_get}
+use Rattle.std.specs.Prelude.{slice_set}
 use Rattle.std.specs.Prelude.{IsTrue}
 use Rattle.std.specs.List.{AllByRecursion, AllZip}
 use Rattle.sqlite.specs.Effect.{Database, IsDatabase}
@@ -21,12 +22,13 @@ use Rattle.opening_verdict.specs.declared.verdict.Kept.{Kept}
 -- other.
 abbrev pub LeavesAtEither : Database → State → Type 0
 LeavesAtEither was s =
-    (f : Frame) (p : Package) → ReadsAtOne f p was → (trees : Trees) → s.may_leave trees → ReadsAtEither f p trees
+    (f : Frame) (p : Package) → ReadsAtOne f p was → (trees : Trees) → s.may_leave trees
+    → ReadsAtEither f p trees
 
--- A store that an opening looked at, and may have brought to the second version: it is at rest, and where it is open it
--- says what it said, or the same package at the second version. A crash leaves that package too, at one version or at
--- the
--- other, if the trees of the database before listed its schema.
+-- A store that an opening looked at, and may have brought to the second version: it is at rest, and
+-- where it is open it says what it said, or the same package at the second version. A crash leaves
+-- that package too, at one version or at the other, if the trees of the database before listed its
+-- schema.
 pub record MayBeBrought (old new : State) : Type 0 where
   pub rests : Rests new
   pub clean : HasCleanDisk new → HasCleanDisk old
@@ -40,9 +42,8 @@ module _ {S : Type 0} (g : Ghosts S) where
   abbrev pub MayAllBeBrought : List (Held S) → List (Held S) → Type 0
   MayAllBeBrought = AllZip (λ a b. MayBeBrought (state g a) (state g b))
 
-  -- What one transaction made of a store: an open one that reads as a package at either version reads as the same at
-  -- the
-  -- second.
+  -- What one transaction made of a store: an open one that reads as a package at either version
+  -- reads as the same at the second.
   pub record IsTurned {E : Type 0} (old new : Held S) (r : Result (Unit {0}) E) : Type 0 where
     pub rests : Rests (state g new)
     pub clean : HasCleanDisk (state g new) → HasCleanDisk (state g old)

@@ -51,4 +51,5 @@ module _ {S : Type 0} (g : Ghosts S) where
 
   -- The fault is the first of the nine that holds of right views of the stores; or memory or a store gave out.
   abbrev pub IsFaultAt : List (Held S) → RecoverFault → Type 0
-  IsFaultAt stores fault = IsWant fault ⊎ ((views : List StoreSight) × AreViewsOf stores views × IsFaultOf views fault)
+  IsFaultAt stores fault = IsWant fault ⊎ ((views : List StoreSight) × AreViewsOf stores views
+      × IsFaultOf views fault)

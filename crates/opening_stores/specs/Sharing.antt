@@ -1,5 +1,6 @@
 -- Which stores become members of a world, and which are strays. Profile.
-use Rattle.std.specs.Prelude.{◌≡◌, ◌+◌, ◌≤◌, ℕ, List, [], ◌∷◌, ◌++◌, Option, Some, None, vec_len, vec_capacity}
+use Rattle.std.specs.Prelude.{◌≡◌, ◌+◌, ◌≤◌, ℕ, List, [], ◌∷◌, ◌++◌, Option, Some, None}
+use Rattle.std.specs.Prelude.{vec_len, vec_capacity}
 use Rattle.sqlite.specs.Held.{Held}
 use Rattle.sheet_types.specs.Ordered.{put, arranged}
 use Rattle.opening_verdict.specs.declared.verdict.Kept.{Kept}
@@ -16,8 +17,7 @@ member_of h k = record {
   uuid = k.head.uuid;
   parent = k.head.parent;
   depth = k.head.depth;
-  loan =
-      k.head.loan;
+  loan = k.head.loan;
   sums = k.sums;
   ticket = k.ticket;
 }

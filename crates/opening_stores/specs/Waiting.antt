@@ -1,5 +1,6 @@
 -- Which packages wait for their stores to be brought, and which of them comes first. Profile.
-use Rattle.std.specs.Prelude.{◌≡◌, ⊤, ℕ, false, if◌then◌else◌, List, Option, Some, None, MatchOption, option_map}
+use Rattle.std.specs.Prelude.{◌≡◌, ⊤, ℕ, false, if◌then◌else◌, List, Option, Some, None, MatchOption}
+use Rattle.std.specs.Prelude.{option_map}
 use Rattle.std.specs.Prelude.{slice_get}
 use Rattle.std.specs.List.{AllByRecursion}
 use Rattle.sheet_types.specs.Ordered.{is_before}

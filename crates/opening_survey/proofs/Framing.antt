@@ -44,7 +44,8 @@ is_framed t frame dated answer all there has tests told = record
 
 -- ---- all tables
 
-pub no_form : (db : Database) (formed : Bool) → formed ≡ false → (IsTrue formed ↔ AreFormed db) → IsFormed db → ⊥
+pub no_form : (db : Database) (formed : Bool) → formed ≡ false → (IsTrue formed ↔ AreFormed db)
+    → IsFormed db → ⊥
 no_form db formed lacks tests is = false≢true (sym lacks ∙ tests.1 is.1.formed)
 
 pub framed_not : (db : Database) → (AreFormed db → ReadsFramed (tables_of db) None) → IsFormed db → ⊥
@@ -55,7 +56,8 @@ pub no_receipts : (db : Database) → (AreFormed db → AreReceiptsInRange (tabl
 no_receipts db none is = none is.1.formed is.1.receipts
 
 pub is_read : (db : Database) (x : Formed) (formed : Bool) → formed ≡ true → (IsTrue formed ↔ AreFormed db)
-    → (AreFormed db → IsFramed x.frame (tables_of db)) → (AreFormed db → AreSaid (tables_of db) x.receipts.items)
+    → (AreFormed db → IsFramed x.frame (tables_of db)) → (AreFormed db
+    → AreSaid (tables_of db) x.receipts.items)
     → IsRead x db
 is_read db x formed all tests framed said = let is = tests.0 all in record
     { formed = is; framed = framed is; receipts = said is }

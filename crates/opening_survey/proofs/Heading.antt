@@ -22,8 +22,7 @@ row_is row head is = λ n. record {
   id = is.id n;
   version = is.version n;
   «package» = is.package n;
-  parent =
-      is.parent n;
+  parent = is.parent n;
   depth = is.depth n;
   loan = is.loan n;
   created = row.created;

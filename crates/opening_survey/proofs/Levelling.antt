@@ -1,5 +1,6 @@
 -- A head in its ranges stands at depth 0, by no loan, exactly where it has no parent.
-use Rattle.std.proofs.Common.{◌≡◌, ◌∙◌, ℕ, pos, List, [], length, Bool, true, false, Option, Some, None, refl, sym}
+use Rattle.std.proofs.Common.{◌≡◌, ◌∙◌, ℕ, pos, List, [], length, Bool, true, false, Option, Some, None}
+use Rattle.std.proofs.Common.{refl, sym}
 use Rattle.std.proofs.Common.{ap, arith}
 use Rattle.std.specs.Prelude.{MatchOption, ◌==◌, ◌≤◌, unsigned_abs}
 use Rattle.std.specs.Cmp.{unsigned_Decides}

@@ -40,7 +40,8 @@ distinct_map : {X Y : Type 0} (f : X → Y) (key : Y → List ℕ) (xs : List X)
     → IsDistinct bytes_eq (map (λ x. key (f x)) xs) → IsDistinct bytes_eq (map key (map f xs))
 distinct_map f key xs d = subst (IsDistinct bytes_eq) (sym (map-map key f xs)) d
 
-module _ (items : List Item) (numbered : List Numbered) (are : items ≡ arranged item_key (map (λ n. n.item) numbered))
+module _ (items : List Item) (numbered : List Numbered) (are :
+    items ≡ arranged item_key (map (λ n. n.item) numbered))
     (numbers : IsNumbering numbered) where
   pub identities_apart : IsDistinct bytes_eq (identities items)
   identities_apart =
@@ -70,8 +71,7 @@ module _ (f : Frame) (db : Database) (head : Head) (receipts : List Receipt) (wh
     parent = head.parent;
     depth = head.depth;
     loan = head.loan;
-    items =
-        held.items;
+    items = held.items;
     links = held.links;
     receipts = receipts;
   }

@@ -28,8 +28,7 @@ use Rattle.opening_survey.proofs.Levelling.{Level, levelled}
 abbrev view_without : Said → Frame → Bool → StoreSight
 view_without s f is_formed = record {
   head = option_map head_said s.head;
-  claims =
-      map claim_said s.claims.items;
+  claims = map claim_said s.claims.items;
   is_formed = is_formed;
   is_tied = false;
   frame = f;
@@ -59,8 +58,7 @@ unformed db s f x said lacks seen = (
     claims = said.claims;
     formed = lacks;
     frame = λ h. absurd (false≢true h);
-    tied =
-        λ h. absurd (false≢true h);
+    tied = λ h. absurd (false≢true h);
     reads = λ h. absurd (false≢true h);
   },
   seen_without s f false x seen,
@@ -89,7 +87,8 @@ whole db s h y some said read = record {
 }
 
 -- and not tied
-pub untied : (db : Database) (s : Said) (h : StoreHead) (y : Formed) (x : StoreSeen) → s.head ≡ Some h → IsSaid db s
+pub untied : (db : Database) (s : Said) (h : StoreHead) (y : Formed) (x : StoreSeen) → s.head ≡ Some h
+    → IsSaid db s
     → IsRead y db → TellsTied (tables_of db) false → IsSeenWithout s y.frame true x → IsSeenRight db x
 untied db s h y x some said read told seen = (
   view_without s y.frame true,
@@ -119,15 +118,15 @@ abbrev view_with : Said → Frame → Package → StoreSight
 view_with s f p = record {
   head = option_map head_said s.head;
   claims = map claim_said s.claims.items;
-  is_formed =
-      true;
+  is_formed = true;
   is_tied = true;
   frame = f;
   reads_as = p;
 }
 
 reading : (db : Database) (s : Said) (h : StoreHead) (y : Formed) (p : Package) → s.head ≡ Some h → IsSaid db s
-    → IsRead y db → IsPackageOf y.frame db (head_said h) y.receipts.items p → SeesItsPackage (view_with s y.frame p)
+    → IsRead y db → IsPackageOf y.frame db (head_said h) y.receipts.items p
+    → SeesItsPackage (view_with s y.frame p)
 reading db s h y p some said read law formed tied =
     let headed = known db s h some said in
     record {
@@ -153,8 +152,7 @@ packaged law db s h y x some said read told seen =
         claims = said.claims;
         formed = (y.frame, w);
         frame = λ _. w;
-        tied =
-            λ _. told.tied;
+        tied = λ _. told.tied;
         reads = λ _ _. q.1.reads;
       },
       record {

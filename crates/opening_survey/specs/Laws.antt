@@ -25,6 +25,7 @@ pub record IsPackageOf (f : Frame) (db : Database) (head : Head) (receipts : Lis
 
 -- A store that is whole, tied and unique reads as a package.
 abbrev pub ReadsAsAPackage : Type 0
-ReadsAsAPackage = (f : Frame) (db : Database) (head : Head) (receipts : List Receipt) → IsWhole f db → IsHead db head
+ReadsAsAPackage = (f : Frame) (db : Database) (head : Head) (receipts : List Receipt) → IsWhole f db
+    → IsHead db head
     → AreTied (tables_of db) → AreUnique (tables_of db) → AreSaid (tables_of db) receipts
     → (p : Package) × IsPackageOf f db head receipts p

@@ -5,7 +5,7 @@ ghost use Rattle.identity_register.specs.Calls.{Sees};
 ghost use Rattle.opening_faults.specs.Sights.{head_said};
 ghost use Rattle.opening_survey.specs.Looks.{TellsHeld};
 
-use identity_register::told::told;
+use identity_register::told::tell_all;
 use opening_faults::sights::StoreHead;
 use package_tables::fault::Fault;
 use sheet_balance::sights::Sight as PackageSight;
@@ -30,7 +30,7 @@ pub(crate) fn held_of<S: Alter>(
     ensures { Looks (Sees (TellsHeld (head_said head) receipts.items)) (state S.Store conn.old)
         (state S.Store conn.new) result }
 {
-    let (items, links) = told(conn, alloc)?;
+    let (items, links) = tell_all(conn, alloc)?;
     Ok(PackageSight {
         uuid: head.uuid,
         parent: head.parent,

@@ -104,8 +104,7 @@ fn survey_formed<S: Alter>(
 }
 
 /// What the opening of a world sees of a store: whose it is, what its receipts claim, whether it is
-/// a package, and which. Of a store that is a package the contents of all items are in memory at
-/// once, until each is told by its digest.
+/// a package, and which. One content is in memory at a time, until it is told by its digest.
 ///
 /// # Errors
 ///

@@ -21,8 +21,7 @@ of_store f head t = record (new_tables f head) {
   tiles = t.tiles;
   media = t.media;
   rows = t.rows;
-  tiles_media =
-      t.tiles_media;
+  tiles_media = t.tiles_media;
   rows_media = t.rows_media;
   identities = t.identities;
   receipts = t.receipts;
@@ -49,8 +48,7 @@ whole_copy f head db x all order =
       tiles = tiles n;
       media = media n;
       rows = rows n;
-      tiles_media =
-          tiles_media n;
+      tiles_media = tiles_media n;
       rows_media = rows_media n;
       identities = identities n;
       receipts = receipts n;

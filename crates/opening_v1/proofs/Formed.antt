@@ -30,7 +30,8 @@ good_frame db frame formed good has form not_good tests read =
 
 pub not_dated : (db : Database) (dated : Bool) → dated ≡ false
     → (IsFormed contents_shape db → (IsTrue dated ↔ AreDated (tables_of db))) → ReadsFirstFormed db None
-not_dated db dated lacks tests = λ whole. false≢true (sym lacks ∙ (tests whole.1.formed.0.contents).1 whole.1.dated)
+not_dated db dated lacks tests = λ whole. false≢true (sym lacks
+    ∙ (tests whole.1.formed.0.contents).1 whole.1.dated)
 
 pub is_read : (db : Database) (frame : Frame) (formed dated : Bool) → formed ≡ true → dated ≡ true
     → (IsTrue formed ↔ HasFirstForm db) → (AreFormedAt (pos 1) db → ReadsFirstFrame (tables_of db) (Some frame))

@@ -1,5 +1,6 @@
 -- Rows in their ranges stand under no number below zero.
-use Rattle.std.proofs.Common.{◌≡◌, ◌∙◌, ℕ, ◌+◌, ℤ, pos, List, [], ◌∷◌, map, Bool, true, false, refl, sym, subst, arith}
+use Rattle.std.proofs.Common.{◌≡◌, ◌∙◌, ℕ, ◌+◌, ℤ, pos, List, [], ◌∷◌, map, Bool, true}
+use Rattle.std.proofs.Common.{false, refl, sym, subst, arith}
 use Rattle.std.specs.Prelude.{int_le, ◌&&◌, ◌||◌, ◌==◌, not, cond, filter, IsPermutation}
 use Rattle.std.specs.List.{AllByRecursion, enumerate_from, list_all, list_any}
 use Rattle.std.specs.Ordering.{int_eq}
@@ -45,7 +46,8 @@ all_moved : {X : Type 0} (P : X → Type 0) (xs ys : List X) → IsPermutation x
 all_moved P xs ys moves all = All-weaker (λ y. In y ys) P (λ y i. All-In P y xs all
     (moved y ys xs (IsPermutation-sym xs ys moves) i)) ys (In-all ys)
 
-each_moved : {X : Type 0} (P : X → Type 0) (p : X → Bool) → ((x : X) → P x → p x ≡ true) → (xs ys : List X)
+each_moved : {X : Type 0} (P : X → Type 0) (p : X → Bool) → ((x : X) → P x → p x ≡ true)
+    → (xs ys : List X)
     → IsPermutation xs ys → AllByRecursion P xs → list_all p ys ≡ true
 each_moved P p says xs ys moves all = each p ys (all_moved (λ x. p x ≡ true) xs ys moves
     (All-weaker P (λ x. p x ≡ true) says xs all))
@@ -121,7 +123,8 @@ things : (receipts : List ReceiptRow) (rows : List MovedRow) → AreReceiptsInRa
 things receipts rows it = All-both (λ m. In m rows) (λ m. list_any (λ r. int_eq r.seq m.seq) receipts ≡ true)
     (λ m. (is_number m.seq && is_number m.position) ≡ true) thing rows (In-all rows) it.owners
   where
-    seq : (m : MovedRow) (r : ReceiptRow) → IsReceiptInRange r → int_eq r.seq m.seq ≡ true → is_number m.seq ≡ true
+    seq : (m : MovedRow) (r : ReceiptRow) → IsReceiptInRange r → int_eq r.seq m.seq ≡ true
+        → is_number m.seq ≡ true
     seq m r h e = subst (λ z. is_number z ≡ true) (int_eq_at r.seq m.seq e) (receipt r h)
 
     position : (m : MovedRow) → In m rows → (r : ReceiptRow) → HavePlaces (moved_under r.seq rows)
@@ -144,7 +147,8 @@ things receipts rows it = All-both (λ m. In m rows) (λ m. list_any (λ r. int_
 -- ---- all rows
 
 pub numbered : (f : Frame) (t : Tables) (x : PackageRows) → AreRowsOf t x
-    → AreItemsInRange f (record t { rows_tiles = [] }) → AreReceiptsInRange t.receipts t.moved → have_numbers x ≡ true
+    → AreItemsInRange f (record t { rows_tiles = [] }) → AreReceiptsInRange t.receipts t.moved
+    → have_numbers x ≡ true
 numbered f t x are it entered =
     let tiles = each_moved (λ r. is_tile_in_range f r ≡ true) (λ r. is_number r.id) (tile f) t.tiles x.tiles.items
     are.tiles it.tiles in
@@ -154,9 +158,11 @@ numbered f t x are it entered =
     are.rows it.rows in
     let identities = each_moved IsIdentityInRange (λ r. is_number r.kind && is_number r.local_id) identity
     t.identities x.identities.items are.identities it.identities in
-    let tiles_media = each_moved (λ r. is_pair_in_range r ≡ true) (λ r. is_number r.base_id && is_number r.related_id)
+    let tiles_media = each_moved (λ r. is_pair_in_range r ≡ true)
+    (λ r. is_number r.base_id && is_number r.related_id)
     pair t.tiles_media x.tiles_media.items are.tiles_media it.tiles_media in
-    let rows_media = each_moved (λ r. is_pair_in_range r ≡ true) (λ r. is_number r.base_id && is_number r.related_id)
+    let rows_media = each_moved (λ r. is_pair_in_range r ≡ true)
+    (λ r. is_number r.base_id && is_number r.related_id)
     pair t.rows_media x.rows_media.items are.rows_media it.rows_media in
     let receipts = each_moved IsReceiptInRange (λ r. is_number r.seq) receipt t.receipts x.receipts.items are.receipts
     entered.rows in

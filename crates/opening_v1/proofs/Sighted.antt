@@ -34,8 +34,7 @@ abbrev view_without : Said → Frame → StoreSight
 view_without s f = record {
   head = option_map head_said s.head;
   claims = map claim_said s.claims.items;
-  is_formed =
-      false;
+  is_formed = false;
   is_tied = false;
   frame = f;
   reads_as = no_package;
@@ -53,7 +52,8 @@ seen_without s f x seen = record {
 }
 
 -- a store that is not formed
-pub unformed : (db : Database) (s : Said) (f : Frame) (x : StoreSeen) → IsFirstSaid db s → (IsFirstFormed db → ⊥)
+pub unformed : (db : Database) (s : Said) (f : Frame) (x : StoreSeen) → IsFirstSaid db s
+    → (IsFirstFormed db → ⊥)
     → IsSeenWithout s f false x → IsFirstSeenRight db x
 unformed db s f x said lacks seen = (
   view_without s f,
@@ -62,8 +62,7 @@ unformed db s f x said lacks seen = (
     claims = said.claims;
     formed = lacks;
     frame = λ h. absurd (false≢true h);
-    tied =
-        λ h. absurd (false≢true h);
+    tied = λ h. absurd (false≢true h);
     reads = λ h. absurd (false≢true h);
   },
   seen_without s f x seen,
@@ -76,7 +75,8 @@ no_head db s none said formed = subst (λ h. ReadsHeadAt (pos 1) db (option_map 
 
 -- a store with a row under a number that no package has
 pub misnumbered : (db : Database) (s : Said) (f : Frame) (x : PackageRows) (seen : StoreSeen) → IsFirstSaid db s
-    → (AreFormedAt (pos 1) db → AreRowsOf (tables_of db) x) → have_numbers x ≡ false → IsSeenWithout s f false seen
+    → (AreFormedAt (pos 1) db → AreRowsOf (tables_of db) x) → have_numbers x ≡ false
+    → IsSeenWithout s f false seen
     → IsFirstSeenRight db seen
 misnumbered db s f x seen said all low it =
     unformed db s f seen said (λ formed. false≢true (sym low
@@ -97,7 +97,8 @@ copied db s h f x seen some said read all order it =
 
 -- what is seen of the copy itself
 pub seen_of_copy : (f : Frame) (h : StoreHead) (x : PackageRows) (old new : State) (r : Result StoreSeen Fault)
-    → LooksAt IsSeenRight old new r → HasCleanDisk new → IsCopy f (copy_row h) x old.now → IfOk r (IsSeenOfCopy f h x)
+    → LooksAt IsSeenRight old new r → HasCleanDisk new → IsCopy f (copy_row h) x old.now
+    → IfOk r (IsSeenOfCopy f h x)
 seen_of_copy f h x old new (Ok seen) looks clean copy = let d =
     looks.done clean in (old.now, copy.holds, d.1.1 copy.keyed)
 seen_of_copy f h x old new (Err e) looks clean copy = tt

@@ -1,5 +1,6 @@
 -- What is right to see of the copy is right to see of the store.
-use Rattle.std.proofs.Common.{◌≡◌, ◌∙◌, ℕ, pos, List, [], ◌∷◌, map, get_or, Bool, true, false, Option, Some, None}
+use Rattle.std.proofs.Common.{◌≡◌, ◌∙◌, ℕ, pos, List, [], ◌∷◌, map, get_or, Bool, true, false}
+use Rattle.std.proofs.Common.{Option, Some, None}
 use Rattle.std.proofs.Common.{refl, sym, ap, subst}
 use Rattle.std.specs.Prelude.{◌↔◌}
 use Rattle.sqlite.specs.Effect.{Database}
@@ -56,10 +57,13 @@ module _ (db copy : Database) (f : Frame) (h : StoreHead) (headed : IsHeadAt (po
 
   own_level : IsLevel (copy_row h)
   own_level =
-      subst (λ z. ((optional_uuid_text h.parent ≡ []) ↔ (z ≡ pos 0)) × ((pos h.loan ≡ pos 0) ↔ (z ≡ pos 0))) own.depth
-      (subst (λ z. ((optional_uuid_text h.parent ≡ []) ↔ (row.depth ≡ pos 0)) × ((z ≡ pos 0) ↔ (row.depth ≡ pos 0)))
+      subst (λ z. ((optional_uuid_text h.parent ≡ []) ↔ (z ≡ pos 0))
+      × ((pos h.loan ≡ pos 0) ↔ (z ≡ pos 0))) own.depth
+      (subst (λ z. ((optional_uuid_text h.parent ≡ []) ↔ (row.depth ≡ pos 0))
+      × ((z ≡ pos 0) ↔ (row.depth ≡ pos 0)))
       own.loan
-      (subst (λ z. ((z ≡ []) ↔ (row.depth ≡ pos 0)) × ((row.loan ≡ pos 0) ↔ (row.depth ≡ pos 0))) own.parent own.level))
+      (subst (λ z. ((z ≡ []) ↔ (row.depth ≡ pos 0)) × ((row.loan ≡ pos 0) ↔ (row.depth ≡ pos 0)))
+      own.parent own.level))
 
   own_row : IsHeadRow (copy_row h) (head_said h)
   own_row = record {
@@ -67,16 +71,14 @@ module _ (db copy : Database) (f : Frame) (h : StoreHead) (headed : IsHeadAt (po
     version = refl;
     uuid = own.uuid;
     parent_uuid = own.parent_uuid;
-    «package» =
-        refl;
+    «package» = refl;
     parent = refl;
     depth = refl;
     low = own.low;
     loan = refl;
     loan_low = own.loan_low;
     created = refl;
-    level =
-        own_level;
+    level = own_level;
   }
 
   own_head : IsHead copy (head_said h)
@@ -124,11 +126,9 @@ module _ (db copy : Database) (f : Frame) (h : StoreHead) (headed : IsHeadAt (po
       let mine = read.frame.1.1 in
       record {
         spatial_ref_sys = mine.spatial_ref_sys ∙ it.spatial_ref_sys;
-        contents =
-            mine.contents ∙ it.contents;
+        contents = mine.contents ∙ it.contents;
         tile_matrix_set = mine.tile_matrix_set ∙ it.tile_matrix_set;
-        tile_matrix =
-            mine.tile_matrix ∙ it.tile_matrix;
+        tile_matrix = mine.tile_matrix ∙ it.tile_matrix;
         relations = refl;
       }
 
@@ -137,12 +137,9 @@ module _ (db copy : Database) (f : Frame) (h : StoreHead) (headed : IsHeadAt (po
       let mine = read.frame.1.1 in
       record {
         spatial_ref_sys = sym mine.spatial_ref_sys ∙ it.spatial_ref_sys;
-        contents =
-            sym mine.contents ∙ it.contents;
-        tile_matrix_set =
-            sym mine.tile_matrix_set ∙ it.tile_matrix_set;
-        tile_matrix =
-            sym mine.tile_matrix ∙ it.tile_matrix;
+        contents = sym mine.contents ∙ it.contents;
+        tile_matrix_set = sym mine.tile_matrix_set ∙ it.tile_matrix_set;
+        tile_matrix = sym mine.tile_matrix ∙ it.tile_matrix;
         relations = refl;
       }
 
@@ -157,8 +154,7 @@ module _ (db copy : Database) (f : Frame) (h : StoreHead) (headed : IsHeadAt (po
     tiles = it.tiles;
     media = it.media;
     rows = it.rows;
-    identities =
-        it.identities;
+    identities = it.identities;
     tiles_media = it.tiles_media;
     rows_media = it.rows_media;
     rows_tiles = it.rows_tiles;
@@ -169,8 +165,7 @@ module _ (db copy : Database) (f : Frame) (h : StoreHead) (headed : IsHeadAt (po
     tiles = it.tiles;
     media = it.media;
     rows = it.rows;
-    identities =
-        it.identities;
+    identities = it.identities;
     tiles_media = it.tiles_media;
     rows_media = it.rows_media;
     rows_tiles = it.rows_tiles;
@@ -209,8 +204,7 @@ module _ (db copy : Database) (f : Frame) (h : StoreHead) (headed : IsHeadAt (po
     tiles = it.tiles;
     media = it.media;
     rows = it.rows;
-    identities =
-        it.identities;
+    identities = it.identities;
     tiles_media = it.tiles_media;
     rows_media = it.rows_media;
     rows_tiles = it.rows_tiles;
@@ -221,8 +215,7 @@ module _ (db copy : Database) (f : Frame) (h : StoreHead) (headed : IsHeadAt (po
     tiles = it.tiles;
     media = it.media;
     rows = it.rows;
-    identities =
-        it.identities;
+    identities = it.identities;
     tiles_media = it.tiles_media;
     rows_media = it.rows_media;
     rows_tiles = it.rows_tiles;
@@ -254,8 +247,7 @@ module _ (db copy : Database) (f : Frame) (h : StoreHead) (headed : IsHeadAt (po
         fixed = record {
           spatial_ref_sys = fixed.spatial_ref_sys;
           contents = fixed.contents;
-          tile_matrix_set =
-              fixed.tile_matrix_set;
+          tile_matrix_set = fixed.tile_matrix_set;
           tile_matrix = fixed.tile_matrix;
           relations = refl;
         };

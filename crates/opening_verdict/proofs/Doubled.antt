@@ -1,7 +1,9 @@
 -- No two live packages have one UUID, where none of the first seven faults holds and the account is balanced: a
 -- ledger lends no package twice, and none under the archive's UUID.
-use Rattle.std.specs.Prelude.{◌≡◌, ◌⊎◌, ℕ, suc, ◌+◌, ◌≤◌, ◌==◌, nat_le, Bool, true, false, cond, not, ◌&&◌, ◌||◌}
-use Rattle.std.specs.Prelude.{List, [], ◌∷◌, ◌++◌, map, filter, find, length, refl, Option, Some, None, is_some}
+use Rattle.std.specs.Prelude.{◌≡◌, ◌⊎◌, ℕ, suc, ◌+◌, ◌≤◌, ◌==◌, nat_le, Bool, true, false}
+use Rattle.std.specs.Prelude.{cond, not, ◌&&◌, ◌||◌}
+use Rattle.std.specs.Prelude.{List, [], ◌∷◌, ◌++◌, map, filter, find, length, refl, Option, Some, None}
+use Rattle.std.specs.Prelude.{is_some}
 use Rattle.std.specs.Prelude.{is_none, unwrap_or, MatchOption, count_by, flat_map, nat_lt, bytes_eq, pos, int_lt}
 use Rattle.std.proofs.Common.{sym, ap, subst, ◌∙◌, arith, inl, inr}
 use Rattle.std.proofs.lemmas.Bool.{true≢false, false≢true, and_parts, and_from, false_from_ne_true}
@@ -90,7 +92,8 @@ module _ (Store : Type 0) (head : Store → Option Head) (claims : Store → Lis
     (order : InOrder Store head claims IsFormed IsTied frame_of read stores) (root : Store)
     (root_is : find (is_root Store head claims IsFormed IsTied frame_of read) stores ≡ Some root)
     (balanced : Balanced (world_read Store head claims IsFormed IsTied frame_of read stores root))
-    (readings : AllByRecursion (λ s. IsFormed s → IsTied s → IsReading Store head claims IsFormed IsTied frame_of read
+    (readings : AllByRecursion (λ s. IsFormed s → IsTied s → IsReading Store head claims IsFormed IsTied frame_of
+    read
     s) stores) where
   abbrev Reads : Store → Type 0
   Reads s = IsReading Store head claims IsFormed IsTied frame_of read s
@@ -129,7 +132,8 @@ module _ (Store : Type 0) (head : Store → Option Head) (claims : Store → Lis
   live_in : (s : Store) → In s lives → In s stores × (ends s ≡ true)
   live_in s i = All-In (λ x. In x stores × (ends x ≡ true)) s lives
       (All-taken (λ x. In x stores × (ends x ≡ true)) ends stores
-      (All-weaker (λ x. In x stores) (λ x. ends x ≡ true → In x stores × (ends x ≡ true)) (λ x j e. (j, e)) stores
+      (All-weaker (λ x. In x stores) (λ x. ends x ≡ true → In x stores × (ends x ≡ true)) (λ x j e. (j, e))
+      stores
       (In-all stores))) i
 
   -- ---- receipts of the live stores, and of the world
@@ -156,7 +160,8 @@ module _ (Store : Type 0) (head : Store → Option Head) (claims : Store → Lis
       (ledger_entered (archive_of v) [] ledger balanced.ledger) i
 
   -- what a live store claims is what a receipt of its package says
-  claimed_by : (s : Store) (c : Claim) → In s lives → In c (claims s) → (r : Receipt) × In r ledger × (claim_of r ≡ c)
+  claimed_by : (s : Store) (c : Claim) → In s lives → In c (claims s) → (r : Receipt) × In r ledger
+      × (claim_of r ≡ c)
   claimed_by s c i j =
       let r : (r : Receipt) × In r (read s).receipts × (claim_of r ≡ c) =
       In-of_map claim_of c (read s).receipts (subst (In c) (reads_at s i).claimed j) in
@@ -205,7 +210,8 @@ module _ (Store : Type 0) (head : Store → Option Head) (claims : Store → Lis
     lends : lent_to (read s).uuid receipt ≡ true
 
   -- the target of an open claim that a receipt says
-  claim_split : (k : ℕ) (r : Receipt) (c : Claim) → claim_of r ≡ c → is_open_claim (told k) c ≡ true → is_split r ≡ true
+  claim_split : (k : ℕ) (r : Receipt) (c : Claim) → claim_of r ≡ c → is_open_claim (told k) c ≡ true
+      → is_split r ≡ true
   claim_split k r c e h = subst (λ x. claims_split x ≡ true) (sym e)
       (and_parts (claims_split c) (nat_lt 0 (length c.target))
       (and_parts (claims_split c && nat_lt 0 (length c.target)) _ h).0).0
@@ -264,7 +270,8 @@ module _ (Store : Type 0) (head : Store → Option Head) (claims : Store → Lis
       ap (λ o. option_map_or (λ x. x.uuid) o []) f.1 ∙ ap (λ x. x.uuid) (is.0 is.1)
 
   -- a live store of a loan's UUID is that loan's
-  same_loan : (k : List ℕ) (s z : Store) → In z lives → (read s).uuid ≡ k → (read z).uuid ≡ k → (l : Lent s)
+  same_loan : (k : List ℕ) (s z : Store) → In z lives → (read s).uuid ≡ k → (read z).uuid ≡ k
+      → (l : Lent s)
       → makes l.claim z ≡ true
   same_loan k s z j es ez l = elim (lent_by z j) [
     | inl rootz ↦
@@ -279,7 +286,8 @@ module _ (Store : Type 0) (head : Store → Option Head) (claims : Store → Lis
     | inr m ↦
         let one : m.receipt ≡ l.receipt = two_are_one (lent_to k) m.receipt l.receipt ledger
         (lent_once v k balanced.ledger) m.entered_as l.entered_as
-        (subst (λ u. lent_to u m.receipt ≡ true) ez m.lends) (subst (λ u. lent_to u l.receipt ≡ true) es l.lends) in
+        (subst (λ u. lent_to u m.receipt ≡ true) ez m.lends)
+        (subst (λ u. lent_to u l.receipt ≡ true) es l.lends) in
         subst (λ c. makes c z ≡ true) (sym m.says ∙ ap claim_of one ∙ l.says) m.loan
   ]
 
@@ -324,7 +332,8 @@ module _ (Store : Type 0) (head : Store → Option Head) (claims : Store → Lis
             let each : AllByRecursion (λ s. (of_uuid k s && not (rooted s)) ≡ false) lives =
             none_pass (λ s. of_uuid k s && not (rooted s)) lives none in
             let less : count_by (of_uuid k) lives ≤ count_by rooted lives = count_le_all (of_uuid k) rooted lives
-            (All-weaker (λ s. (of_uuid k s && not (rooted s)) ≡ false) (λ s. of_uuid k s ≡ true → rooted s ≡ true)
+            (All-weaker (λ s. (of_uuid k s && not (rooted s)) ≡ false)
+            (λ s. of_uuid k s ≡ true → rooted s ≡ true)
             (λ s n same. not_false (rooted s) (sym (ap (λ b. b && not (rooted s)) same) ∙ n)) lives each) in
             omega (arith, less, filter_less (λ z. cond (rooted z) 1 0) ends stores, order.one_archive)
       ] refl

@@ -1,5 +1,6 @@
 -- The first seven faults: told of sights, they are those of the stores; where none is told, the stores are in order.
-use Rattle.std.specs.Prelude.{◌≡◌, ◌⊎◌, ℕ, ℤ, ◌+◌, ◌==◌, nat_le, Bool, true, false, List, map, refl, find, Option}
+use Rattle.std.specs.Prelude.{◌≡◌, ◌⊎◌, ℕ, ℤ, ◌+◌, ◌==◌, nat_le, Bool, true, false, List, map}
+use Rattle.std.specs.Prelude.{refl, find, Option}
 use Rattle.std.specs.Prelude.{Some, None, Contains, bytes_eq}
 use Rattle.std.proofs.Common.{sym, ap, subst, ◌∙◌, inl, inr, int_eq}
 use Rattle.std.proofs.lemmas.Bool.{true≢false}
@@ -63,7 +64,8 @@ stable_below None (Some b) nn = nn (λ x. x)
 stable_below (Some a) None nn = nn (λ x. x)
 stable_below (Some a) (Some b) nn = (
   stable_some b.parent a.uuid (λ n. nn (λ e. n e.0)),
-  decided (b.depth == a.depth + 1) (b.depth ≡ a.depth + 1) (Decides-eqb b.depth (a.depth + 1)) (λ n. nn (λ e. n e.1)),
+  decided (b.depth == a.depth + 1) (b.depth ≡ a.depth + 1) (Decides-eqb b.depth (a.depth + 1))
+      (λ n. nn (λ e. n e.1)),
 )
 
 module _ (ps : List Pair) where
@@ -79,7 +81,8 @@ module _ (ps : List Pair) where
       → IsNever (model.NotAPackage StoreSight (λ v. v.head) (λ v. v.claims) (λ v. v.is_formed ≡ true)
       (λ v. v.is_tied ≡ true) (λ v. v.frame) (λ v. v.reads_as) (views_of ps))
   never_unformed h = never_same (HasUnfit (sights_of ps) formed_of)
-      (model.NotAPackage StoreSight (λ v. v.head) (λ v. v.claims) (λ v. v.is_formed ≡ true) (λ v. v.is_tied ≡ true)
+      (model.NotAPackage StoreSight (λ v. v.head) (λ v. v.claims) (λ v. v.is_formed ≡ true)
+      (λ v. v.is_tied ≡ true)
       (λ v. v.frame) (λ v. v.reads_as) (views_of ps)) (λ id f. unfit_fro ps (λ x. x.is_formed) (λ v. v.is_formed)
       (λ p. p.is.formed) id f.0 f.1 f.2 f.3) h
 
@@ -87,9 +90,11 @@ module _ (ps : List Pair) where
       → IsLeast (model.NotAPackage StoreSight (λ v. v.head) (λ v. v.claims) (λ v. v.is_formed ≡ true)
       (λ v. v.is_tied ≡ true) (λ v. v.frame) (λ v. v.reads_as) (views_of ps)) id
   least_unformed id h = least_same (HasUnfit (sights_of ps) formed_of)
-      (model.NotAPackage StoreSight (λ v. v.head) (λ v. v.claims) (λ v. v.is_formed ≡ true) (λ v. v.is_tied ≡ true)
+      (model.NotAPackage StoreSight (λ v. v.head) (λ v. v.claims) (λ v. v.is_formed ≡ true)
+      (λ v. v.is_tied ≡ true)
       (λ v. v.frame) (λ v. v.reads_as) (views_of ps)) (unfit_to ps (λ x. x.is_formed) (λ v. v.is_formed)
-      (λ p. p.is.formed)) (λ k f. unfit_fro ps (λ x. x.is_formed) (λ v. v.is_formed) (λ p. p.is.formed) k f.0 f.1 f.2
+      (λ p. p.is.formed)) (λ k f. unfit_fro ps (λ x. x.is_formed) (λ v. v.is_formed) (λ p. p.is.formed) k f.0 f.1
+      f.2
       f.3) id h
 
   never_untied : IsNever (HasUnfit (sights_of ps) tied_of) → IsNever
@@ -105,50 +110,59 @@ module _ (ps : List Pair) where
       (λ v. v.is_tied ≡ true) (λ v. v.frame) (λ v. v.reads_as) (views_of ps)) id
   least_untied id h = least_same (HasUnfit (sights_of ps) tied_of)
       (model.Dangling StoreSight (λ v. v.head) (λ v. v.claims) (λ v. v.is_formed ≡ true) (λ v. v.is_tied ≡ true)
-      (λ v. v.frame) (λ v. v.reads_as) (views_of ps)) (unfit_to ps (λ x. x.is_tied) (λ v. v.is_tied) (λ p. p.is.tied))
+      (λ v. v.frame) (λ v. v.reads_as) (views_of ps)) (unfit_to ps (λ x. x.is_tied) (λ v. v.is_tied)
+      (λ p. p.is.tied))
       (λ k f. unfit_fro ps (λ x. x.is_tied) (λ v. v.is_tied) (λ p. p.is.tied) k f.0 f.1 f.2 f.3) id h
 
   never_copied : IsNever (sights.TwoCopies (sights_of ps)) → IsNever
-      (model.TwoCopies StoreSight (λ v. v.head) (λ v. v.claims) (λ v. v.is_formed ≡ true) (λ v. v.is_tied ≡ true)
+      (model.TwoCopies StoreSight (λ v. v.head) (λ v. v.claims) (λ v. v.is_formed ≡ true)
+      (λ v. v.is_tied ≡ true)
       (λ v. v.frame) (λ v. v.reads_as) (views_of ps))
   never_copied h = never_same (sights.TwoCopies (sights_of ps))
-      (model.TwoCopies StoreSight (λ v. v.head) (λ v. v.claims) (λ v. v.is_formed ≡ true) (λ v. v.is_tied ≡ true)
+      (model.TwoCopies StoreSight (λ v. v.head) (λ v. v.claims) (λ v. v.is_formed ≡ true)
+      (λ v. v.is_tied ≡ true)
       (λ v. v.frame) (λ v. v.reads_as) (views_of ps)) (counted_fro ps (nat_le 2)) h
 
   least_copied : (id : List ℕ) → IsLeast (sights.TwoCopies (sights_of ps)) id
       → IsLeast (model.TwoCopies StoreSight (λ v. v.head) (λ v. v.claims) (λ v. v.is_formed ≡ true)
       (λ v. v.is_tied ≡ true) (λ v. v.frame) (λ v. v.reads_as) (views_of ps)) id
   least_copied id h = least_same (sights.TwoCopies (sights_of ps))
-      (model.TwoCopies StoreSight (λ v. v.head) (λ v. v.claims) (λ v. v.is_formed ≡ true) (λ v. v.is_tied ≡ true)
+      (model.TwoCopies StoreSight (λ v. v.head) (λ v. v.claims) (λ v. v.is_formed ≡ true)
+      (λ v. v.is_tied ≡ true)
       (λ v. v.frame) (λ v. v.reads_as) (views_of ps)) (counted_to ps (nat_le 2)) (counted_fro ps (nat_le 2)) id h
 
   never_missing : IsNever (sights.MissingPackage (sights_of ps))
       → IsNever (model.MissingPackage StoreSight (λ v. v.head) (λ v. v.claims) (λ v. v.is_formed ≡ true)
       (λ v. v.is_tied ≡ true) (λ v. v.frame) (λ v. v.reads_as) (views_of ps))
   never_missing h = never_same (sights.MissingPackage (sights_of ps))
-      (model.MissingPackage StoreSight (λ v. v.head) (λ v. v.claims) (λ v. v.is_formed ≡ true) (λ v. v.is_tied ≡ true)
+      (model.MissingPackage StoreSight (λ v. v.head) (λ v. v.claims) (λ v. v.is_formed ≡ true)
+      (λ v. v.is_tied ≡ true)
       (λ v. v.frame) (λ v. v.reads_as) (views_of ps)) (counted_fro ps (λ n. n == 0)) h
 
   least_missing : (id : List ℕ) → IsLeast (sights.MissingPackage (sights_of ps)) id
       → IsLeast (model.MissingPackage StoreSight (λ v. v.head) (λ v. v.claims) (λ v. v.is_formed ≡ true)
       (λ v. v.is_tied ≡ true) (λ v. v.frame) (λ v. v.reads_as) (views_of ps)) id
   least_missing id h = least_same (sights.MissingPackage (sights_of ps))
-      (model.MissingPackage StoreSight (λ v. v.head) (λ v. v.claims) (λ v. v.is_formed ≡ true) (λ v. v.is_tied ≡ true)
-      (λ v. v.frame) (λ v. v.reads_as) (views_of ps)) (counted_to ps (λ n. n == 0)) (counted_fro ps (λ n. n == 0)) id
+      (model.MissingPackage StoreSight (λ v. v.head) (λ v. v.claims) (λ v. v.is_formed ≡ true)
+      (λ v. v.is_tied ≡ true)
+      (λ v. v.frame) (λ v. v.reads_as) (views_of ps)) (counted_to ps (λ n. n == 0)) (counted_fro ps (λ n. n == 0))
+      id
       h
 
   never_foreign : IsNever (sights.ForeignFrame (sights_of ps))
       → IsNever (model.ForeignFrame StoreSight (λ v. v.head) (λ v. v.claims) (λ v. v.is_formed ≡ true)
       (λ v. v.is_tied ≡ true) (λ v. v.frame) (λ v. v.reads_as) (views_of ps))
   never_foreign h = never_same (sights.ForeignFrame (sights_of ps))
-      (model.ForeignFrame StoreSight (λ v. v.head) (λ v. v.claims) (λ v. v.is_formed ≡ true) (λ v. v.is_tied ≡ true)
+      (model.ForeignFrame StoreSight (λ v. v.head) (λ v. v.claims) (λ v. v.is_formed ≡ true)
+      (λ v. v.is_tied ≡ true)
       (λ v. v.frame) (λ v. v.reads_as) (views_of ps)) (foreign_fro ps) h
 
   least_foreign : (id : List ℕ) → IsLeast (sights.ForeignFrame (sights_of ps)) id
       → IsLeast (model.ForeignFrame StoreSight (λ v. v.head) (λ v. v.claims) (λ v. v.is_formed ≡ true)
       (λ v. v.is_tied ≡ true) (λ v. v.frame) (λ v. v.reads_as) (views_of ps)) id
   least_foreign id h = least_same (sights.ForeignFrame (sights_of ps))
-      (model.ForeignFrame StoreSight (λ v. v.head) (λ v. v.claims) (λ v. v.is_formed ≡ true) (λ v. v.is_tied ≡ true)
+      (model.ForeignFrame StoreSight (λ v. v.head) (λ v. v.claims) (λ v. v.is_formed ≡ true)
+      (λ v. v.is_tied ≡ true)
       (λ v. v.frame) (λ v. v.reads_as) (views_of ps)) (foreign_to ps) (foreign_fro ps) id h
 
   pub first_fault : (f : RecoverFault) → IsFirstOf (sights_of ps) formed_of tied_of f → IsFaultOf (views_of ps) f
@@ -181,7 +195,8 @@ module _ (ps : List Pair) where
   -- ---- none of them
 
   all_fit : (test : StoreSight → Bool) → ((id : List ℕ) (v : StoreSight) → Contains (live_views (views_of ps)) v
-      → model.uuid_of StoreSight (λ v. v.head) (λ v. v.claims) (λ v. v.is_formed ≡ true) (λ v. v.is_tied ≡ true)
+      → model.uuid_of StoreSight (λ v. v.head) (λ v. v.claims) (λ v. v.is_formed ≡ true)
+      (λ v. v.is_tied ≡ true)
       (λ v. v.frame) (λ v. v.reads_as) v ≡ id → (test v ≡ true → ⊥) → ⊥)
       → AllByRecursion (λ v. test v ≡ true) (live_views (views_of ps))
   all_fit test never = All-weaker (λ v. In v (live_views (views_of ps))) (λ v. test v ≡ true)

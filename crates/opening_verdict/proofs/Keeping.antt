@@ -1,5 +1,6 @@
 -- What is kept of stores, one place after the other.
-use Rattle.std.specs.Prelude.{◌≡◌, ℕ, suc, ◌+◌, ◌<◌, Bool, List, [], ◌∷◌, ◌++◌, length, refl, Option, Some, slice_get}
+use Rattle.std.specs.Prelude.{◌≡◌, ℕ, suc, ◌+◌, ◌<◌, Bool, List, [], ◌∷◌, ◌++◌, length}
+use Rattle.std.specs.Prelude.{refl, Option, Some, slice_get}
 use Rattle.std.proofs.Common.{sym, ap, subst, ◌∙◌, arith, inl, inr}
 use Rattle.sheet_types.proofs.Basics.{some_once}
 use Rattle.sheet_types.specs.declared.receipt.Receipt.{Receipt}
@@ -14,7 +15,8 @@ module _ (ledger : List Receipt) (sights : List Sight) (live : List Bool) (sums 
   pub record IsKeeping (place : ℕ) (kept : List (Option Kept)) : Type 0 where
     pub long : length kept ≡ place
     pub each : (i : ℕ) (s : Sight) (b : Bool) (o : Option Sums) (k : Option Kept) → slice_get sights i ≡ Some s
-        → slice_get live i ≡ Some b → slice_get sums i ≡ Some o → slice_get kept i ≡ Some k → IsKeptAt ledger s b o k
+        → slice_get live i ≡ Some b → slice_get sums i ≡ Some o → slice_get kept i ≡ Some k
+        → IsKeptAt ledger s b o k
 
   pub keeps_on : (i : ℕ) (kept : List (Option Kept)) (s : Sight) (b : Bool) (o : Option Sums) (k : Option Kept)
       → slice_get sights i ≡ Some s → slice_get live i ≡ Some b → slice_get sums i ≡ Some o

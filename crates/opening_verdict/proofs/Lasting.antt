@@ -1,5 +1,6 @@
 -- A map of the last receipt that names each package, receipt by receipt.
-use Rattle.std.specs.Prelude.{◌≡◌, ℕ, Bool, true, false, cond, ◌||◌, List, [], ◌∷◌, ◌++◌, Some, unwrap_or, bytes_eq}
+use Rattle.std.specs.Prelude.{◌≡◌, ℕ, Bool, true, false, cond, ◌||◌, List, [], ◌∷◌, ◌++◌, Some}
+use Rattle.std.specs.Prelude.{unwrap_or, bytes_eq}
 use Rattle.std.specs.Prelude.{max, refl}
 use Rattle.std.proofs.Common.{sym, ap, subst, ◌∙◌}
 use Rattle.std.specs.Ordering.{nat_cmp}
@@ -18,7 +19,8 @@ pub last_noted : (m new : BTreeMap (List ℕ) ℕ) (k : List ℕ) (before seq to
     → last_in new p ≡ cond (bytes_eq k p) (max (last_in m p) seq) (last_in m p)
 last_noted m new k before seq top was is h p =
     ap (λ o. unwrap_or o 0) (at_key m new k (Some top) h p)
-    ∙ elim (bytes_eq k p) as (λ v. bytes_eq k p ≡ v → unwrap_or (cond v (Some top) (get (slice_cmp nat_cmp) m p)) 0
+    ∙ elim (bytes_eq k p) as (λ v. bytes_eq k p ≡ v → unwrap_or
+    (cond v (Some top) (get (slice_cmp nat_cmp) m p)) 0
     ≡ cond v (max (last_in m p) seq) (last_in m p)) [
       | true ↦ λ e. is ∙ ap (λ n. max n seq) (was ∙ ap (last_in m) ((bytes_eq-Decides k p).0 e))
       | false ↦ λ e. refl

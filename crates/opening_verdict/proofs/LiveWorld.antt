@@ -1,6 +1,7 @@
 -- Where none of the first seven faults holds, the live stores read as a world, whose packages are seen as the judge
 -- sees them; what the judge answers is then the answer of the stores.
-use Rattle.std.specs.Prelude.{◌≡◌, ◌⊎◌, ℕ, zero, suc, ◌+◌, ◌<◌, ◌≤◌, ◌^◌, Bool, true, false, cond, ◌==◌, List, []}
+use Rattle.std.specs.Prelude.{◌≡◌, ◌⊎◌, ℕ, zero, suc, ◌+◌, ◌<◌, ◌≤◌, ◌^◌, Bool, true}
+use Rattle.std.specs.Prelude.{false, cond, ◌==◌, List, []}
 use Rattle.std.specs.Prelude.{◌∷◌, map, filter, find, length, refl, Option, Some, None, option_map, slice_get}
 use Rattle.std.specs.Prelude.{count_by, Contains}
 use Rattle.std.proofs.Common.{sym, ap, subst, ◌∙◌, arith, inl, inr}
@@ -57,7 +58,8 @@ every P f [] = tt
 every P f (x ∷ xs) = (f x, every P f xs)
 
 zip_by_places : {A B : Type 0} (R : A → B → Type 0) (xs : List A) (ys : List B) → length xs ≡ length ys
-    → ((k : ℕ) (x : A) (y : B) → slice_get xs k ≡ Some x → slice_get ys k ≡ Some y → R x y) → AllZip R xs ys
+    → ((k : ℕ) (x : A) (y : B) → slice_get xs k ≡ Some x → slice_get ys k ≡ Some y → R x y)
+    → AllZip R xs ys
 zip_by_places R [] [] long f = tt
 zip_by_places R [] (y ∷ ys) long f = absurd (omega (arith, long))
 zip_by_places R (x ∷ xs) [] long f = absurd (omega (arith, long))
@@ -79,7 +81,8 @@ length_mapped f g [] = refl
 length_mapped f g (x ∷ xs) = ap suc (length_mapped f g xs)
 
 -- those whose flags are up are seen as the packages of the live stores
-taken_seen : (t : Sight → Bool) (u : StoreSight → Bool) → ((p : Pair) → t p.seen.sight ≡ u p.view) → (qs : List Pair)
+taken_seen : (t : Sight → Bool) (u : StoreSight → Bool) → ((p : Pair) → t p.seen.sight ≡ u p.view)
+    → (qs : List Pair)
     → AllByRecursion (λ p. u p.view ≡ true → IsSightOf p.seen.held p.view.reads_as) qs
     → AreSightsOf (taken (map t (map (λ p. p.seen.sight) qs)) (map (λ p. p.seen.held) qs))
     (map (λ v. v.reads_as) (filter u (map (λ p. p.view) qs)))
@@ -89,7 +92,8 @@ taken_seen t u same (q ∷ qs) h =
     let Seen : Bool → Bool → Type 0 = λ b d. AreSightsOf (cond b
     (q.seen.held ∷ taken (map t (map (λ p. p.seen.sight) qs)) (map (λ p. p.seen.held) qs))
     (taken (map t (map (λ p. p.seen.sight) qs)) (map (λ p. p.seen.held) qs)))
-    (map (λ v. v.reads_as) (cond d (q.view ∷ filter u (map (λ p. p.view) qs)) (filter u (map (λ p. p.view) qs)))) in
+    (map (λ v. v.reads_as) (cond d (q.view ∷ filter u (map (λ p. p.view) qs))
+    (filter u (map (λ p. p.view) qs)))) in
     subst (λ b. Seen b (u q.view)) (sym (same q)) (elim (u q.view) as (λ d. u q.view ≡ d → Seen d d)
     [ true ↦ λ e. (h.0 e, more) | false ↦ λ e. more ] refl)
 
@@ -107,7 +111,8 @@ module _ (ps : List Pair) (checked : AreChecked (sights_of ps) (formed_of ps) (t
   -- ---- the archive's store
 
   abbrev rooted : StoreSight → Bool
-  rooted = model.is_root StoreSight (λ v. v.head) (λ v. v.claims) (λ v. v.is_formed ≡ true) (λ v. v.is_tied ≡ true)
+  rooted = model.is_root StoreSight (λ v. v.head) (λ v. v.claims) (λ v. v.is_formed ≡ true)
+      (λ v. v.is_tied ≡ true)
       (λ v. v.frame) (λ v. v.reads_as)
 
   pub root_found : (root : StoreSight) × (find rooted (views_of ps) ≡ Some root)
@@ -121,7 +126,8 @@ module _ (ps : List Pair) (checked : AreChecked (sights_of ps) (formed_of ps) (t
   root_is = root_found.1
 
   abbrev pub world : World
-  world = model.world_read StoreSight (λ v. v.head) (λ v. v.claims) (λ v. v.is_formed ≡ true) (λ v. v.is_tied ≡ true)
+  world = model.world_read StoreSight (λ v. v.head) (λ v. v.claims) (λ v. v.is_formed ≡ true)
+      (λ v. v.is_tied ≡ true)
       (λ v. v.frame) (λ v. v.reads_as) (views_of ps) root
 
   root_in : In root (views_of ps) × (rooted root ≡ true)
@@ -129,7 +135,8 @@ module _ (ps : List Pair) (checked : AreChecked (sights_of ps) (formed_of ps) (t
 
   root_live : In root (live_views (views_of ps))
   root_live = In-filter (is_live_view (views_of ps)) root (views_of ps) root_in.0
-      (grows StoreSight (λ v. v.head) (λ v. v.claims) (λ v. v.is_formed ≡ true) (λ v. v.is_tied ≡ true) (λ v. v.frame)
+      (grows StoreSight (λ v. v.head) (λ v. v.claims) (λ v. v.is_formed ≡ true) (λ v. v.is_tied ≡ true)
+      (λ v. v.frame)
       (λ v. v.reads_as) (views_of ps) 0 (length (views_of ps)) root (omega arith) root_in.1)
 
   -- ---- a live store reads as a package
@@ -141,10 +148,12 @@ module _ (ps : List Pair) (checked : AreChecked (sights_of ps) (formed_of ps) (t
         (λ x. x.is_tied ≡ true) v (live_views (views_of ps)) order.tied i,
   )
 
-  live_in : (p : Pair) → In p ps → is_live_view (views_of ps) p.view ≡ true → In p.view (live_views (views_of ps))
+  live_in : (p : Pair) → In p ps → is_live_view (views_of ps) p.view ≡ true
+      → In p.view (live_views (views_of ps))
   live_in p i live = In-filter (is_live_view (views_of ps)) p.view (views_of ps) (In-map (λ q. q.view) p ps i) live
 
-  held_of : (p : Pair) → In p ps → is_live_view (views_of ps) p.view ≡ true → IsSightOf p.seen.held p.view.reads_as
+  held_of : (p : Pair) → In p ps → is_live_view (views_of ps) p.view ≡ true
+      → IsSightOf p.seen.held p.view.reads_as
   held_of p i live = let both = formed_tied p.view (live_in p i live) in p.is.held both.0 both.1
 
   heads_of : (p : Pair) → In p ps → is_live_view (views_of ps) p.view ≡ true
@@ -261,7 +270,8 @@ module _ (ps : List Pair) (checked : AreChecked (sights_of ps) (formed_of ps) (t
       all_kept : AllZip (IsKeptOf (views_of ps) world) kept (views_of ps)
       all_kept = zip_by_places (IsKeptOf (views_of ps) world) kept (views_of ps)
           (are.long ∙ length_mapped (λ p. p.seen.sight) (λ p. p.view) ps) (λ k x v at_x at_v.
-          let p : (p : Pair) × (slice_get ps k ≡ Some p) × (p.view ≡ v) = mapped_from (λ p. p.view) ps k v at_v in
+          let p : (p : Pair) × (slice_get ps k ≡ Some p) × (p.view ≡ v) =
+          mapped_from (λ p. p.view) ps k v at_v in
           let o : (o : Option Sums) × (slice_get sums k ≡ Some o) × TellsSums p.0.seen.held o =
           zip_at TellsSums (map (λ q. q.seen.held) ps) sums k p.0.seen.held told
           (mapped_at (λ q. q.seen.held) ps k p.0 p.1) in

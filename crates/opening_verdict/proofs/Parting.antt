@@ -13,7 +13,8 @@ pub record IsParting (seen : List StoreSeen) (parts : Parts) (rest : List StoreS
   pub tied : map (λ x. x.is_tied) seen ≡ parts.tied.items ++ map (λ x. x.is_tied) rest
   pub held : map (λ x. x.held) seen ≡ parts.held.items ++ map (λ x. x.held) rest
 
-one_on : {X Y : Type 0} (f : X → Y) (all old new : List Y) (x : X) (rest : List X) → all ≡ old ++ map f (x ∷ rest)
+one_on : {X Y : Type 0} (f : X → Y) (all old new : List Y) (x : X) (rest : List X)
+    → all ≡ old ++ map f (x ∷ rest)
     → new ≡ old ++ f x ∷ [] → all ≡ new ++ map f rest
 one_on {Y = Y} f all old new x rest h push = h ∙ moved old ∙ ap (λ l. l ++ map f rest) (sym push)
   where
@@ -43,7 +44,8 @@ went_on seen old new x rest h push = record {
   held = one_on (λ s. s.held) (map (λ s. s.held) seen) old.held.items new.held.items x rest h.held push.held;
 }
 
-pub ended : (seen : List StoreSeen) (parts : Parts) (rest : List StoreSeen) → IsParting seen parts rest → rest ≡ []
+pub ended : (seen : List StoreSeen) (parts : Parts) (rest : List StoreSeen) → IsParting seen parts rest
+    → rest ≡ []
     → ArePartsOf parts seen
 ended seen parts rest h none = record {
   sights = nothing_more (map (λ x. x.sight) seen) parts.sights.items (map (λ x. x.sight) rest) h.sights

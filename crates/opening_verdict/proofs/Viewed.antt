@@ -1,6 +1,8 @@
 -- What stores say of themselves is what is right of them: each word of opening at sights is that at views.
-use Rattle.std.specs.Prelude.{◌≡◌, ◌⊎◌, ℕ, zero, suc, ◌+◌, ◌<◌, ◌≤◌, Bool, true, false, cond, ◌||◌, ◌&&◌, ◌==◌}
-use Rattle.std.specs.Prelude.{nat_le, List, [], ◌∷◌, map, filter, find, length, refl, Option, Some, None, option_map}
+use Rattle.std.specs.Prelude.{◌≡◌, ◌⊎◌, ℕ, zero, suc, ◌+◌, ◌<◌, ◌≤◌, Bool, true, false}
+use Rattle.std.specs.Prelude.{cond, ◌||◌, ◌&&◌, ◌==◌}
+use Rattle.std.specs.Prelude.{nat_le, List, [], ◌∷◌, map, filter, find, length, refl, Option, Some, None}
+use Rattle.std.specs.Prelude.{option_map}
 use Rattle.std.specs.Prelude.{slice_get, count_by, Contains}
 use Rattle.std.proofs.Common.{sym, ap, subst, ◌∙◌, arith, inl, inr}
 use Rattle.std.proofs.lemmas.Bool.{true≢false, false≢true}
@@ -77,7 +79,8 @@ at_place [] k x h = absurd (None≢Some h)
 at_place (y ∷ ys) zero x h = inl (some_same h)
 at_place (y ∷ ys) (suc k) x h = inr (at_place ys k x h)
 
-option_from : {X Y : Type 0} (f : X → Y) (o : Option X) (y : Y) → option_map f o ≡ Some y → (x : X) × (o ≡ Some x)
+option_from : {X Y : Type 0} (f : X → Y) (o : Option X) (y : Y) → option_map f o ≡ Some y → (x : X)
+    × (o ≡ Some x)
     × (f x ≡ y)
 option_from f None y h = absurd (None≢Some h)
 option_from f (Some x) y h = (x, refl, some_same h)
@@ -86,12 +89,14 @@ pub mapped_at : {X Y : Type 0} (f : X → Y) (xs : List X) (k : ℕ) (x : X) →
     → slice_get (map f xs) k ≡ Some (f x)
 mapped_at f xs k x h = slice_get-map f xs k ∙ ap (option_map f) h
 
-pub mapped_from : {X Y : Type 0} (f : X → Y) (xs : List X) (k : ℕ) (y : Y) → slice_get (map f xs) k ≡ Some y → (x : X)
+pub mapped_from : {X Y : Type 0} (f : X → Y) (xs : List X) (k : ℕ) (y : Y) → slice_get (map f xs) k ≡ Some y
+    → (x : X)
     × (slice_get xs k ≡ Some x) × (f x ≡ y)
 mapped_from f xs k y h = option_from f (slice_get xs k) y (sym (slice_get-map f xs k) ∙ h)
 
 -- what is taken is there, and passes
-pub taken_from : {X : Type 0} (t : X → Bool) (xs : List X) (x : X) → In x (filter t xs) → In x xs × (t x ≡ true)
+pub taken_from : {X : Type 0} (t : X → Bool) (xs : List X) (x : X) → In x (filter t xs) → In x xs
+    × (t x ≡ true)
 taken_from t xs x i = All-In (λ y. In y xs × (t y ≡ true)) x (filter t xs)
     (All-taken (λ y. In y xs × (t y ≡ true)) t xs (All-weaker (λ y. In y xs)
     (λ y. t y ≡ true → In y xs × (t y ≡ true)) (λ y j e. (j, e)) xs (In-all xs))) i
@@ -109,11 +114,13 @@ none_is q [] f = refl
 none_is q (x ∷ xs) f = ap (λ b. b || list_any q xs) (f x) ∙ none_is q xs f
 
 headless_out : (k : ℕ) (views : List StoreSight) (v : StoreSight) → v.head ≡ None
-    → model.is_reached StoreSight (λ v. v.head) (λ v. v.claims) (λ v. v.is_formed ≡ true) (λ v. v.is_tied ≡ true)
+    → model.is_reached StoreSight (λ v. v.head) (λ v. v.claims) (λ v. v.is_formed ≡ true)
+    (λ v. v.is_tied ≡ true)
     (λ v. v.frame) (λ v. v.reads_as) k views v ≡ false
 headless_out zero views v none = ap (λ o. option_map_or (λ h. h.depth == 0) o false) none
 headless_out (suc k) views v none =
-    ap (λ b. b || list_any (λ c. model.is_loan_of StoreSight (λ v. v.head) (λ v. v.claims) (λ v. v.is_formed ≡ true)
+    ap (λ b. b || list_any (λ c. model.is_loan_of StoreSight (λ v. v.head) (λ v. v.claims)
+    (λ v. v.is_formed ≡ true)
     (λ v. v.is_tied ≡ true) (λ v. v.frame) (λ v. v.reads_as) c v && is_open_claim
     (model.claims_at StoreSight (λ v. v.head) (λ v. v.claims) (λ v. v.is_formed ≡ true) (λ v. v.is_tied ≡ true)
     (λ v. v.frame) (λ v. v.reads_as) k views) c) (model.claims_at StoreSight (λ v. v.head) (λ v. v.claims)
@@ -173,7 +180,8 @@ module _ (ps : List Pair) where
       read_of_pair head_seen claims_seen Any Any frame_seen nothing_read (λ p. p.seen.sight) (λ p. p.is.head)
       (λ p. p.is.claims) (λ p. p.is.frame) ps (carried.no_archive_fro Pair StoreSight head_of_pair claims_of_pair
       FormedPair TiedPair frame_of_pair read_of_pair (λ v. v.head) (λ v. v.claims) (λ v. v.is_formed ≡ true)
-      (λ v. v.is_tied ≡ true) (λ v. v.frame) (λ v. v.reads_as) (λ p. p.view) (λ p. refl) (λ p. refl) (λ p. refl) ps h)
+      (λ v. v.is_tied ≡ true) (λ v. v.frame) (λ v. v.reads_as) (λ p. p.view) (λ p. refl) (λ p. refl)
+      (λ p. refl) ps h)
 
   pub two_archives_to : sights.TwoArchives sights_of → model.TwoArchives StoreSight (λ v. v.head) (λ v. v.claims)
       (λ v. v.is_formed ≡ true) (λ v. v.is_tied ≡ true) (λ v. v.frame) (λ v. v.reads_as) views_of
@@ -190,16 +198,19 @@ module _ (ps : List Pair) where
       frame_of_pair read_of_pair head_seen claims_seen Any Any frame_seen nothing_read (λ p. p.seen.sight)
       (λ p. p.is.head) (λ p. p.is.claims) (λ p. p.is.frame) ps
       (carried.two_archives_fro Pair StoreSight head_of_pair claims_of_pair FormedPair TiedPair frame_of_pair
-      read_of_pair (λ v. v.head) (λ v. v.claims) (λ v. v.is_formed ≡ true) (λ v. v.is_tied ≡ true) (λ v. v.frame)
+      read_of_pair (λ v. v.head) (λ v. v.claims) (λ v. v.is_formed ≡ true) (λ v. v.is_tied ≡ true)
+      (λ v. v.frame)
       (λ v. v.reads_as) (λ p. p.view) (λ p. refl) (λ p. refl) (λ p. refl) ps h)
 
-  pub one_to : sights.IsOne sights_of → model.IsOne StoreSight (λ v. v.head) (λ v. v.claims) (λ v. v.is_formed ≡ true)
+  pub one_to : sights.IsOne sights_of → model.IsOne StoreSight (λ v. v.head) (λ v. v.claims)
+      (λ v. v.is_formed ≡ true)
       (λ v. v.is_tied ≡ true) (λ v. v.frame) (λ v. v.reads_as) views_of
   one_to h = one_left (count_by (model.is_root StoreSight (λ v. v.head) (λ v. v.claims) (λ v. v.is_formed ≡ true)
       (λ v. v.is_tied ≡ true) (λ v. v.frame) (λ v. v.reads_as)) views_of)
       (λ none. omega (arith, h, no_archive_fro none)) (λ more. omega (arith, h, two_archives_fro more))
 
-  pub counted_to : (test : ℕ → Bool) (id : List ℕ) → model.Counted Sight head_seen claims_seen Any Any frame_seen
+  pub counted_to : (test : ℕ → Bool) (id : List ℕ) → model.Counted Sight head_seen claims_seen Any Any
+      frame_seen
       nothing_read test sights_of id → model.Counted StoreSight (λ v. v.head) (λ v. v.claims)
       (λ v. v.is_formed ≡ true) (λ v. v.is_tied ≡ true) (λ v. v.frame) (λ v. v.reads_as) test views_of id
   counted_to test id h = carried.counted_to Pair StoreSight head_of_pair claims_of_pair FormedPair TiedPair
@@ -216,14 +227,17 @@ module _ (ps : List Pair) where
       read_of_pair head_seen claims_seen Any Any frame_seen nothing_read (λ p. p.seen.sight) (λ p. p.is.head)
       (λ p. p.is.claims) (λ p. p.is.frame) ps test id (carried.counted_fro Pair StoreSight head_of_pair claims_of_pair
       FormedPair TiedPair frame_of_pair read_of_pair (λ v. v.head) (λ v. v.claims) (λ v. v.is_formed ≡ true)
-      (λ v. v.is_tied ≡ true) (λ v. v.frame) (λ v. v.reads_as) (λ p. p.view) (λ p. refl) (λ p. refl) (λ p. refl) ps
+      (λ v. v.is_tied ≡ true) (λ v. v.frame) (λ v. v.reads_as) (λ p. p.view) (λ p. refl) (λ p. refl)
+      (λ p. refl) ps
       test id h)
 
   pub foreign_to : (id : List ℕ) → sights.ForeignFrame sights_of id
-      → model.ForeignFrame StoreSight (λ v. v.head) (λ v. v.claims) (λ v. v.is_formed ≡ true) (λ v. v.is_tied ≡ true)
+      → model.ForeignFrame StoreSight (λ v. v.head) (λ v. v.claims) (λ v. v.is_formed ≡ true)
+      (λ v. v.is_tied ≡ true)
       (λ v. v.frame) (λ v. v.reads_as) views_of id
   foreign_to id h = carried.foreign_to Pair StoreSight head_of_pair claims_of_pair FormedPair TiedPair frame_of_pair
-      read_of_pair (λ v. v.head) (λ v. v.claims) (λ v. v.is_formed ≡ true) (λ v. v.is_tied ≡ true) (λ v. v.frame)
+      read_of_pair (λ v. v.head) (λ v. v.claims) (λ v. v.is_formed ≡ true) (λ v. v.is_tied ≡ true)
+      (λ v. v.frame)
       (λ v. v.reads_as) (λ p. p.view) (λ p. refl) (λ p. refl) (λ p. refl) ps id
       (carried.foreign_fro Pair Sight head_of_pair claims_of_pair FormedPair TiedPair frame_of_pair read_of_pair
       head_seen claims_seen Any Any frame_seen nothing_read (λ p. p.seen.sight) (λ p. p.is.head) (λ p. p.is.claims)
@@ -236,7 +250,8 @@ module _ (ps : List Pair) where
       read_of_pair head_seen claims_seen Any Any frame_seen nothing_read (λ p. p.seen.sight) (λ p. p.is.head)
       (λ p. p.is.claims) (λ p. p.is.frame) ps id (carried.foreign_fro Pair StoreSight head_of_pair claims_of_pair
       FormedPair TiedPair frame_of_pair read_of_pair (λ v. v.head) (λ v. v.claims) (λ v. v.is_formed ≡ true)
-      (λ v. v.is_tied ≡ true) (λ v. v.frame) (λ v. v.reads_as) (λ p. p.view) (λ p. refl) (λ p. refl) (λ p. refl) ps id
+      (λ v. v.is_tied ≡ true) (λ v. v.frame) (λ v. v.reads_as) (λ p. p.view) (λ p. refl) (λ p. refl)
+      (λ p. refl) ps id
       h)
 
   -- which are live
@@ -245,11 +260,13 @@ module _ (ps : List Pair) where
       read_of_pair head_seen claims_seen Any Any frame_seen nothing_read (λ p. p.seen.sight) (λ p. p.is.head)
       (λ p. p.is.claims) (λ p. p.is.frame) ps p ∙ sym (carried.live_store_seen Pair StoreSight head_of_pair
       claims_of_pair FormedPair TiedPair frame_of_pair read_of_pair (λ v. v.head) (λ v. v.claims)
-      (λ v. v.is_formed ≡ true) (λ v. v.is_tied ≡ true) (λ v. v.frame) (λ v. v.reads_as) (λ p. p.view) (λ p. refl)
+      (λ v. v.is_formed ≡ true) (λ v. v.is_tied ≡ true) (λ v. v.frame) (λ v. v.reads_as) (λ p. p.view)
+      (λ p. refl)
       (λ p. refl) (λ p. refl) ps p)
 
   -- a live store that a test does not pass is one that its flag says is not fit
-  module _ (flag : StoreSeen → Bool) (test : StoreSight → Bool) (same : (p : Pair) → flag p.seen ≡ test p.view) where
+  module _ (flag : StoreSeen → Bool) (test : StoreSight → Bool)
+      (same : (p : Pair) → flag p.seen ≡ test p.view) where
     pub unfit_to : (id : List ℕ) → HasUnfit sights_of (map (λ p. flag p.seen) ps) id → (v : StoreSight)
         × Contains (live_views views_of) v × (model.uuid_of StoreSight (λ v. v.head) (λ v. v.claims)
         (λ v. v.is_formed ≡ true) (λ v. v.is_tied ≡ true) (λ v. v.frame) (λ v. v.reads_as) v ≡ id)
@@ -275,7 +292,8 @@ module _ (ps : List Pair) where
         )
 
     pub unfit_fro : (id : List ℕ) (v : StoreSight) → Contains (live_views views_of) v
-        → model.uuid_of StoreSight (λ v. v.head) (λ v. v.claims) (λ v. v.is_formed ≡ true) (λ v. v.is_tied ≡ true)
+        → model.uuid_of StoreSight (λ v. v.head) (λ v. v.claims) (λ v. v.is_formed ≡ true)
+        (λ v. v.is_tied ≡ true)
         (λ v. v.frame) (λ v. v.reads_as) v ≡ id → (test v ≡ true → ⊥)
         → HasUnfit sights_of (map (λ p. flag p.seen) ps) id
     unfit_fro id v there named fails =
@@ -288,7 +306,8 @@ module _ (ps : List Pair) where
         let h : (h : Head) × (v.head ≡ Some h) = live_headed views_of v i.1 in
         let g : (g : StoreHead) × (p.0.seen.sight.head ≡ Some g) × (head_said g ≡ h.0) =
         head_from p.0 h.0 (ap (λ x. x.head) p.2 ∙ h.1) in
-        let sight_at : slice_get sights_of k.0 ≡ Some p.0.seen.sight = mapped_at (λ p. p.seen.sight) ps k.0 p.0 k.1 in
+        let sight_at : slice_get sights_of k.0 ≡ Some p.0.seen.sight =
+        mapped_at (λ p. p.seen.sight) ps k.0 p.0 k.1 in
         let down : flag p.0.seen ≡ false = is_false (flag p.0.seen)
         (λ up. fails (ap test (sym p.2) ∙ sym (same p.0) ∙ up)) in (
           k.0,

@@ -66,7 +66,8 @@ module _ (seen : List StoreSeen) (views : List StoreSight) (are : AreSeenAs seen
         (subst (λ x. IsWorldOf (arranged sight_key (taken (flags_of (sights_of ps)) x)) (world ps checked))
         (sym h_same) (is_world ps checked))
 
-    pub last_of : (f : RecoverFault) → ((w : World) → IsWorldOf (arranged sight_key (taken live hs)) w → IsLastOf w f)
+    pub last_of : (f : RecoverFault) → ((w : World) → IsWorldOf (arranged sight_key (taken live hs)) w
+        → IsLastOf w f)
         → IsFaultOf views f
     last_of f h = subst (λ vs. IsFaultOf vs f) v_same (last_fault ps checked f (h (world ps checked) is_theirs))
 

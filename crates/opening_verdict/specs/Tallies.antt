@@ -1,6 +1,7 @@
 -- What is kept of stores, told by what they say of themselves, by which are live and by how much each holds, place by
 -- place. Profile.
-use Rattle.std.specs.Prelude.{◌≡◌, ◌⊎◌, ◌<◌, ◌^◌, ℕ, Bool, true, List, length, Option, Some, None, MatchOption}
+use Rattle.std.specs.Prelude.{◌≡◌, ◌⊎◌, ◌<◌, ◌^◌, ℕ, Bool, true, List, length, Option, Some}
+use Rattle.std.specs.Prelude.{None, MatchOption}
 use Rattle.std.specs.Prelude.{slice_get}
 use Rattle.std.specs.List.{AllZip}
 use Rattle.std.specs.Option.{SomeIff}
@@ -37,7 +38,8 @@ pub record AreKept (ledger : List Receipt) (sights : List Sight) (live : List Bo
     (kept : List (Option Kept)) : Type 0 where
   pub long : length kept ≡ length sights
   pub each : (i : ℕ) (s : Sight) (b : Bool) (o : Option Sums) (k : Option Kept) → slice_get sights i ≡ Some s
-      → slice_get live i ≡ Some b → slice_get sums i ≡ Some o → slice_get kept i ≡ Some k → IsKeptAt ledger s b o k
+      → slice_get live i ≡ Some b → slice_get sums i ≡ Some o → slice_get kept i ≡ Some k
+      → IsKeptAt ledger s b o k
 
 -- some store is live, and its package has no sums
 abbrev pub IsSomeUnkept : List Bool → List (Option Sums) → Type 0

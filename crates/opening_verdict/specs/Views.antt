@@ -1,5 +1,6 @@
 -- What stores come to, by the model's words of opening at what is right of each store. Profile.
-use Rattle.std.specs.Prelude.{◌≡◌, ◌≤◌, ◌^◌, ⊤, ℕ, Bool, true, false, List, length, Option, MatchOption, Contains}
+use Rattle.std.specs.Prelude.{◌≡◌, ◌≤◌, ◌^◌, ⊤, ℕ, Bool, true, false, List, length, Option}
+use Rattle.std.specs.Prelude.{MatchOption, Contains}
 use Rattle.std.specs.List.{AllZip}
 use Rattle.sheet_types.specs.Answers.{sums_held}
 use Rattle.sheet_types.specs.Custody.{ticket}
@@ -41,11 +42,13 @@ is_live_view = model.is_live_store StoreSight (λ v. v.head) (λ v. v.claims) (�
     (λ v. v.is_tied ≡ true) (λ v. v.frame) (λ v. v.reads_as)
 
 abbrev pub live_views : List StoreSight → List StoreSight
-live_views = model.live StoreSight (λ v. v.head) (λ v. v.claims) (λ v. v.is_formed ≡ true) (λ v. v.is_tied ≡ true)
+live_views = model.live StoreSight (λ v. v.head) (λ v. v.claims) (λ v. v.is_formed ≡ true)
+    (λ v. v.is_tied ≡ true)
     (λ v. v.frame) (λ v. v.reads_as)
 
 abbrev pub AreInOrder : List StoreSight → Type 0
-AreInOrder = model.InOrder StoreSight (λ v. v.head) (λ v. v.claims) (λ v. v.is_formed ≡ true) (λ v. v.is_tied ≡ true)
+AreInOrder = model.InOrder StoreSight (λ v. v.head) (λ v. v.claims) (λ v. v.is_formed ≡ true)
+    (λ v. v.is_tied ≡ true)
     (λ v. v.frame) (λ v. v.reads_as)
 
 -- the package of a live store holds 2^64 bytes or more
@@ -61,7 +64,8 @@ IsFaultOf views TwoArchives = model.TwoArchives StoreSight (λ v. v.head) (λ v.
     (λ v. v.is_tied ≡ true) (λ v. v.frame) (λ v. v.reads_as) views
 IsFaultOf views (NotAPackage id) = model.IsNotAPackage StoreSight (λ v. v.head) (λ v. v.claims)
     (λ v. v.is_formed ≡ true) (λ v. v.is_tied ≡ true) (λ v. v.frame) (λ v. v.reads_as) views id
-IsFaultOf views (TwoCopies id) = model.IsTwoCopies StoreSight (λ v. v.head) (λ v. v.claims) (λ v. v.is_formed ≡ true)
+IsFaultOf views (TwoCopies id) = model.IsTwoCopies StoreSight (λ v. v.head) (λ v. v.claims)
+    (λ v. v.is_formed ≡ true)
     (λ v. v.is_tied ≡ true) (λ v. v.frame) (λ v. v.reads_as) views id
 IsFaultOf views (MissingPackage id) = model.IsMissingPackage StoreSight (λ v. v.head) (λ v. v.claims)
     (λ v. v.is_formed ≡ true) (λ v. v.is_tied ≡ true) (λ v. v.frame) (λ v. v.reads_as) views id
@@ -69,7 +73,8 @@ IsFaultOf views (ForeignFrame id) = model.IsForeignFrame StoreSight (λ v. v.hea
     (λ v. v.is_formed ≡ true) (λ v. v.is_tied ≡ true) (λ v. v.frame) (λ v. v.reads_as) views id
 IsFaultOf views (Dangling id) = model.IsDangling StoreSight (λ v. v.head) (λ v. v.claims) (λ v. v.is_formed ≡ true)
     (λ v. v.is_tied ≡ true) (λ v. v.frame) (λ v. v.reads_as) views id
-IsFaultOf views OutOfAccount = model.IsOutOfAccount StoreSight (λ v. v.head) (λ v. v.claims) (λ v. v.is_formed ≡ true)
+IsFaultOf views OutOfAccount = model.IsOutOfAccount StoreSight (λ v. v.head) (λ v. v.claims)
+    (λ v. v.is_formed ≡ true)
     (λ v. v.is_tied ≡ true) (λ v. v.frame) (λ v. v.reads_as) views
 IsFaultOf views (Altered id) = model.IsAltered StoreSight (λ v. v.head) (λ v. v.claims) (λ v. v.is_formed ≡ true)
     (λ v. v.is_tied ≡ true) (λ v. v.frame) (λ v. v.reads_as) views id

@@ -25,7 +25,8 @@ pub(crate) fn ledger_in_account(
     live: &[bool],
 ) -> Result<Vec<Receipt>, RecoverFault>
     requires { length live.now ≡ length held.items }
-    ensures ledger { IfOk result (λ ledger. (w : World) → IsWorldOf (arranged sight_key (taken live.now held.items)) w
+    ensures ledger { IfOk result (λ ledger. (w : World) → IsWorldOf
+        (arranged sight_key (taken live.now held.items)) w
         → IsInAccount ledger.items w) }
     ensures fault { IfErr result (λ fault. (w : World) → IsWorldOf (arranged sight_key (taken live.now held.items)) w
         → IsLastOf w fault) }

@@ -141,7 +141,8 @@ fn check_tied(
     requires live { live.now ≡ flags_of sights.now }
     ensures tied { IfOk result (λ _. IsNever (HasUnfit sights.now tied.now)) }
     ensures fault { IfErr result (λ fault. (formed : List Bool) → IsOne sights.now
-        → IsNever (HasUnfit sights.now formed) → IsNever (TwoCopies sights.now) → IsNever (MissingPackage sights.now)
+        → IsNever (HasUnfit sights.now formed) → IsNever (TwoCopies sights.now)
+        → IsNever (MissingPackage sights.now)
         → IsNever (ForeignFrame sights.now) → IsFirstOf sights.now formed tied.now fault) }
 {
     match least_unfit(alloc, sights, live, tied)? {

@@ -1,5 +1,6 @@
 -- Rows in order come in one after the other, each behind those before it.
-use Rattle.std.proofs.Common.{◌≡◌, ℕ, suc, zero, ◌+◌, ◌<◌, List, [], ◌∷◌, ◌++◌, length, get_or, take, true, false}
+use Rattle.std.proofs.Common.{◌≡◌, ℕ, suc, zero, ◌+◌, ◌<◌, List, [], ◌∷◌, ◌++◌, length}
+use Rattle.std.proofs.Common.{get_or, take, true, false}
 use Rattle.std.proofs.Common.{refl, sym, ap, subst, ◌∙◌, arith}
 use Rattle.std.specs.List.{AllByRecursion, AllAdjacentBelow}
 use Rattle.std.proofs.lemmas.List.{take_more}
@@ -31,7 +32,8 @@ module _ {X : Type 0} (key : X → List ℕ) where
       let first : is_before (key x) (key y) ≡ true = h 0 x (omega arith) in
       ((first, All-weaker _ _ (λ z later. before_trans (key x) (key y) (key z) first later) ys rest.0), rest)
 
-  each_at : (P : X → Type 0) (xs : List X) (k : ℕ) (d : X) → AllByRecursion P xs → k < length xs → P (get_or xs k d)
+  each_at : (P : X → Type 0) (xs : List X) (k : ℕ) (d : X) → AllByRecursion P xs → k < length xs
+      → P (get_or xs k d)
   each_at P [] k d h less = absurd (omega (arith, less))
   each_at P (x ∷ xs) zero d h less = h.0
   each_at P (x ∷ xs) (suc k) d h less = each_at P xs k d h.1 (omega (arith, less))
@@ -61,7 +63,8 @@ module _ {R : Type 0} {list : Listed R} (is : IsListed list) where
       → Steps (λ _. OnTables (ListBecomes list [] (take (k + 1) xs))) old new r
   comes_next xs k d x order less same first step =
       let before : AllByRecursion (λ y. is_before (list.shape.key y) (list.shape.key x) ≡ true) (take k xs) =
-      subst (λ z. AllByRecursion (λ y. is_before (list.shape.key y) (list.shape.key z) ≡ true) (take k xs)) (sym same)
+      subst (λ z. AllByRecursion (λ y. is_before (list.shape.key y) (list.shape.key z) ≡ true) (take k xs))
+      (sym same)
       (earlier list.shape.key xs k d order less) in
       let whole : put list.shape.key x (take k xs) ≡ take (k + 1) xs =
       put_last list.shape.key x (take k xs) before ∙ sym

@@ -22,8 +22,7 @@ is_copy f head x made filled last holds fills same keyed =
       rows = refl;
       tiles_media = refl;
       rows_media = refl;
-      identities =
-          refl;
+      identities = refl;
       receipts = refl;
       moved = refl;
     }) in

@@ -28,7 +28,8 @@ module _ {R : Type 0} (list : Listed R) (xs : List R) {ys : List R} (same : ys �
 
   pub fills_then : (filled : Tables → Tables) {old mid new : State} {r : Done}
       → ((t : Tables) → AreEmpty t → list.rows (filled t) ≡ [])
-      → Steps (λ _. OnTables (Becomes filled)) old mid done → Steps (λ _. OnTables (ListBecomes list [] ys)) mid new r
+      → Steps (λ _. OnTables (Becomes filled)) old mid done → Steps (λ _. OnTables (ListBecomes list [] ys)) mid
+      new r
       → Steps (λ _. OnTables (Becomes (λ t. list.with_rows xs (filled t)))) old new r
   fills_then filled {old} {mid} {new} none first next =
       steps_weaker (λ _. OnTables (Becomes (λ t. list.with_rows xs (filled t))))

@@ -12,7 +12,8 @@ use Rattle.store_sql.specs.Writing.{AreKeyed}
 use Rattle.store_sql.proofs.Schemas.{sound_alone}
 
 -- trees have one schema
-pub same_database : (old new : Database) → IsDatabase old → IsDatabase new → new.trees ≡ old.trees → new ≡ old
+pub same_database : (old new : Database) → IsDatabase old → IsDatabase new → new.trees ≡ old.trees
+    → new ≡ old
 same_database old new one two same =
     let schemas : new.schema ≡ old.schema = sound_alone new.schema old.schema old.trees
     (subst (IsSound new.schema) same two) one in

@@ -39,12 +39,10 @@ with_rows x t = record t {
   tiles = x.tiles.items;
   media = x.media.items;
   rows = x.rows.items;
-  tiles_media =
-      x.tiles_media.items;
+  tiles_media = x.tiles_media.items;
   rows_media = x.rows_media.items;
   identities = x.identities.items;
-  receipts =
-      x.receipts.items;
+  receipts = x.receipts.items;
   moved = x.moved.items;
 }
 

@@ -205,8 +205,7 @@ no_rows_formed : {R : Type 0} (shape : Shape R) (db : Database) → IsPlaced db.
     → stored_rows shape db ≡ [] → IsFormed shape db
 no_rows_formed shape db placed none = record {
   placed = placed;
-  keyed =
-      rw none (record { ints = refl; rises = tt });
+  keyed = rw none (record { ints = refl; rises = tt });
   stored = rw none tt;
 }
 

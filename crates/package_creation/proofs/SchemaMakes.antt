@@ -1,6 +1,8 @@
 -- Statements that make a schema, one after the other.
-use Rattle.std.proofs.Common.{◌≡◌, inl, inr, ℕ, ◌+◌, ◌<◌, List, [], ◌∷◌, drop, length, get_or, map, true, Ok, Err}
-use Rattle.std.proofs.Common.{Result, IfErr, IsErrAnd, IsTrue, IsUtf8, ◌≤◌, refl, sym, ap, subst, ◌∙◌, arith}
+use Rattle.std.proofs.Common.{◌≡◌, inl, inr, ℕ, ◌+◌, ◌<◌, List, [], ◌∷◌, drop, length, get_or}
+use Rattle.std.proofs.Common.{map, true, Ok, Err}
+use Rattle.std.proofs.Common.{Result, IfErr, IsErrAnd, IsTrue, IsUtf8, ◌≤◌, refl, sym, ap, subst, ◌∙◌}
+use Rattle.std.proofs.Common.{arith}
 use Rattle.std.proofs.lemmas.List.{drop_more, drop-map}
 use Rattle.std.proofs.lemmas.Bool.{false_from_ne_true, both_ways}
 use Rattle.sqlite_trees.specs.declared.error.StoreError.{StoreError}
@@ -69,7 +71,8 @@ pub record Along (texts : List (List ℕ)) (done : ℕ) (old now : State) : Type
   pub shown : 0 < done → HasCleanDisk now → old.in_transaction ≡ true → Shows old now now.now old.committed true
   pub left : HasCleanDisk now → old.in_transaction ≡ true → (first last : Schema) → ExtendsBy texts first last
       → IsBlank first old.now
-      → (mid : Schema) × IsBlank mid now.now × ExtendsBy (drop done texts) mid last × (0 < done → IsDatabase now.now)
+      → (mid : Schema) × IsBlank mid now.now × ExtendsBy (drop done texts) mid last
+      × (0 < done → IsDatabase now.now)
 
 shows_on : (old mid new : State) → KeepsCommit old mid → Shows mid new new.now mid.committed true
     → Shows old new new.now old.committed true

@@ -52,7 +52,8 @@ pub mod IndexByXy
 
 abbrev pub texts : List (List ℕ)
 texts = GpkgSpatialRefSys_text ∷ GpkgContents_text ∷ GpkgTileMatrixSet_text ∷ GpkgTileMatrix_text
-    ∷ GpkgextRelations_text ∷ SheetTiles_text ∷ SheetMedia_text ∷ SheetRows_text ∷ TilesMedia_text ∷ RowsMedia_text
+    ∷ GpkgextRelations_text ∷ SheetTiles_text ∷ SheetMedia_text ∷ SheetRows_text ∷ TilesMedia_text
+    ∷ RowsMedia_text
     ∷ RowsTiles_text ∷ SheetPackage_text ∷ SheetIdentity_text ∷ SheetReceipts_text ∷ SheetItems_text
     ∷ IndexItemsByBase_text ∷ IndexReceiptsByTarget_text ∷ IndexByTilesMedia_text ∷ IndexByRowsMedia_text
     ∷ IndexByRowsTiles_text ∷ IndexByXy_text ∷ []

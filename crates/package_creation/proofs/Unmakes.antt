@@ -21,8 +21,7 @@ showing s db = record s {
   committed = db;
   in_transaction = false;
   is_open = true;
-  may_leave =
-      λ trees. trees ≡ db.trees;
+  may_leave = λ trees. trees ≡ db.trees;
 }
 
 module _ (f : Frame) (uuid : List ℕ) (parent : Option (List ℕ)) (depth loan : ℕ) (created : List ℕ)
@@ -34,8 +33,7 @@ module _ (f : Frame) (uuid : List ℕ) (parent : Option (List ℕ)) (depth loan 
   reads_new s db moment it =
       let holds : Holds (showing s db) db = record {
         is_open = refl;
-        rests =
-            record { autocommit = refl; settled = λ opened. refl };
+        rests = record { autocommit = refl; settled = λ opened. refl };
         now_is = refl;
         left = λ trees same. same;
       } in

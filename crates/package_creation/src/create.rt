@@ -24,8 +24,8 @@ use std::alloc::Global;
 use uuid::Uuid;
 
 /// What the head of a package says (profile): its UUID, its parent (none for the archive), how many
-/// levels it is below the archive (0 to 4), the
-/// number of its loan (0 for the archive, at most 1,000,000,000), and the moment at which it was made.
+/// levels it is below the archive (0 to 4), the number of its loan (0 for the archive, at most
+/// 1,000,000,000), and the moment at which it was made.
 #[derive(Clone, Copy)]
 pub struct Info<'t> {
     pub package: Uuid,
@@ -109,7 +109,8 @@ pub fn create<S: Alter + Drop>(
         (head_of info.now.package info.now.parent info.now.depth info.now.loan info.now.created.now))
         × Holds (state S.Store made.conn) (state S.Store made.conn).now) }
     ensures rests { IfOk result (λ made. Rests (state S.Store made.conn)) }
-    ensures clean { IfOk result (λ made. HasCleanDisk (state S.Store made.conn) → HasCleanDisk (state S.Store conn)) }
+    ensures clean { IfOk result (λ made. HasCleanDisk (state S.Store made.conn)
+        → HasCleanDisk (state S.Store conn)) }
     ensures failed { IfErr result (λ unmade. Turns {X = Unit {0}} {E = Fault}
         (λ _. Fills (new_tables frame.now (head_of info.now.package info.now.parent info.now.depth info.now.loan
         info.now.created.now))) (state S.Store conn) (state S.Store unmade.conn) (Err unmade.why)) }

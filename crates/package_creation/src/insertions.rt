@@ -7,7 +7,7 @@ ghost use Rattle.package_tables.specs.Calls.{Makes};
 ghost use Rattle.package_tables.specs.Listed.{contents, matrices, matrix_sets, relations, systems};
 ghost use Rattle.package_tables.specs.Changes.{Adds};
 
-use package_tables::fault::{Fault, settled};
+use package_tables::fault::{Fault, drop_count};
 use sqlite::{Alter, Transaction, params};
 
 /// Enters a reference system, under a number that is free.
@@ -24,17 +24,15 @@ pub(crate) fn insert_spatial_ref_sys<S: Alter>(
     ensures wrote { Makes (Adds systems (record {
       srs_name = srs_name.now;
       srs_id = srs_id;
-      organization =
-          organization.now;
+      organization = organization.now;
       organization_coordsys_id = organization_coordsys_id;
-      definition =
-          definition.now;
+      definition = definition.now;
       description = description.now;
     })) (state S.Store tx.old.conn.now)
         (state S.Store tx.new.conn.now) result }
     ensures survives { Survives (state S.Store tx.old.conn.now) (state S.Store tx.new.conn.now) (λ _. ⊥) }
 {
-    settled(tx.execute(
+    drop_count(tx.execute(
         "INSERT INTO gpkg_spatial_ref_sys VALUES (?1, ?2, ?3, ?4, ?5, ?6)",
         params![
             srs_name,
@@ -64,12 +62,10 @@ pub(crate) fn insert_contents<S: Alter>(
     ensures same_reference { tx.new.conn.ghost_name ≡ tx.old.conn.ghost_name }
     ensures wrote { Makes (Adds contents (record {
       table_name = table_name.now;
-      data_type =
-          data_type.now;
+      data_type = data_type.now;
       identifier = identifier.now;
       description = description.now;
-      last_change =
-          last_change.now;
+      last_change = last_change.now;
       min_x = min_x;
       min_y = min_y;
       max_x = max_x;
@@ -79,7 +75,7 @@ pub(crate) fn insert_contents<S: Alter>(
         (state S.Store tx.old.conn.now) (state S.Store tx.new.conn.now) result }
     ensures survives { Survives (state S.Store tx.old.conn.now) (state S.Store tx.new.conn.now) (λ _. ⊥) }
 {
-    settled(tx.execute(
+    drop_count(tx.execute(
         "INSERT INTO gpkg_contents VALUES (?1, ?2, ?3, ?4, ?5, ?6, ?7, ?8, ?9, ?10)",
         params![
             table_name,
@@ -110,8 +106,7 @@ pub(crate) fn insert_tile_matrix_set<S: Alter>(
     ensures wrote { Makes (Adds matrix_sets (record {
       table_name = table_name.now;
       srs_id = srs_id;
-      min_x =
-          min_x;
+      min_x = min_x;
       min_y = min_y;
       max_x = max_x;
       max_y = max_y;
@@ -119,7 +114,7 @@ pub(crate) fn insert_tile_matrix_set<S: Alter>(
         (state S.Store tx.new.conn.now) result }
     ensures survives { Survives (state S.Store tx.old.conn.now) (state S.Store tx.new.conn.now) (λ _. ⊥) }
 {
-    settled(tx.execute(
+    drop_count(tx.execute(
         "INSERT INTO gpkg_tile_matrix_set VALUES (?1, ?2, ?3, ?4, ?5, ?6)",
         params![table_name, srs_id, min_x, min_y, max_x, max_y],
     ))
@@ -140,20 +135,18 @@ pub(crate) fn insert_tile_matrix<S: Alter>(
     ensures same_reference { tx.new.conn.ghost_name ≡ tx.old.conn.ghost_name }
     ensures wrote { Makes (Adds matrices (record {
       table_name = table_name.now;
-      zoom_level =
-          zoom_level;
+      zoom_level = zoom_level;
       matrix_width = matrix_width;
       matrix_height = matrix_height;
       tile_width = tile_width;
-      tile_height =
-          tile_height;
+      tile_height = tile_height;
       pixel_x_size = pixel_x_size;
       pixel_y_size = pixel_y_size;
     })) (state S.Store tx.old.conn.now)
         (state S.Store tx.new.conn.now) result }
     ensures survives { Survives (state S.Store tx.old.conn.now) (state S.Store tx.new.conn.now) (λ _. ⊥) }
 {
-    settled(tx.execute(
+    drop_count(tx.execute(
         "INSERT INTO gpkg_tile_matrix VALUES (?1, ?2, ?3, ?4, ?5, ?6, ?7, ?8)",
         params![
             table_name,
@@ -182,20 +175,17 @@ pub(crate) fn insert_relation<S: Alter>(
     ensures same_reference { tx.new.conn.ghost_name ≡ tx.old.conn.ghost_name }
     ensures wrote { Makes (Adds relations (record {
       id = id;
-      base_table_name =
-          base_table_name.now;
+      base_table_name = base_table_name.now;
       base_primary_column = base_primary_column.now;
-      related_table_name =
-          related_table_name.now;
+      related_table_name = related_table_name.now;
       related_primary_column = related_primary_column.now;
-      relation_name =
-          relation_name.now;
+      relation_name = relation_name.now;
       mapping_table_name = mapping_table_name.now;
     })) (state S.Store tx.old.conn.now)
         (state S.Store tx.new.conn.now) result }
     ensures survives { Survives (state S.Store tx.old.conn.now) (state S.Store tx.new.conn.now) (λ _. ⊥) }
 {
-    settled(tx.execute(
+    drop_count(tx.execute(
         "INSERT INTO gpkgext_relations VALUES (?1, ?2, ?3, ?4, ?5, ?6, ?7)",
         params![
             id,

@@ -146,9 +146,8 @@ fn make_each<S: Alter>(tx: &mut Transaction<'_, S>, texts: &[&str]) -> Result<()
 /// # Errors
 ///
 /// In a database without objects no statement is refused: one fails for want of memory, where the
-/// disk fails, or where the
-/// connection was shut before. The transaction is rolled back then. Where it had ended before the
-/// call, the error is `TransactionState`.
+/// disk fails, or where the connection was shut before. The transaction is rolled back then. Where
+/// it had ended before the call, the error is `TransactionState`.
 pub fn create_schema<S: Alter>(tx: &mut Transaction<'_, S>) -> Result<(), Error>
     ensures same_reference { tx.new.conn.ghost_name ≡ tx.old.conn.ghost_name }
     ensures made { HasCleanDisk (state S.Store tx.new.conn.now) → tx.old.conn.now.in_transaction ≡ true

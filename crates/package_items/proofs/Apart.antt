@@ -1,5 +1,6 @@
 -- Lists whose elements are apart by a test, and are sets by a key.
-use Rattle.std.proofs.Common.{◌≡◌, ℕ, ℤ, List, [], ◌∷◌, ◌++◌, map, Bool, true, false, refl, sym, ap, subst, ◌∙◌, inl}
+use Rattle.std.proofs.Common.{◌≡◌, ℕ, ℤ, List, [], ◌∷◌, ◌++◌, map, Bool, true, false, refl, sym}
+use Rattle.std.proofs.Common.{ap, subst, ◌∙◌, inl}
 use Rattle.std.proofs.Common.{inr, arith}
 use Rattle.std.specs.Prelude.{bytes_eq}
 use Rattle.std.specs.declared.cmp.Ordering.TheVariants.{Less, Equal}
@@ -28,7 +29,8 @@ use Rattle.package_tables.proofs.Reading.{arranged_permutation}
 
 -- elements that are apart by a test have keys of their own
 pub distinct_keys : {X : Type 0} (e : X → X → Bool) (key : X → List ℕ) (P : X → Type 0)
-    → ((x y : X) → P x → P y → e x y ≡ false → bytes_eq (key x) (key y) ≡ false) → (xs : List X) → AllByRecursion P xs
+    → ((x y : X) → P x → P y → e x y ≡ false → bytes_eq (key x) (key y) ≡ false) → (xs : List X)
+    → AllByRecursion P xs
     → IsDistinct e xs → IsDistinct bytes_eq (map key xs)
 unfolding IsDistinct
 distinct_keys e key P so [] h d = tt
@@ -39,7 +41,8 @@ distinct_keys e key P so (x ∷ xs) h d = (
 )
 
 -- and in the order of the key they are a set
-pub set_in_order : {X : Type 0} (key : X → List ℕ) (xs : List X) → IsInOrder key xs → IsDistinct bytes_eq (map key xs)
+pub set_in_order : {X : Type 0} (key : X → List ℕ) (xs : List X) → IsInOrder key xs
+    → IsDistinct bytes_eq (map key xs)
     → IsArranged key xs
 unfolding IsDistinct
 set_in_order key [] o d = tt
@@ -59,7 +62,8 @@ arranged_again key (x ∷ xs) h = ap (put key x) (arranged_again key xs h.1) ∙
     first (y ∷ ys) g = rw (before_not_after (key x) (key y) g.0) refl
 
 -- elements that a test does not tell apart are one
-pub one_by : {X : Type 0} (e : X → X → Bool) → ((x y : X) → e x y ≡ e y x) → (xs : List X) → IsDistinct e xs
+pub one_by : {X : Type 0} (e : X → X → Bool) → ((x y : X) → e x y ≡ e y x) → (xs : List X)
+    → IsDistinct e xs
     → (a b : X) → In a xs → In b xs → e a b ≡ true → a ≡ b
 unfolding IsDistinct
 one_by e flips [] d a b i j h = absurd i
@@ -77,7 +81,8 @@ one_by {X} e flips (x ∷ xs) d a b i j h = elim i [
 
 -- two lists of which no element of the one has a key of the other
 pub distinct_both : {X : Type 0} (key : X → List ℕ) (xs ys : List X) → IsDistinct bytes_eq (map key xs)
-    → IsDistinct bytes_eq (map key ys) → AllByRecursion (λ x. AllByRecursion (λ y. bytes_eq (key x) (key y) ≡ false)
+    → IsDistinct bytes_eq (map key ys) → AllByRecursion (λ x. AllByRecursion
+    (λ y. bytes_eq (key x) (key y) ≡ false)
     ys) xs → IsDistinct bytes_eq (map key (xs ++ ys))
 unfolding IsDistinct
 distinct_both key [] ys d e h = e

@@ -1,5 +1,6 @@
 -- Answers of yes or no from those of several calls.
-use Rattle.std.proofs.Common.{◌≡◌, ℕ, ◌+◌, ◌<◌, List, length, take, get_or, Bool, true, false, Result, Ok, Err}
+use Rattle.std.proofs.Common.{◌≡◌, ℕ, ◌+◌, ◌<◌, List, length, take, get_or, Bool, true, false, Result}
+use Rattle.std.proofs.Common.{Ok, Err}
 use Rattle.std.proofs.Common.{IsTrue, refl, sym, subst}
 use Rattle.std.specs.Prelude.{◌&&◌, IsPermutation}
 use Rattle.std.specs.List.{AllByRecursion}
@@ -38,7 +39,8 @@ says_no {P = P} {Q = Q} is looks so = tells (λ t. Decides (Q t)) (looked (λ t.
 
 -- and no to a part after others
 pub says_no_then : {E F : Type 0} {Fact P Q : Tables → Type 0} {a b c : State} {r : Result Bool E} → Looked Fact a b
-    → r ≡ Ok false → Looks {X = Bool} {E = E} (Answers (λ t. Decides (P t))) b c r → ((t : Tables) → Q t → P t)
+    → r ≡ Ok false → Looks {X = Bool} {E = E} (Answers (λ t. Decides (P t))) b c r
+    → ((t : Tables) → Q t → P t)
     → Looks {X = Bool} {E = F} (Answers (λ t. Decides (Q t))) a c (Ok false)
 says_no_then {P = P} {Q = Q} first is looks so = tells (λ t. Decides (Q t))
     (looked_then (λ t. Decides (P t)) first is looks) (λ t h q. h.1 (so t q))
@@ -53,7 +55,8 @@ says_last {P = P} {Q = Q} (Ok x) first next to fro = tells (λ t. Decides (Q t))
 says_last (Err e) first next to fro = fails (Err e) refl (stays_then first.stays (looks_stays next))
 
 -- what calls that went on have found, where the last left the store open
-pub goes_tell : {X E : Type 0} (Answer : Tables → X → Type 0) {a c : State} {y : X} → GoesOn (λ t. Answer t y) a c
+pub goes_tell : {X E : Type 0} (Answer : Tables → X → Type 0) {a c : State} {y : X}
+    → GoesOn (λ t. Answer t y) a c
     → (HasCleanDisk c → IsTrue c.is_open) → Looks {X = X} {E = E} (Answers Answer) a c (Ok y)
 goes_tell Answer it open' = record {
   rests = it.stays.rests;
@@ -64,7 +67,8 @@ goes_tell Answer it open' = record {
 }
 
 -- in a formed database no two rows of a user table have one number
-pub with_numbers : {Fact : Tables → Type 0} {a c : State} → GoesOn (λ t. AreNumbered t → Fact t) a c → GoesOn Fact a c
+pub with_numbers : {Fact : Tables → Type 0} {a c : State} → GoesOn (λ t. AreNumbered t → Fact t) a c
+    → GoesOn Fact a c
 with_numbers {a = a} it = record {
   stays = it.stays;
   told = λ clean is_open. let d =

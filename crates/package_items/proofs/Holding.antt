@@ -1,5 +1,6 @@
 -- Rows that are in range, tied and unique are those of the items and links of a package.
-use Rattle.std.proofs.Common.{◌≡◌, ℤ, pos, List, [], ◌++◌, map, true, false, cond, refl, sym, ap, ◌∙◌, arith}
+use Rattle.std.proofs.Common.{◌≡◌, ℤ, pos, List, [], ◌++◌, map, true, false, cond, refl, sym, ap}
+use Rattle.std.proofs.Common.{◌∙◌, arith}
 use Rattle.std.specs.Prelude.{bytes_eq, unsigned_abs, flat_map, ◌==◌, not, int_le}
 use Rattle.std.specs.List.{AllByRecursion, IsDistinct, list_any, list_all}
 use Rattle.std.specs.Ordering.{int_eq}
@@ -120,7 +121,8 @@ module _ (f : Frame) (t : Tables) (good : is_good_frame f ≡ true) (listed : Ar
     content_here : (n : Numbered) → In n numbered → HasContent t n.number n.item.content
     content_here n i = (All-In (IsHere t) n numbered here i).content
 
-    says_items : SaysItems numbered (arranged item_key (map (λ n. n.item) numbered)) t.tiles t.media t.rows t.identities
+    says_items : SaysItems numbered (arranged item_key (map (λ n. n.item) numbered)) t.tiles t.media t.rows
+        t.identities
     says_items = record {
       numbers = numbers;
       items = refl;
@@ -179,7 +181,8 @@ module _ (f : Frame) (t : Tables) (good : is_good_frame f ≡ true) (listed : Ar
         (pairs_apart m)
 
     apart_between : (m k : Mapping) → mapping_is m k ≡ false
-        → AllByRecursion (λ x. AllByRecursion (λ y. bytes_eq (link_key x) (link_key y) ≡ false) (made k).0) (made m).0
+        → AllByRecursion (λ x. AllByRecursion (λ y. bytes_eq (link_key x) (link_key y) ≡ false) (made k).0)
+        (made m).0
     apart_between m k two = others_apart t numbered rows numbers tied m k two (made m).0 (made k).0 (made m).2
         (made k).2
 
@@ -202,7 +205,8 @@ module _ (f : Frame) (t : Tables) (good : is_good_frame f ≡ true) (listed : Ar
         (flat_map-append (rows_in m numbered) (made TilesMedia).0 (made RowsMedia).0)
         ∙ (λ n. (part TilesMedia n ++ part RowsMedia n) ++ part RowsTiles n)
       where
-        part : (k : Mapping) → flat_map (rows_in m numbered) (made k).0 ≡ cond (mapping_is k m) (mapping_rows k t) []
+        part : (k : Mapping) → flat_map (rows_in m numbered) (made k).0
+            ≡ cond (mapping_is k m) (mapping_rows k t) []
         part k = rows_of_links t numbered rows numbers tied m k (made k).0 (made k).2
             ∙ ap (λ l. cond (mapping_is k m) l []) (made k).1
 
@@ -220,8 +224,7 @@ module _ (f : Frame) (t : Tables) (good : is_good_frame f ≡ true) (listed : Ar
     says_links = record {
       distinct_links = linked_apart;
       links = refl;
-      tiles_media =
-          says_pairs TilesMedia;
+      tiles_media = says_pairs TilesMedia;
       rows_media = says_pairs RowsMedia;
       rows_tiles = says_pairs RowsTiles;
     }

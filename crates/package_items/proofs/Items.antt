@@ -1,5 +1,6 @@
 -- The rows of a user table are those of the items of its kind.
-use Rattle.std.proofs.Common.{◌≡◌, ℕ, ℤ, List, [], ◌∷◌, ◌++◌, map, Bool, true, false, refl, sym, ap, subst, ◌∙◌, inl}
+use Rattle.std.proofs.Common.{◌≡◌, ℕ, ℤ, List, [], ◌∷◌, ◌++◌, map, Bool, true, false, refl, sym}
+use Rattle.std.proofs.Common.{ap, subst, ◌∙◌, inl}
 use Rattle.std.proofs.Common.{inr, arith}
 use Rattle.std.specs.Prelude.{bytes_eq, unsigned_abs, flat_map}
 use Rattle.std.specs.List.{AllByRecursion, IsDistinct}
@@ -48,7 +49,8 @@ module _ {R : Type 0} (kind : MovedKind) (rows : ℤ → Content → List R) (id
           let numbers : unsigned_abs (id r) ≡ unsigned_abs (id s) = cc in
           let left : kind_number kind ≡ kind_number (kind_of n.item.content) = eqb-true _ _ mine in
           let right : kind_number kind ≡ kind_number (kind_of m.item.content) = eqb-true _ _ theirs in
-          let kinds : kind_number (kind_of n.item.content) ≡ kind_number (kind_of m.item.content) = sym left ∙ right in
+          let kinds : kind_number (kind_of n.item.content) ≡ kind_number (kind_of m.item.content) =
+          sym left ∙ right in
           let places : unsigned_abs n.number ≡ unsigned_abs m.number =
           ap unsigned_abs (sym number) ∙ numbers ∙ ap unsigned_abs at in
           let both : place_in_tables n ≡ place_in_tables m = λ i. kinds i ∷ places i ∷ [] in
@@ -87,7 +89,8 @@ module _ {R : Type 0} (kind : MovedKind) (rows : ℤ → Content → List R) (id
   pub table_is : (numbered : List Numbered) (table : List R) → IsArranged key table
       → IsDistinct (λ a b. int_eq (id a) (id b)) table → IsDistinct bytes_eq (map place_in_tables numbered)
       → ((n : Numbered) → In n numbered → (x : R) → In x (rows_of n) → In x table)
-      → ((x : R) → In x table → (n : Numbered) × In n numbered × (kind_is kind (kind_of n.item.content) ≡ true)
+      → ((x : R) → In x table → (n : Numbered) × In n numbered
+      × (kind_is kind (kind_of n.item.content) ≡ true)
       × (n.number ≡ id x))
       → table ≡ arranged key (flat_map rows_of numbered)
   table_is numbered table set ids places held named = same_list key table (arranged key (flat_map rows_of numbered))
@@ -131,4 +134,5 @@ pub attributes_here : (t : Tables) (number : ℤ) (c : Content) → HasContent t
     → In x (attribute_rows number c) → In x t.rows
 attributes_here t number (Tile zoom column row bytes) h x i = absurd i
 attributes_here t number (Media content_type bytes) h x i = absurd i
-attributes_here t number (Row x y code label) h r i = elim i [ inl e ↦ subst (λ v. In v t.rows) e h | inr j ↦ absurd j ]
+attributes_here t number (Row x y code label) h r i = elim i
+    [ inl e ↦ subst (λ v. In v t.rows) e h | inr j ↦ absurd j ]

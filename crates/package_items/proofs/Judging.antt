@@ -14,7 +14,8 @@ use Rattle.package_items.proofs.Keyed.{rows_decided, names_decided, pairs_decide
 use Rattle.package_items.proofs.Tying.{all_tied, tied_rows, tied_pairs}
 
 -- the same of equal values
-pub at_two : {A B : Type 0} (P : A → B → Type 0) {a a' : A} {b b' : B} → a ≡ a' → b ≡ b' → P a b → P a' b'
+pub at_two : {A B : Type 0} (P : A → B → Type 0) {a a' : A} {b b' : B} → a ≡ a' → b ≡ b' → P a b
+    → P a' b'
 at_two P {a} {a'} {b} {b'} e f h = subst (P a') f (subst (λ x. P x b) e h)
 
 abbrev pub AreAmong : List (ℤ × ℤ) → List (ℤ × ℤ) → Type 0

@@ -1,5 +1,6 @@
 -- What the keys of tables tell of identities, rows and mapping rows.
-use Rattle.std.proofs.Common.{◌≡◌, ℤ, pos, List, [], ◌∷◌, ◌++◌, map, Bool, true, false, refl, sym, ap, ◌∙◌}
+use Rattle.std.proofs.Common.{◌≡◌, ℤ, pos, List, [], ◌∷◌, ◌++◌, map, Bool, true, false, refl, sym}
+use Rattle.std.proofs.Common.{ap, ◌∙◌}
 use Rattle.std.specs.Prelude.{◌&&◌, ◌||◌, IsPermutation}
 use Rattle.std.specs.List.{AllByRecursion, list_any}
 use Rattle.std.specs.Ordering.{int_cmp, int_eq, eq_by_cmp}
@@ -21,11 +22,13 @@ use Rattle.package_items.proofs.Apart.{int_flips}
 use Rattle.package_items.proofs.Deciding.{decides_same, decides_moved}
 use Rattle.package_items.proofs.Keys.{is_both}
 
-any_same : {X : Type 0} (p q : X → Bool) → ((x : X) → p x ≡ q x) → (xs : List X) → list_any p xs ≡ list_any q xs
+any_same : {X : Type 0} (p q : X → Bool) → ((x : X) → p x ≡ q x) → (xs : List X)
+    → list_any p xs ≡ list_any q xs
 any_same p q e [] = refl
 any_same p q e (x ∷ xs) = λ n. e x n || any_same p q e xs n
 
-any_under : {X : Type 0} (b : Bool) (q : X → Bool) (xs : List X) → list_any (λ x. b && q x) xs ≡ (b && list_any q xs)
+any_under : {X : Type 0} (b : Bool) (q : X → Bool) (xs : List X)
+    → list_any (λ x. b && q x) xs ≡ (b && list_any q xs)
 any_under b q [] = none b
   where
     none : (b : Bool) → false ≡ (b && false)
@@ -34,14 +37,16 @@ any_under b q [] = none b
 any_under true q (x ∷ xs) = ap (λ v. q x || v) (any_under true q xs)
 any_under false q (x ∷ xs) = any_under false q xs
 
-pub map_again : {X Y Z : Type 0} (f : Y → Z) (g : X → Y) (xs : List X) → map f (map g xs) ≡ map (λ x. f (g x)) xs
+pub map_again : {X Y Z : Type 0} (f : Y → Z) (g : X → Y) (xs : List X)
+    → map f (map g xs) ≡ map (λ x. f (g x)) xs
 map_again f g [] = refl
 map_again f g (x ∷ xs) = ap (λ l. f (g x) ∷ l) (map_again f g xs)
 
 -- ---- one key
 
 module _ (t : Tables) where
-  pub name_taken : (names : List (ℤ × ℤ)) → IsPermutation (map name_key t.identities) names → (key : ℤ × ℤ)
+  pub name_taken : (names : List (ℤ × ℤ)) → IsPermutation (map name_key t.identities) names
+      → (key : ℤ × ℤ)
       → has_key names key ≡ is_taken key.0 key.1 t
   name_taken names moves key =
       sym (list_any-IsPermutation (λ k. eq_by_cmp key_cmp k key) (map name_key t.identities) names moves)
@@ -87,7 +92,8 @@ module _ (t : Tables) where
   module _ (names : List (ℤ × ℤ)) (known : IsPermutation (map name_key t.identities) names) where
     pub rows_decided : (rows : List (ℤ × ℤ)) → IsPermutation (row_keys t) rows → (b : Bool)
         → Decides (AllByRecursion (λ x. has_key names x ≡ true) rows) b → Decides (RowsHaveIdentities t) b
-    rows_decided rows moves b h = decides_same b to fro (decides_moved (λ x. has_key names x ≡ true) (row_keys t) rows
+    rows_decided rows moves b h = decides_same b to fro (decides_moved (λ x. has_key names x ≡ true) (row_keys t)
+        rows
         b moves h)
       where
         to : AllByRecursion (λ x. has_key names x ≡ true) (row_keys t) → RowsHaveIdentities t
@@ -103,7 +109,8 @@ module _ (t : Tables) where
             }
 
         fro : RowsHaveIdentities t → AllByRecursion (λ x. has_key names x ≡ true) (row_keys t)
-        fro it = All-weaker IsKeyTaken (λ x. has_key names x ≡ true) (λ x e. name_taken names known x ∙ e) (row_keys t)
+        fro it = All-weaker IsKeyTaken (λ x. has_key names x ≡ true) (λ x e. name_taken names known x ∙ e)
+            (row_keys t)
             (All-append IsKeyTaken (tiles ++ media) others
             (All-append IsKeyTaken tiles media (All-map IsKeyTaken (λ r. (pos 1, r.id)) t.tiles it.tiles)
             (All-map IsKeyTaken (λ r. (pos 2, r.id)) t.media it.media))
@@ -126,12 +133,15 @@ module _ (t : Tables) where
     both_named m r = λ n. name_taken names known (pos (kind_number (base_kind m)), r.base_id) n && name_taken names
         known (pos (kind_number (other_kind m)), r.related_id) n
 
-    pub pairs_decided : (m : Mapping) (pairs : List MappingRow) → IsPermutation (mapping_rows m t) pairs → (b : Bool)
-        → Decides (AllByRecursion (λ r. has_names names m r ≡ true) pairs) b → Decides (PairsHaveIdentities m t) b
+    pub pairs_decided : (m : Mapping) (pairs : List MappingRow) → IsPermutation (mapping_rows m t) pairs
+        → (b : Bool)
+        → Decides (AllByRecursion (λ r. has_names names m r ≡ true) pairs) b
+        → Decides (PairsHaveIdentities m t) b
     pairs_decided m pairs moves b h =
         decides_same b
         (All-weaker (λ r. has_names names m r ≡ true) (λ r. has_identities m t r ≡ true)
         (λ r e. sym (both_named m r) ∙ e) (mapping_rows m t))
-        (All-weaker (λ r. has_identities m t r ≡ true) (λ r. has_names names m r ≡ true) (λ r e. both_named m r ∙ e)
+        (All-weaker (λ r. has_identities m t r ≡ true) (λ r. has_names names m r ≡ true)
+        (λ r e. both_named m r ∙ e)
         (mapping_rows m t))
         (decides_moved (λ r. has_names names m r ≡ true) (mapping_rows m t) pairs b moves h)

@@ -1,5 +1,6 @@
 -- Rows whose keys are apart.
-use Rattle.std.proofs.Common.{◌≡◌, ℕ, ℤ, List, [], ◌∷◌, map, Bool, true, false, refl, sym, subst, ◌∙◌, Less, Equal}
+use Rattle.std.proofs.Common.{◌≡◌, ℕ, ℤ, List, [], ◌∷◌, map, Bool, true, false, refl, sym, subst}
+use Rattle.std.proofs.Common.{◌∙◌, Less, Equal}
 use Rattle.std.proofs.Common.{Greater}
 use Rattle.std.specs.Prelude.{◌&&◌, bytes_eq}
 use Rattle.std.specs.declared.cmp.Ordering.{Ordering}
@@ -11,7 +12,8 @@ use Rattle.sheet_types.proofs.Every.{All-weaker, All-map}
 use Rattle.package_items.proofs.Apart.{distinct_of_map}
 
 -- by a test that answers the same
-same_test : {X : Type 0} (e d : X → X → Bool) → ((x y : X) → e x y ≡ d x y) → (xs : List X) → IsDistinct e xs
+same_test : {X : Type 0} (e d : X → X → Bool) → ((x y : X) → e x y ≡ d x y) → (xs : List X)
+    → IsDistinct e xs
     → IsDistinct d xs
 unfolding IsDistinct
 same_test e d h [] apart = tt
@@ -31,7 +33,8 @@ pub numbers_apart : {X : Type 0} (f g : X → ℤ) (xs : List X)
     → IsDistinct (eq_by_cmp (λ (a b : ℤ × ℤ). ordering_then (int_cmp a.0 b.0) (int_cmp a.1 b.1)))
     (map (λ x. (f x, g x)) xs) → IsDistinct (λ x y. int_eq (f x) (f y) && int_eq (g x) (g y)) xs
 numbers_apart {X} f g xs apart =
-    let e : ℤ × ℤ → ℤ × ℤ → Bool = eq_by_cmp (λ (a b : ℤ × ℤ). ordering_then (int_cmp a.0 b.0) (int_cmp a.1 b.1)) in
+    let e : ℤ × ℤ → ℤ × ℤ → Bool = eq_by_cmp (λ (a b : ℤ × ℤ). ordering_then (int_cmp a.0 b.0)
+    (int_cmp a.1 b.1)) in
     let pair : X → ℤ × ℤ = λ x. (f x, g x) in
     same_test (λ x y. e (pair x) (pair y)) _ (λ x y. is_both (int_cmp (f x) (f y)) (int_cmp (g x) (g y))) xs
     (distinct_of_map e pair xs apart)
@@ -43,8 +46,10 @@ map_apart e f [] d = tt
 map_apart e f (x ∷ xs) d = (All-map (λ k. e (f x) k ≡ false) f xs d.0, map_apart e f xs d.1)
 
 -- a text as a key, seen by another value
-pub texts_apart : {X K : Type 0} (f : X → List ℕ) (v : K → List ℕ) (ks : List K) (xs : List X) → map v ks ≡ map f xs
-    → IsDistinct (eq_by_cmp (λ a b. slice_cmp nat_cmp (v a) (v b))) ks → IsDistinct (λ x y. bytes_eq (f x) (f y)) xs
+pub texts_apart : {X K : Type 0} (f : X → List ℕ) (v : K → List ℕ) (ks : List K) (xs : List X)
+    → map v ks ≡ map f xs
+    → IsDistinct (eq_by_cmp (λ a b. slice_cmp nat_cmp (v a) (v b))) ks
+    → IsDistinct (λ x y. bytes_eq (f x) (f y)) xs
 texts_apart f v ks xs same apart =
     let e : List ℕ → List ℕ → Bool = λ a b. is_eq (slice_cmp nat_cmp a b) in
     same_test (λ x y. e (f x) (f y)) _ (λ x y. is_eq-slice_cmp (f x) (f y)) xs
@@ -66,7 +71,8 @@ is_three Greater p q = refl
 
 -- three numbers as a key
 pub three_apart : {X : Type 0} (f g h : X → ℤ) (xs : List X)
-    → IsDistinct (eq_by_cmp (λ (a b : ℤ × ℤ × ℤ). ordering_then (ordering_then (int_cmp a.0 b.0) (int_cmp a.1 b.1))
+    → IsDistinct (eq_by_cmp (λ (a b : ℤ × ℤ × ℤ). ordering_then
+    (ordering_then (int_cmp a.0 b.0) (int_cmp a.1 b.1))
     (int_cmp a.2 b.2))) (map (λ x. (f x, g x, h x)) xs) → IsDistinct
     (λ x y. int_eq (f x) (f y) && int_eq (g x) (g y) && int_eq (h x) (h y)) xs
 three_apart {X} f g h xs apart =

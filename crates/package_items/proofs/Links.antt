@@ -1,5 +1,6 @@
 -- The rows of the mapping tables are those of links.
-use Rattle.std.proofs.Common.{◌≡◌, ℕ, ℤ, pos, List, [], ◌∷◌, ◌++◌, map, Bool, true, false, cond, refl, sym, ap, subst}
+use Rattle.std.proofs.Common.{◌≡◌, ℕ, ℤ, pos, List, [], ◌∷◌, ◌++◌, map, Bool, true, false, cond}
+use Rattle.std.proofs.Common.{refl, sym, ap, subst}
 use Rattle.std.proofs.Common.{◌∙◌, inl, inr, arith, length}
 use Rattle.std.specs.Prelude.{bytes_eq, unsigned_abs, flat_map, ◌==◌}
 use Rattle.std.specs.List.{AllByRecursion, IsDistinct, list_any}
@@ -43,7 +44,8 @@ pub pairs_set : (m : Mapping) (table : List MappingRow) → IsInOrder (pair_shap
 pairs_set m table order range apart = set_in_order (pair_shape m).key table order
     (distinct_keys is_pair (pair_shape m).key (λ r. is_pair_in_range r ≡ true) differ table range apart)
   where
-    differ : (x y : MappingRow) → is_pair_in_range x ≡ true → is_pair_in_range y ≡ true → is_pair x y ≡ false
+    differ : (x y : MappingRow) → is_pair_in_range x ≡ true → is_pair_in_range y ≡ true
+        → is_pair x y ≡ false
         → bytes_eq (pair_key x.base_id x.related_id) (pair_key y.base_id y.related_id) ≡ false
     differ x y hx hy d = false_from_ne_true _ (λ e.
         let same = (bytes_eq-Decides (pair_key x.base_id x.related_id) (pair_key y.base_id y.related_id)).0 e in
@@ -70,7 +72,8 @@ row_taken t tied kind number h = elim (which kind number t h) [
 ]
   where
     from : (k n : ℤ) → kind ≡ k → n ≡ number → is_taken k n t ≡ true → is_taken kind number t ≡ true
-    from k n e g taken = subst (λ x. is_taken x number t ≡ true) (sym e) (subst (λ x. is_taken k x t ≡ true) g taken)
+    from k n e g taken = subst (λ x. is_taken x number t ≡ true) (sym e)
+        (subst (λ x. is_taken k x t ≡ true) g taken)
 
 module _ (t : Tables) (numbered : List Numbered) (rows : map identity_row numbered ≡ t.identities)
     (numbers : IsNumbering numbered) (tied : AreTied t) where
@@ -90,7 +93,8 @@ module _ (t : Tables) (numbered : List Numbered) (rows : map identity_row number
   number_is : (n : Numbered) → In n numbered → number_of numbered n.item.identity ≡ n.number
   number_is n i = rw (find_itself n numbered numbers.identities i) refl
 
-  link_of_row : (m : Mapping) (r : MappingRow) → has_ends m t r ≡ true → (l : Relation) × (mapping_row numbered l ≡ r)
+  link_of_row : (m : Mapping) (r : MappingRow) → has_ends m t r ≡ true → (l : Relation)
+      × (mapping_row numbered l ≡ r)
       × Joins m l
   link_of_row m r h =
       let both = and_parts (has_row (pos (kind_number (base_kind m))) r.base_id t)
@@ -104,22 +108,23 @@ module _ (t : Tables) (numbered : List Numbered) (rows : map identity_row number
         record {
           mapping = refl;
           base = record { item = b.0; there = b.1; of_kind = b.2; is = refl };
-          other =
-              record { item = o.0; there = o.1; of_kind = o.2; is = refl };
+          other = record { item = o.0; there = o.1; of_kind = o.2; is = refl };
         },
       )
 
   -- the links of a mapping table
   pub links_of : (m : Mapping) (table : List MappingRow) → AllByRecursion (λ r. has_ends m t r ≡ true) table
       → (ls : List Relation) × (map (mapping_row numbered) ls ≡ table) × AllByRecursion (Joins m) ls
-  links_of m table h = collected (mapping_row numbered) (λ r. has_ends m t r ≡ true) (Joins m) (link_of_row m) table h
+  links_of m table h = collected (mapping_row numbered) (λ r. has_ends m t r ≡ true) (Joins m) (link_of_row m)
+      table h
 
   end_uuid : (kind : MovedKind) (id : List ℕ) → IsEnd kind id → IsUuid id
   end_uuid kind id e = subst IsUuid e.is (All-In (λ n. IsUuid n.item.identity) e.item numbered numbers.uuids e.there)
 
   -- links of one mapping differ where their rows do
   differ : (m : Mapping) (x y : Relation) → Joins m x → Joins m y
-      → is_pair (mapping_row numbered x) (mapping_row numbered y) ≡ false → bytes_eq (link_key x) (link_key y) ≡ false
+      → is_pair (mapping_row numbered x) (mapping_row numbered y) ≡ false
+      → bytes_eq (link_key x) (link_key y) ≡ false
   differ m x y hx hy d = false_from_ne_true _ (λ e.
       let ends = (and_parts (kind_number (link_kind x.mapping) == kind_number (link_kind y.mapping))
       (bytes_eq (x.base ++ x.other) (y.base ++ y.other)) e).1 in
@@ -144,7 +149,8 @@ module _ (t : Tables) (numbered : List Numbered) (rows : map identity_row number
       (distinct_of_map is_pair (mapping_row numbered) ls (subst (IsDistinct is_pair) (sym are) apart))
 
   -- links of two mappings differ
-  pub others_apart : (m k : Mapping) → mapping_is m k ≡ false → (xs ys : List Relation) → AllByRecursion (Joins m) xs
+  pub others_apart : (m k : Mapping) → mapping_is m k ≡ false → (xs ys : List Relation)
+      → AllByRecursion (Joins m) xs
       → AllByRecursion (Joins k) ys → AllByRecursion (λ x. AllByRecursion
       (λ y. bytes_eq (link_key x) (link_key y) ≡ false) ys) xs
   others_apart m k two xs ys hx hy = All-weaker (Joins m) _ (λ x jx. All-weaker (Joins k) _
@@ -162,14 +168,17 @@ module _ (t : Tables) (numbered : List Numbered) (rows : map identity_row number
       one true e [] h = refl
       one false e [] h = refl
       one true e (l ∷ ls) h = ap (λ b. cond b (mapping_row numbered l ∷ []) [] ++ flat_map (rows_in m numbered) ls)
-          (ap (λ v. mapping_is v m) h.0.mapping ∙ e) ∙ ap (λ rest. mapping_row numbered l ∷ rest) (one true e ls h.1)
-      one false e (l ∷ ls) h = ap (λ b. cond b (mapping_row numbered l ∷ []) [] ++ flat_map (rows_in m numbered) ls)
+          (ap (λ v. mapping_is v m) h.0.mapping ∙ e) ∙ ap (λ rest. mapping_row numbered l ∷ rest)
+          (one true e ls h.1)
+      one false e (l ∷ ls) h = ap (λ b. cond b (mapping_row numbered l ∷ []) []
+          ++ flat_map (rows_in m numbered) ls)
           (ap (λ v. mapping_is v m) h.0.mapping ∙ e) ∙ one false e ls h.1
 
   -- ---- ends
 
   end_there : (p : Package) → p.items ≡ arranged item_key (map (λ n. n.item) numbered)
-      → (kind : MovedKind) (id : List ℕ) → IsEnd kind id → has item_key (kind_number kind ∷ id) p.items ≡ true
+      → (kind : MovedKind) (id : List ℕ) → IsEnd kind id → has item_key (kind_number kind ∷ id) p.items
+      ≡ true
   end_there p items kind id e =
       let test = λ (i : Item). bytes_eq (item_key i) (kind_number kind ∷ id) in
       let kinds : kind_number (kind_of e.item.item.content) ≡ kind_number kind =

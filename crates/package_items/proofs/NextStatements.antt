@@ -48,8 +48,7 @@ tile_first = record {
   selects = tile_first_text;
   planned = tile_first_plan;
   given = refl;
-  pass =
-      _;
+  pass = _;
   listed = _;
   is = λ spelling. refl;
   shows = λ v x. refl;
@@ -83,21 +82,20 @@ unfolding resolving
 tile_after_plan spelling schema at h = rw (h.stored, h.by_tree) refl
 
 pub tile_after : (id : ℤ) → IsNext tile_shape tile_shown (λ x. x.id)
-    (codes "SELECT * FROM sheet_tiles WHERE id > ?1 ORDER BY id LIMIT 1") (Int id ∷ []) (λ x. is_gt (int_cmp x.id id))
+    (codes "SELECT * FROM sheet_tiles WHERE id > ?1 ORDER BY id LIMIT 1") (Int id ∷ [])
+    (λ x. is_gt (int_cmp x.id id))
 tile_after id = record {
   test = _;
   by = _;
   selects = tile_after_text;
   planned = tile_after_plan;
   given = refl;
-  pass =
-      _;
+  pass = _;
   listed = _;
   is = λ spelling. refl;
   shows = λ v x. refl;
   passing = λ v x. above_number x.id id;
-  keyed =
-      λ v x. refl;
+  keyed = λ v x. refl;
 }
 
 medium_first_text : (spelling : Spelling) → IsFirst (codes "SELECT * FROM sheet_media ORDER BY id LIMIT 1")
@@ -131,15 +129,13 @@ medium_first = record {
   by = _;
   selects = medium_first_text;
   planned = medium_first_plan;
-  given =
-      refl;
+  given = refl;
   pass = _;
   listed = _;
   is = λ spelling. refl;
   shows = λ v x. refl;
   passing = λ v x. refl;
-  keyed =
-      λ v x. refl;
+  keyed = λ v x. refl;
 }
 
 medium_after_text : (spelling : Spelling)
@@ -168,20 +164,19 @@ unfolding resolving
 medium_after_plan spelling schema at h = rw (h.stored, h.by_tree) refl
 
 pub medium_after : (id : ℤ) → IsNext medium_shape medium_shown (λ x. x.id)
-    (codes "SELECT * FROM sheet_media WHERE id > ?1 ORDER BY id LIMIT 1") (Int id ∷ []) (λ x. is_gt (int_cmp x.id id))
+    (codes "SELECT * FROM sheet_media WHERE id > ?1 ORDER BY id LIMIT 1") (Int id ∷ [])
+    (λ x. is_gt (int_cmp x.id id))
 medium_after id = record {
   test = _;
   by = _;
   selects = medium_after_text;
   planned = medium_after_plan;
-  given =
-      refl;
+  given = refl;
   pass = _;
   listed = _;
   is = λ spelling. refl;
   shows = λ v x. refl;
-  passing =
-      λ v x. above_number x.id id;
+  passing = λ v x. above_number x.id id;
   keyed = λ v x. refl;
 }
 
@@ -215,15 +210,13 @@ attributes_first = record {
   test = _;
   by = _;
   selects = attributes_first_text;
-  planned =
-      attributes_first_plan;
+  planned = attributes_first_plan;
   given = refl;
   pass = _;
   listed = _;
   is = λ spelling. refl;
   shows = λ v x. refl;
-  passing =
-      λ v x. refl;
+  passing = λ v x. refl;
   keyed = λ v x. refl;
 }
 
@@ -258,14 +251,12 @@ attributes_after id = record {
   test = _;
   by = _;
   selects = attributes_after_text;
-  planned =
-      attributes_after_plan;
+  planned = attributes_after_plan;
   given = refl;
   pass = _;
   listed = _;
   is = λ spelling. refl;
   shows = λ v x. refl;
-  passing =
-      λ v x. above_number x.id id;
+  passing = λ v x. above_number x.id id;
   keyed = λ v x. refl;
 }

@@ -1,5 +1,6 @@
 -- The identity rows of a store whose rows are in range and tied, each with the content of its row.
-use Rattle.std.proofs.Common.{◌≡◌, ◌⊎◌, ℤ, pos, List, map, true, false, sym, ap, subst, ◌∙◌, inl, inr}
+use Rattle.std.proofs.Common.{◌≡◌, ◌⊎◌, ℤ, pos, List, map, true, false, sym, ap, subst, ◌∙◌, inl}
+use Rattle.std.proofs.Common.{inr}
 use Rattle.std.specs.Prelude.{bytes_eq, ◌&&◌, ◌||◌, unsigned_abs}
 use Rattle.std.specs.List.{AllByRecursion, IsDistinct, list_any}
 use Rattle.std.specs.Ordering.{int_eq}
@@ -30,8 +31,7 @@ HasContent t number (Tile zoom column row bytes) = In (record
 HasContent t number (Media content_type bytes) = In (record {
   id = number;
   «data» = bytes;
-  content_type =
-      content_type;
+  content_type = content_type;
 }) t.media
 HasContent t number (Row x y code label) = In (record { id = number; x = x; y = y; code = code; label = label }) t.rows
 
@@ -64,7 +64,8 @@ which kind number t h =
 
 module _ (t : Tables) where
   -- an identity row in range, with a row, is that of an item
-  pub item_of_row : (r : IdentityRow) → IsIdentityInRange r × (has_row r.kind r.local_id t ≡ true) → (n : Numbered)
+  pub item_of_row : (r : IdentityRow) → IsIdentityInRange r × (has_row r.kind r.local_id t ≡ true)
+      → (n : Numbered)
       × (identity_row n ≡ r) × IsHere t n
   item_of_row r h = elim (which r.kind r.local_id t h.1) [
     | inl e ↦
@@ -74,8 +75,7 @@ module _ (t : Tables) where
             number = r.local_id;
             item = record {
               identity = h.0.uuid.0;
-              content =
-                  Tile y.0.zoom_level y.0.tile_column y.0.tile_row y.0.tile_data;
+              content = Tile y.0.zoom_level y.0.tile_column y.0.tile_row y.0.tile_data;
             };
           },
           λ n. record { kind = sym e.0 n; local_id = r.local_id; uuid = sym h.0.uuid.2 n },
@@ -87,8 +87,7 @@ module _ (t : Tables) where
                   id = v;
                   zoom_level = y.0.zoom_level;
                   tile_column = y.0.tile_column;
-                  tile_row =
-                      y.0.tile_row;
+                  tile_row = y.0.tile_row;
                   tile_data = y.0.tile_data;
                 }) t.tiles) number y.1;
           },
@@ -101,8 +100,7 @@ module _ (t : Tables) where
               number = r.local_id;
               item = record {
                 identity = h.0.uuid.0;
-                content =
-                    Media y.0.content_type y.0.data;
+                content = Media y.0.content_type y.0.data;
               };
             },
             λ n. record { kind = sym e.0 n; local_id = r.local_id; uuid = sym h.0.uuid.2 n },
@@ -110,7 +108,8 @@ module _ (t : Tables) where
               number = h.0.number;
               uuid = h.0.uuid.1;
               content =
-                  subst (λ v. In (record { id = v; «data» = y.0.data; content_type = y.0.content_type }) t.media) number
+                  subst (λ v. In (record { id = v; «data» = y.0.data; content_type = y.0.content_type }) t.media)
+                  number
                   y.1;
             },
           )
@@ -121,8 +120,7 @@ module _ (t : Tables) where
               number = r.local_id;
               item = record {
                 identity = h.0.uuid.0;
-                content =
-                    Row y.0.x y.0.y y.0.code y.0.label;
+                content = Row y.0.x y.0.y y.0.code y.0.label;
               };
             },
             λ n. record { kind = sym e.0 n; local_id = r.local_id; uuid = sym h.0.uuid.2 n },
@@ -146,9 +144,11 @@ module _ (t : Tables) where
 
 -- two items in one place of the tables have one identity row
 row_apart : (t : Tables) (a b : Numbered) → IsHere t a → IsHere t b
-    → is_same_row (identity_row a) (identity_row b) ≡ false → bytes_eq (place_in_tables a) (place_in_tables b) ≡ false
+    → is_same_row (identity_row a) (identity_row b) ≡ false → bytes_eq (place_in_tables a) (place_in_tables b)
+    ≡ false
 row_apart t a b ha hb apart = false_from_ne_true _ (λ e.
-    let same : place_in_tables a ≡ place_in_tables b = (bytes_eq-Decides (place_in_tables a) (place_in_tables b)).0 e in
+    let same : place_in_tables a ≡ place_in_tables b = (bytes_eq-Decides (place_in_tables a) (place_in_tables b)).0
+    e in
     let kind : kind_number (kind_of a.item.content) ≡ kind_number (kind_of b.item.content) = cc in
     let number : unsigned_abs a.number ≡ unsigned_abs b.number = cc in
     true≢false (sym (and_from (int_eq (identity_row a).kind (identity_row b).kind) (int_eq a.number b.number)

@@ -1,5 +1,6 @@
 -- Items of rows in range are fit, and their tiles stand in places of their own.
-use Rattle.std.proofs.Common.{◌≡◌, ℕ, ℤ, pos, negsuc, List, [], ◌∷◌, map, true, false, refl, sym, ap, subst, ◌∙◌}
+use Rattle.std.proofs.Common.{◌≡◌, ℕ, ℤ, pos, negsuc, List, [], ◌∷◌, map, true, false, refl, sym, ap}
+use Rattle.std.proofs.Common.{subst, ◌∙◌}
 use Rattle.std.proofs.Common.{arith, ◌≤ℤ◌}
 use Rattle.std.specs.Prelude.{bytes_eq, unsigned_abs, filter, ◌==◌, ◌&&◌, not, int_le, int_lt}
 use Rattle.std.specs.List.{AllByRecursion, IsDistinct, list_any, list_all}
@@ -42,7 +43,8 @@ maps g f (x ∷ xs) = ap (λ l. g (f x) ∷ l) (maps g f xs)
 
 -- ---- numbers that are not below zero
 
-pub same_size : (a b : ℤ) → int_le (pos 0) a ≡ true → int_le (pos 0) b ≡ true → unsigned_abs a ≡ unsigned_abs b → a ≡ b
+pub same_size : (a b : ℤ) → int_le (pos 0) a ≡ true → int_le (pos 0) b ≡ true
+    → unsigned_abs a ≡ unsigned_abs b → a ≡ b
 same_size (pos a) (pos b) ha hb e = ap pos e
 same_size (negsuc a) b ha hb e = absurd (false≢true ha)
 same_size (pos a) (negsuc b) ha hb e = absurd (false≢true hb)
@@ -50,7 +52,8 @@ same_size (pos a) (negsuc b) ha hb e = absurd (false≢true hb)
 above : (a b : ℤ) → int_le (pos 0) a ≡ true → int_le a b ≡ true → int_le (pos 0) b ≡ true
 above a b h g = grind (arith, ints)
 
-not_below : (f : Frame) (z c r : ℤ) → is_good_frame f ≡ true → has_place f z c r ≡ true → (int_le (pos 0) z ≡ true)
+not_below : (f : Frame) (z c r : ℤ) → is_good_frame f ≡ true → has_place f z c r ≡ true
+    → (int_le (pos 0) z ≡ true)
     × (int_le (pos 0) c ≡ true) × (int_le (pos 0) r ≡ true)
 not_below f z c r good h =
     let e4 : ((has_level f z && int_le (pos 0) c && int_lt c (width_at f (level_of f z)) && int_le (pos 0) r) ≡ true)
@@ -73,7 +76,8 @@ not_below f z c r good h =
 
 module _ (f : Frame) (t : Tables) (inside : AreItemsInRange f t) where
   tile_in : (x : TileRow) → In x t.tiles → (is_local x.id ≡ true)
-      × (has_place f x.zoom_level x.tile_column x.tile_row ≡ true) × (is_length_within 1 1048576 x.tile_data ≡ true)
+      × (has_place f x.zoom_level x.tile_column x.tile_row ≡ true)
+      × (is_length_within 1 1048576 x.tile_data ≡ true)
   tile_in x i =
       let all = All-In (λ r. is_tile_in_range f r ≡ true) x t.tiles inside.tiles i in
       let last = and_parts (is_local x.id && has_place f x.zoom_level x.tile_column x.tile_row)
@@ -90,8 +94,7 @@ module _ (f : Frame) (t : Tables) (inside : AreItemsInRange f t) where
         zoom_level = zoom;
         tile_column = column;
         tile_row = row;
-        tile_data =
-            bytes;
+        tile_data = bytes;
       }) here in
       (refl, x.2, ap not (ap (λ g. has_place g zoom column row) e ∙ x.1), refl)
   fit_content w p number identity (Media content_type bytes) e here =
@@ -128,8 +131,10 @@ module _ (f : Frame) (t : Tables) (inside : AreItemsInRange f t) where
         int_flips x.tile_row y.tile_row i
 
     -- tiles in one place are one
-    one_row : (x y : TileRow) → In x t.tiles → In y t.tiles → unsigned_abs x.zoom_level ≡ unsigned_abs y.zoom_level
-        → unsigned_abs x.tile_column ≡ unsigned_abs y.tile_column → unsigned_abs x.tile_row ≡ unsigned_abs y.tile_row
+    one_row : (x y : TileRow) → In x t.tiles → In y t.tiles → unsigned_abs x.zoom_level
+        ≡ unsigned_abs y.zoom_level
+        → unsigned_abs x.tile_column ≡ unsigned_abs y.tile_column
+        → unsigned_abs x.tile_row ≡ unsigned_abs y.tile_row
         → x ≡ y
     one_row x y i j zoom column row =
         let n = not_below f x.zoom_level x.tile_column x.tile_row good (tile_in x i).1 in
@@ -154,15 +159,13 @@ module _ (f : Frame) (t : Tables) (inside : AreItemsInRange f t) where
             id = n;
             zoom_level = zoom;
             tile_column = column;
-            tile_row =
-                row;
+            tile_row = row;
             tile_data = bytes;
           }) (record {
             id = m;
             zoom_level = zoom';
             tile_column = column';
-            tile_row =
-                row';
+            tile_row = row';
             tile_data = bytes';
           }) hc hd zooms columns rows),
           refl,
@@ -181,7 +184,8 @@ module _ (f : Frame) (t : Tables) (inside : AreItemsInRange f t) where
         is : item.item ≡ i
         tile : is_tile i ≡ true
 
-      one_item : (n m : Numbered) → In n numbered → In m numbered → is_tile n.item ≡ true → is_tile m.item ≡ true
+      one_item : (n m : Numbered) → In n numbered → In m numbered → is_tile n.item ≡ true
+          → is_tile m.item ≡ true
           → place_of n.item.content ≡ place_of m.item.content → n ≡ m
       one_item n m i j tn tm e =
           let at = one_number n.number m.number n.item.content m.item.content
@@ -202,7 +206,8 @@ module _ (f : Frame) (t : Tables) (inside : AreItemsInRange f t) where
           ap (λ i. place_of i.content) ha.is ∙ place ∙ ap (λ i. place_of i.content) (sym hb.is) in
           let one : ha.item ≡ hb.item = one_item ha.item hb.item ha.there hb.there (ap is_tile ha.is ∙ ha.tile)
           (ap is_tile hb.is ∙ hb.tile) here in
-          let identity : a.identity ≡ b.identity = ap (λ i. i.identity) (sym ha.is) ∙ ap (λ n. n.item.identity) one
+          let identity : a.identity ≡ b.identity = ap (λ i. i.identity) (sym ha.is)
+          ∙ ap (λ n. n.item.identity) one
           ∙ ap (λ i. i.identity) hb.is in
           true≢false (sym ((bytes_eq-Decides a.identity b.identity).1 identity) ∙ d))
 

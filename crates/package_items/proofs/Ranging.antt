@@ -63,16 +63,19 @@ module _ (f : Frame) where
       → (rows : List R) → AllByRecursion InRange (map g rows) → AllByRecursion (λ r. test r ≡ true) rows
   to_rows g test same rows h = All-weaker _ _ (λ r e. sym (same r) ∙ e) rows (All-of_map InRange g rows h)
 
-  from_rows : {R : Type 0} (g : R → Placed) (test : R → Bool) → ((r : R) → is_placed_in_range f (g r) ≡ test r)
+  from_rows : {R : Type 0} (g : R → Placed) (test : R → Bool)
+      → ((r : R) → is_placed_in_range f (g r) ≡ test r)
       → (rows : List R) → AllByRecursion (λ r. test r ≡ true) rows → AllByRecursion InRange (map g rows)
   from_rows g test same rows h = All-map InRange g rows (All-weaker _ _ (λ r e. same r ∙ e) rows h)
 
-  pub rows_in : (table : UserTable) (t : Tables) → AllByRecursion InRange (placed_in table t) → AreRowsInRange f table t
+  pub rows_in : (table : UserTable) (t : Tables) → AllByRecursion InRange (placed_in table t)
+      → AreRowsInRange f table t
   rows_in TileTable t h = to_rows tile_placed (is_tile_in_range f) tile_same t.tiles h
   rows_in MediaTable t h = to_rows medium_placed is_medium_in_range medium_same t.media h
   rows_in RowTable t h = to_rows attributes_placed (is_row_in_range f) attributes_same t.rows h
 
-  pub in_rows : (table : UserTable) (t : Tables) → AreRowsInRange f table t → AllByRecursion InRange (placed_in table t)
+  pub in_rows : (table : UserTable) (t : Tables) → AreRowsInRange f table t
+      → AllByRecursion InRange (placed_in table t)
   in_rows TileTable t h = from_rows tile_placed (is_tile_in_range f) tile_same t.tiles h
   in_rows MediaTable t h = from_rows medium_placed is_medium_in_range medium_same t.media h
   in_rows RowTable t h = from_rows attributes_placed (is_row_in_range f) attributes_same t.rows h

@@ -1,5 +1,6 @@
 -- What a binary search among sorted keys tells of all of them.
-use Rattle.std.proofs.Common.{◌≡◌, ℕ, List, length, false, Result, Ok, Err, Less, Greater, inl, inr, arith, sym, ap}
+use Rattle.std.proofs.Common.{◌≡◌, ℕ, List, length, false, Result, Ok, Err, Less, Greater, inl, inr, arith}
+use Rattle.std.proofs.Common.{sym, ap}
 use Rattle.std.specs.Prelude.{IsSorted}
 use Rattle.std.specs.List.{All, list_any}
 use Rattle.std.specs.List.Sorted.{IsBinarySearchResult, IsSearchInRange, IsPartitionPoint}
@@ -12,7 +13,8 @@ use Rattle.std.proofs.lemmas.List.Folds.{list_any_none, list_any_at}
 use Rattle.std.proofs.lemmas.List.Sorted.{searchable_from_sorted}
 
 -- found where some key is equal, and only there
-pub searched_any : {K : Type 0} {R : K → K → Ordering} → IsTotalOrder R → (xs : List K) (x : K) (r : Result ℕ ℕ)
+pub searched_any : {K : Type 0} {R : K → K → Ordering} → IsTotalOrder R
+    → (xs : List K) (x : K) (r : Result ℕ ℕ)
     → IsSorted R xs → IsSearchInRange r (length xs) → IsBinarySearchResult (λ y. R y x) xs r
     → is_ok r ≡ list_any (λ k. eq_by_cmp R k x) xs
 searched_any {R = R} order xs x (Ok i) sorted within found =

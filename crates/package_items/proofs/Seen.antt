@@ -1,5 +1,6 @@
 -- What is seen of rows that were read, and whether a fault is told of them.
-use Rattle.std.proofs.Common.{◌≡◌, ℤ, List, [], ◌∷◌, ◌++◌, Bool, true, false, Result, arith, Ok, Err, refl, sym, ap}
+use Rattle.std.proofs.Common.{◌≡◌, ℤ, List, [], ◌∷◌, ◌++◌, Bool, true, false, Result, arith, Ok}
+use Rattle.std.proofs.Common.{Err, refl, sym, ap}
 use Rattle.std.proofs.Common.{◌∙◌, inl, inr}
 use Rattle.std.specs.Prelude.{◌&&◌, IsTrue, IfOk, IsPermutation}
 use Rattle.std.specs.List.{AllByRecursion, IsDistinct}
@@ -30,15 +31,18 @@ use Rattle.package_items.proofs.Apart.{int_flips, one_by}
 use Rattle.package_items.proofs.Deciding.{goes_tell}
 
 -- one look, and what a call on values saw in what it answered
-pub seen_last : {X E F : Type 0} (Answer : Tables → X → Type 0) (Fact : Tables → Type 0) {P : Type 0} {a b : State}
-    {r : Result X E} {x : X} → r ≡ Ok x → Looks {X = X} {E = E} (Answers Answer) a b r → (q : Result (Unit {0}) F)
+pub seen_last : {X E F : Type 0} (Answer : Tables → X → Type 0) (Fact : Tables → Type 0) {P : Type 0}
+    {a b : State}
+    {r : Result X E} {x : X} → r ≡ Ok x → Looks {X = X} {E = E} (Answers Answer) a b r
+    → (q : Result (Unit {0}) F)
     → IfOk q (λ _. P) → ((t : Tables) → Answer t x → P → Fact t)
     → Looks {X = Unit {0}} {E = F} (Answers (λ t _. Fact t)) a b q
 seen_last Answer Fact is looks (Ok u) p so = tells (λ t _. Fact t) (looked Answer is looks) (λ t h. so t h p)
 seen_last Answer Fact is looks (Err e) p so = fails (Err e) refl (looks_stays looks)
 
 -- some looks, and what a call on values made of what they answered
-pub told_last : {X E : Type 0} {Fact : Tables → Type 0} (Told : Tables → X → Type 0) {P : X → Type 0} {a b : State}
+pub told_last : {X E : Type 0} {Fact : Tables → Type 0} (Told : Tables → X → Type 0) {P : X → Type 0}
+    {a b : State}
     → Looked Fact a b → (q : Result X E) → IfOk q P → ((t : Tables) (x : X) → Fact t → P x → Told t x)
     → Looks {X = X} {E = E} (Answers Told) a b q
 told_last Told it (Ok x) p so = tells Told it (λ t h. so t x h p)
@@ -63,7 +67,8 @@ pub looks_then : {X E : Type 0} {Fact : Tables → Type 0} (Last Answer : Tables
 looks_then Last Answer (Ok x) first next so = tells Answer (looked_then Last first refl next) (λ t h. so t x h.0 h.1)
 looks_then Last Answer (Err e) first next so = fails (Err e) refl (stays_then first.stays (looks_stays next))
 
-pub both_so : {X E : Type 0} (P Q : Type 0) (r : Result X E) → IfOk r (λ _. P) → IfOk r (λ _. Q) → IfOk r (λ _. P × Q)
+pub both_so : {X E : Type 0} (P Q : Type 0) (r : Result X E) → IfOk r (λ _. P) → IfOk r (λ _. Q)
+    → IfOk r (λ _. P × Q)
 both_so P Q (Ok x) p q = (p, q)
 both_so P Q (Err e) p q = tt
 
@@ -126,7 +131,8 @@ places_apart spots apart (x ∷ xs) noted numbers = (
       numbers.1,
 )
   where
-    other : (y : TileRow) → IsNoted spots (tile_placed y) → int_eq x.id y.id ≡ false → is_same_place x y ≡ false
+    other : (y : TileRow) → IsNoted spots (tile_placed y) → int_eq x.id y.id ≡ false
+        → is_same_place x y ≡ false
     other y there differ = one (is_same_place x y) refl
       where
         one : (b : Bool) → is_same_place x y ≡ b → is_same_place x y ≡ false

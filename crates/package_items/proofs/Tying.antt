@@ -58,9 +58,11 @@ row_taken t named kind number h = elim (which kind number t h) [
 ]
   where
     from : (k n : ℤ) → kind ≡ k → n ≡ number → is_taken k n t ≡ true → is_taken kind number t ≡ true
-    from k n e g taken = subst (λ x. is_taken x number t ≡ true) (sym e) (subst (λ x. is_taken k x t ≡ true) g taken)
+    from k n e g taken = subst (λ x. is_taken x number t ≡ true) (sym e)
+        (subst (λ x. is_taken k x t ≡ true) g taken)
 
-taken_row : (t : Tables) → AllByRecursion (λ r. has_row r.kind r.local_id t ≡ true) t.identities → (kind number : ℤ)
+taken_row : (t : Tables) → AllByRecursion (λ r. has_row r.kind r.local_id t ≡ true) t.identities
+    → (kind number : ℤ)
     → is_taken kind number t ≡ true → has_row kind number t ≡ true
 taken_row t there kind number h =
     let r = any_at (λ x. int_eq x.kind kind && int_eq x.local_id number) t.identities h in
@@ -69,7 +71,8 @@ taken_row t there kind number h =
     subst (λ n. has_row kind n t ≡ true) (int_same r.0.local_id number both.1)
     (subst (λ k. has_row k r.0.local_id t ≡ true) (int_same r.0.kind kind both.0) row)
 
-pub pairs_tied : (t : Tables) → AllByRecursion (λ r. has_row r.kind r.local_id t ≡ true) t.identities → (m : Mapping)
+pub pairs_tied : (t : Tables) → AllByRecursion (λ r. has_row r.kind r.local_id t ≡ true) t.identities
+    → (m : Mapping)
     → PairsHaveIdentities m t → AllByRecursion (λ r. has_ends m t r ≡ true) (mapping_rows m t)
 pairs_tied t there m h = All-weaker _ _ (λ r e.
     let both = and_parts (is_taken (pos (kind_number (base_kind m))) r.base_id t)

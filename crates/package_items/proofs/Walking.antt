@@ -1,5 +1,6 @@
 -- The rows of a user table one after the other: each has been met once there is none after the last.
-use Rattle.std.proofs.Common.{◌≡◌, ℤ, ◌≤ℤ◌, List, [], ◌∷◌, map, Bool, true, false, cond, Result, Ok, refl, sym, ap}
+use Rattle.std.proofs.Common.{◌≡◌, ℤ, ◌≤ℤ◌, List, [], ◌∷◌, map, Bool, true, false, cond, Result}
+use Rattle.std.proofs.Common.{Ok, refl, sym, ap}
 use Rattle.std.proofs.Common.{subst, ◌∙◌, inl, inr, arith}
 use Rattle.std.specs.Prelude.{filter, Option, Some, None, option_map}
 use Rattle.std.specs.List.{AllByRecursion, IsDistinct}
@@ -48,7 +49,8 @@ least_mapped f keeps rows (Some x) h =
       All-map (λ y. (f x).number ≤ℤ y.number) f (filter (λ r. keeps (f r).number) rows) h.1,
     )
 
-pub in_filtered : {X : Type 0} (t : X → Bool) (x : X) (xs : List X) → In x (filter t xs) → In x xs × (t x ≡ true)
+pub in_filtered : {X : Type 0} (t : X → Bool) (x : X) (xs : List X) → In x (filter t xs) → In x xs
+    × (t x ≡ true)
 in_filtered t x [] i = absurd i
 in_filtered t x (y ∷ ys) i = one (t y) refl i (in_filtered t x ys)
   where
@@ -70,7 +72,8 @@ same_number a b = int_eq a.number b.number
 abbrev pub AreNumbered : Tables → Type 0
 AreNumbered t = (table : UserTable) → IsDistinct same_number (placed_in table t)
 
-distinct_map : {X Y : Type 0} (e : Y → Y → Bool) (f : X → Y) (xs : List X) → IsDistinct (λ x y. e (f x) (f y)) xs
+distinct_map : {X Y : Type 0} (e : Y → Y → Bool) (f : X → Y) (xs : List X)
+    → IsDistinct (λ x y. e (f x) (f y)) xs
     → IsDistinct e (map f xs)
 unfolding IsDistinct
 distinct_map e f [] d = tt
@@ -137,7 +140,8 @@ module _ (P : Placed → Type 0) where
       least.0)).0)
 
 -- the next row from the next of its table
-pub found_next : {R E F : Type 0} (table k : UserTable) (last : Option ℤ) (f : R → Placed) (rows : Tables → List R)
+pub found_next : {R E F : Type 0} (table k : UserTable) (last : Option ℤ) (f : R → Placed)
+    (rows : Tables → List R)
     → ((t : Tables) → placed_in k t ≡ map f (rows t)) → table ≡ k → (o : Option R) (p : Option Placed)
     → p ≡ option_map f o → {a b : State} {r : Result (Option R) E} → r ≡ Ok o
     → Looks {X = Option R} {E = E} (Answers (λ t x. IsLeast (λ y. (f y).number)

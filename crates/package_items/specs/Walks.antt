@@ -1,5 +1,6 @@
 -- The rows of the user tables one after the other, by their numbers.
-use Rattle.std.specs.Prelude.{◌≡◌, ℤ, Bool, true, not, ◌==◌, ◌&&◌, List, map, filter, Option, Some, None}
+use Rattle.std.specs.Prelude.{◌≡◌, ℤ, Bool, true, not, ◌==◌, ◌&&◌, List, map, filter, Option, Some}
+use Rattle.std.specs.Prelude.{None}
 use Rattle.std.specs.List.{AllByRecursion, list_any, list_all}
 use Rattle.std.specs.Ordering.{int_cmp, is_gt}
 use Rattle.sheet_types.specs.Matrix.{has_place, in_frame}

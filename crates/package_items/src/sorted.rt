@@ -24,7 +24,8 @@ pub(crate) fn has<K: Ord>(sorted: &[K], key: &K) -> bool
 /// Whether each of some keys is among keys in their order.
 pub(crate) fn has_all<K: Ord>(sorted: &[K], keys: &[K]) -> bool
     requires { IsSorted K.cmp sorted.now }
-    ensures { Decides (AllByRecursion (λ x. list_any (λ k. eq_by_cmp K.cmp k x) sorted.now ≡ true) keys.now) result }
+    ensures { Decides (AllByRecursion (λ x. list_any (λ k. eq_by_cmp K.cmp k x) sorted.now ≡ true) keys.now)
+        result }
 {
     for key in keys {
         if !has(sorted, key) {

@@ -60,7 +60,8 @@ fn keys_of(
     media: Vec<i64>,
     rows: Vec<i64>,
 ) -> Result<Vec<(i64, i64)>, Fault>
-    ensures { IfOk result (λ keys. keys.items ≡ map (λ n. (pos 1, n)) tiles.items ++ map (λ n. (pos 2, n)) media.items
+    ensures { IfOk result (λ keys. keys.items ≡ map (λ n. (pos 1, n)) tiles.items
+        ++ map (λ n. (pos 2, n)) media.items
         ++ map (λ n. (pos 3, n)) rows.items) }
 {
     let tiles = tiles.into_iter().map(|number| (TILE, number));

@@ -1,5 +1,6 @@
 -- Lists in order: cut where a number ends, and two that have the same elements.
-use Rattle.std.proofs.Common.{◌≡◌, ℤ, ◌≤◌, ◌≤ℤ◌, List, [], ◌∷◌, ◌++◌, Bool, true, false, refl, sym, ap, subst, arith}
+use Rattle.std.proofs.Common.{◌≡◌, ℤ, ◌≤◌, ◌≤ℤ◌, List, [], ◌∷◌, ◌++◌, Bool, true}
+use Rattle.std.proofs.Common.{false, refl, sym, ap, subst, arith}
 use Rattle.std.specs.Prelude.{filter, count_by, cond, IsPermutation}
 use Rattle.std.specs.List.{AllByRecursion}
 use Rattle.std.specs.Ordering.{int_eq}
@@ -9,11 +10,13 @@ use Rattle.std.proofs.lemmas.List.Sorted.{sum_by-IsPermutation}
 use Rattle.sqlite_trees.specs.Tree.{IsAscending}
 use Rattle.sheet_types.proofs.Sums.{count-cons}
 
-pub ascending-right : {A : Type 0} (R : A → A → Type 0) (xs ys : List A) → IsAscending R (xs ++ ys) → IsAscending R ys
+pub ascending-right : {A : Type 0} (R : A → A → Type 0) (xs ys : List A) → IsAscending R (xs ++ ys)
+    → IsAscending R ys
 ascending-right R [] ys up = up
 ascending-right R (x ∷ xs) ys up = ascending-right R xs ys up.1
 
-pub filter-append : {A : Type 0} (p : A → Bool) (xs ys : List A) → filter p (xs ++ ys) ≡ filter p xs ++ filter p ys
+pub filter-append : {A : Type 0} (p : A → Bool) (xs ys : List A)
+    → filter p (xs ++ ys) ≡ filter p xs ++ filter p ys
 filter-append p [] ys = refl
 filter-append p (x ∷ xs) ys =
     elim (p x) as (λ b. cond b (x ∷ filter p (xs ++ ys)) (filter p (xs ++ ys))
@@ -35,7 +38,8 @@ int_eq_apart a b differ = elim (int_eq a b) as (λ v. int_eq a b ≡ v → v ≡
 -- ---- two lists that rise and have each number equally often are one
 
 -- a number that is there is not below the least
-least : (x z : ℤ) (l : List ℤ) → AllByRecursion (λ y. x ≤ℤ y) l → 1 ≤ count_by (int_eq z) l → x ≤ℤ z
+least : (x z : ℤ) (l : List ℤ) → AllByRecursion (λ y. x ≤ℤ y) l → 1 ≤ count_by (int_eq z) l
+    → x ≤ℤ z
 least x z [] h n = absurd (omega (arith, n))
 least x z (w ∷ l) h n =
     elim (int_eq z w) as (λ v. int_eq z w ≡ v → x ≤ℤ z) [

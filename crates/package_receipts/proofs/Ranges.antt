@@ -1,5 +1,6 @@
 -- What a row says, where it is in its ranges.
-use Rattle.std.proofs.Common.{◌≡◌, ◌∙◌, ℕ, zero, suc, ℤ, pos, negsuc, ◌<◌, ◌≤◌, ◌≤ℤ◌, ◌*◌, length, get_or, List, []}
+use Rattle.std.proofs.Common.{◌≡◌, ◌∙◌, ℕ, zero, suc, ℤ, pos, negsuc, ◌<◌, ◌≤◌}
+use Rattle.std.proofs.Common.{◌≤ℤ◌, ◌*◌, length, get_or, List, []}
 use Rattle.std.proofs.Common.{Option, Some, None, Bool, true, false, refl, sym, ap, subst, inl, inr, is_some}
 use Rattle.std.proofs.Common.{FitsSigned, w64, rules, arith, true≢false}
 use Rattle.std.specs.Prelude.{int_le, ◌==◌, nat_lt}
@@ -35,7 +36,8 @@ pub fits : (n : ℕ) (bytes : List ℕ) → length bytes ≡ n → ((k : ℕ) �
 fits n bytes long small = bytes_fit n bytes long (small_at bytes (λ k less. small k (omega (arith, long, less))))
 
 -- a text that may be empty
-pub end_text : (text : List ℕ) (end : Option (List ℕ)) → text ≡ optional_uuid_text end → is_fit_end end ≡ true
+pub end_text : (text : List ℕ) (end : Option (List ℕ)) → text ≡ optional_uuid_text end
+    → is_fit_end end ≡ true
     → IsEndText text
 end_text text None is fit = inl is
 end_text text (Some id) is fit = inr (record { id = id; uuid = fit; is = is })
@@ -161,7 +163,8 @@ link_parts false true true h is = absurd (false≢true h)
 link_parts false false d h is = absurd (false≢true h)
 link_parts true o d h is = absurd (true≢false is)
 
-no_end : (text : List ℕ) (end : Option (List ℕ)) → text ≡ optional_uuid_text end → is_some end ≡ false → text ≡ []
+no_end : (text : List ℕ) (end : Option (List ℕ)) → text ≡ optional_uuid_text end → is_some end ≡ false
+    → text ≡ []
 no_end text None e h = e
 no_end text (Some id) e h = absurd (true≢false h)
 
@@ -209,8 +212,7 @@ thing_put row kind base other size digest it parts = record {
     position = row.position;
     kind = it.kind_is n;
     base = it.base_is n;
-    other =
-        it.other_is n;
+    other = it.other_is n;
     size = it.size_is n;
     fingerprint = it.digest_is n;
   };
@@ -229,8 +231,10 @@ count_there (negsuc n) h = absurd (omega (arith, ints, h))
 
 pub digest_there : (row : MovedRow) → IsMovedInRange row → (digest : Option (List ℕ))
     × (row.fingerprint ≡ option_map_or encode_lower digest []) × (option_map_or (is_bytes 32) digest true ≡ true)
-digest_there row r = elim (is_item_number row.kind) as (λ b. is_item_number row.kind ≡ b → (digest : Option (List ℕ))
-    × (row.fingerprint ≡ option_map_or encode_lower digest []) × (option_map_or (is_bytes 32) digest true ≡ true)) [
+digest_there row r = elim (is_item_number row.kind) as (λ b. is_item_number row.kind ≡ b
+    → (digest : Option (List ℕ))
+    × (row.fingerprint ≡ option_map_or encode_lower digest [])
+    × (option_map_or (is_bytes 32) digest true ≡ true)) [
       | true ↦ λ is. let d = r.fingerprint is in (Some d.digest, d.is, d.long)
       | false ↦ λ is. (None, r.no_fingerprint is, refl)
     ] refl
@@ -247,8 +251,7 @@ thing_there row r =
       base = r.base.id;
       other = other.0;
       size = size.0;
-      fingerprint =
-          digest.0;
+      fingerprint = digest.0;
     } in (
       m,
       (λ n. record {
@@ -256,8 +259,7 @@ thing_there row r =
         position = row.position;
         kind = kind.1 n;
         base = r.base.is n;
-        other =
-            other.1 n;
+        other = other.1 n;
         size = size.1 n;
         fingerprint = digest.1 n;
       }),

@@ -1,5 +1,6 @@
 -- Tables whose rows are in their ranges say receipts.
-use Rattle.std.proofs.Common.{◌≡◌, ◌∙◌, ℕ, suc, zero, ℤ, pos, negsuc, ◌+◌, ◌-◌, ◌<◌, ◌≤◌, ◌≤ℤ◌, ◌<ℤ◌, List, [], ◌∷◌}
+use Rattle.std.proofs.Common.{◌≡◌, ◌∙◌, ℕ, suc, zero, ℤ, pos, negsuc, ◌+◌, ◌-◌, ◌<◌}
+use Rattle.std.proofs.Common.{◌≤◌, ◌≤ℤ◌, ◌<ℤ◌, List, [], ◌∷◌}
 use Rattle.std.proofs.Common.{◌++◌, map, length, get_or, Bool, true, false, refl, sym, ap, subst, inl, inr, Result}
 use Rattle.std.proofs.Common.{Ok, Err, Option, Some, None, IfOk, IfSome, IfNone, IsTrue, is_some, ◌↔◌, arith}
 use Rattle.std.specs.Prelude.{flat_map, IsPermutation, bytes_eq, ◌==◌, MatchOption}
@@ -61,12 +62,14 @@ arranged_same key raw found same order =
     (λ x i. moved x found (arranged key raw) (IsPermutation-sym (arranged key raw) found same)
     (in_arranged key found x i))
 
-pub arranged_already : {X : Type 0} (key : X → List ℕ) (xs : List X) → IsArranged key xs → arranged key xs ≡ xs
+pub arranged_already : {X : Type 0} (key : X → List ℕ) (xs : List X) → IsArranged key xs
+    → arranged key xs ≡ xs
 arranged_already key xs order = same_list key (arranged key xs) xs (distinct_arranged key xs (apart key xs order))
     order (λ x i. in_arranged key xs x i) (λ x i. to_arranged key x xs i)
 
 arranged_append : {X : Type 0} (key : X → List ℕ) (xs ys : List X) → IsArranged key xs → IsArranged key ys
-    → AllByRecursion (λ x. AllByRecursion (λ y. is_before (key x) (key y) ≡ true) ys) xs → IsArranged key (xs ++ ys)
+    → AllByRecursion (λ x. AllByRecursion (λ y. is_before (key x) (key y) ≡ true) ys) xs
+    → IsArranged key (xs ++ ys)
 arranged_append key [] ys h g across = g
 arranged_append key (x ∷ xs) ys h g across = (
   All-append (λ y. is_before (key x) (key y) ≡ true) xs ys h.0 across.0,
@@ -143,7 +146,8 @@ unfolding rows_under
 across s n [] rs up = tt
 across s n (x ∷ xs) rs up = (later_rows s n rs up, across s (n + 1) xs rs up)
 
-pub things_keyed : (rs : List Receipt) → IsArranged receipt_key rs → IsArranged moved_shape.key (flat_map moved_rows rs)
+pub things_keyed : (rs : List Receipt) → IsArranged receipt_key rs
+    → IsArranged moved_shape.key (flat_map moved_rows rs)
 unfolding rows_under
 things_keyed [] h = tt
 things_keyed (r ∷ rs) h =
@@ -238,7 +242,8 @@ more_risen n rows a b some first next less long so k d below inside =
           ∙ any_default rows (n - 1) d a (omega (arith, long)) ∙ sym first in
           let there : get_or rows (k + 1) d ≡ b = ap (λ i. get_or rows i d) at ∙ any_default rows n d b long
           ∙ sym next in
-          subst (λ x. x.seq <ℤ (get_or rows (k + 1) d).seq) (sym here) (subst (λ x. a.seq <ℤ x.seq) (sym there) less)
+          subst (λ x. x.seq <ℤ (get_or rows (k + 1) d).seq) (sym here)
+          (subst (λ x. a.seq <ℤ x.seq) (sym there) less)
       | false ↦ λ e. so k d (grind (arith, e, below)) inside
     ] refl
   where

@@ -1,5 +1,6 @@
 -- Why a walk over all rows in order finds the receipts that they say, where they are in their ranges.
-use Rattle.std.proofs.Common.{◌≡◌, ◌∙◌, ℕ, suc, zero, ℤ, pos, ◌+◌, ◌<◌, ◌≤◌, ◌≤ℤ◌, ◌<ℤ◌, List, [], ◌∷◌, ◌++◌, map}
+use Rattle.std.proofs.Common.{◌≡◌, ◌∙◌, ℕ, suc, zero, ℤ, pos, ◌+◌, ◌<◌, ◌≤◌}
+use Rattle.std.proofs.Common.{◌≤ℤ◌, ◌<ℤ◌, List, [], ◌∷◌, ◌++◌, map}
 use Rattle.std.proofs.Common.{length, take, drop, get_or, Option, Some, None, IfSome, IfNone, true, false, refl, sym}
 use Rattle.std.proofs.Common.{ap, subst, inl, inr, arith, append_assoc}
 use Rattle.std.specs.Prelude.{filter, flat_map, cond, not, ◌||◌, ◌==◌}
@@ -30,21 +31,25 @@ use Rattle.package_receipts.proofs.Lists.{same_sorted}
 
 -- ---- the things of one receipt
 
-stand_more : (seq : ℤ) (n : ℕ) (rows : List MovedRow) (row : MovedRow) → StandFrom seq n rows → IsMovedInRange row
+stand_more : (seq : ℤ) (n : ℕ) (rows : List MovedRow) (row : MovedRow) → StandFrom seq n rows
+    → IsMovedInRange row
     → row.seq ≡ seq → row.position ≡ pos (n + length rows) → StandFrom seq n (rows ++ row ∷ [])
 stand_more seq n [] row h r s p = let e : n + 0 ≡ n = omega arith in (r, s, p ∙ ap pos e, tt)
 stand_more seq n (x ∷ xs) row h r s p = let e : n + suc (length xs) ≡ n + 1 + length xs =
     omega arith in (h.0, h.1, h.2, stand_more seq (n + 1) xs row h.3 r s (p ∙ ap pos e))
 
-stand_at : (seq : ℤ) (n : ℕ) (rows : List MovedRow) (i : ℕ) (d : MovedRow) → StandFrom seq n rows → i < length rows
-    → IsMovedInRange (get_or rows i d) × ((get_or rows i d).seq ≡ seq) × ((get_or rows i d).position ≡ pos (n + i))
+stand_at : (seq : ℤ) (n : ℕ) (rows : List MovedRow) (i : ℕ) (d : MovedRow) → StandFrom seq n rows
+    → i < length rows
+    → IsMovedInRange (get_or rows i d) × ((get_or rows i d).seq ≡ seq)
+    × ((get_or rows i d).position ≡ pos (n + i))
 stand_at seq n [] i d h less = absurd (omega (arith, less))
 stand_at seq n (x ∷ xs) zero d h less = let e : n ≡ n + 0 = omega arith in (h.0, h.1, h.2 ∙ ap pos e)
 stand_at seq n (x ∷ xs) (suc i) d h less = let e : n + 1 + i ≡ n + suc i = omega arith in let it =
     stand_at seq (n + 1) xs i d h.3 (omega (arith, less)) in (it.0, it.1, it.2 ∙ ap pos e)
 
 -- a row that stands among them
-pub standing : (seq : ℤ) (rows : List MovedRow) (i : ℕ) (row : MovedRow) → row ≡ get_or rows i row → i < length rows
+pub standing : (seq : ℤ) (rows : List MovedRow) (i : ℕ) (row : MovedRow) → row ≡ get_or rows i row
+    → i < length rows
     → StandFrom seq 0 rows → IsMovedInRange row × (row.seq ≡ seq) × (row.position ≡ pos i)
 standing seq rows i row is less h =
     let e : 0 + i ≡ i = omega arith in
@@ -84,7 +89,8 @@ one_thing seq rows things i row x less is long so_far s p it =
     }
 
 -- one thing more
-pub pushed : (things : List Moved) (x : Moved) (i : ℕ) → length things ≡ i → length (things ++ x ∷ []) ≡ i + 1
+pub pushed : (things : List Moved) (x : Moved) (i : ℕ) → length things ≡ i
+    → length (things ++ x ∷ []) ≡ i + 1
 pushed things x i long = grind (arith, length_push things x, long)
 
 pub all_things : (seq : ℤ) (rows : List MovedRow) (things : List Moved) (i : ℕ) → length rows ≤ i
@@ -93,7 +99,8 @@ all_things seq rows things i long it = subst (λ r. AreThingsOf seq r things) (t
 
 -- the row of a receipt with these things
 pub receipt_here : (row : ReceiptRow) (rows : List MovedRow) (things : List Moved) (r : Receipt)
-    → AreThingsOf row.seq rows things → receipt_row r ≡ row → IsFitReceipt r → r.items ≡ things → IsReceiptInRange row
+    → AreThingsOf row.seq rows things → receipt_row r ≡ row → IsFitReceipt r → r.items ≡ things
+    → IsReceiptInRange row
     → IsReceiptAt row rows r
 receipt_here row rows things r it is fit items range = record {
   range = range;
@@ -110,8 +117,10 @@ abbrev pub HeadAbove : ℤ → List MovedRow → Type 0
 HeadAbove s [] = Unit {0}
 HeadAbove s (x ∷ xs) = s <ℤ x.seq
 
-same_cut : (s : ℤ) (front back own others : List MovedRow) → AllByRecursion (λ m. m.seq ≤ℤ s) front → HeadAbove s back
-    → AllByRecursion (λ m. m.seq ≡ s) own → AllByRecursion (λ m. s <ℤ m.seq) others → front ++ back ≡ own ++ others
+same_cut : (s : ℤ) (front back own others : List MovedRow) → AllByRecursion (λ m. m.seq ≤ℤ s) front
+    → HeadAbove s back
+    → AllByRecursion (λ m. m.seq ≡ s) own → AllByRecursion (λ m. s <ℤ m.seq) others
+    → front ++ back ≡ own ++ others
     → (front ≡ own) × (back ≡ others)
 same_cut s [] back [] others f h o b e = (refl, e)
 same_cut s [] [] (y ∷ own) others f h o b e = absurd (cc)
@@ -141,7 +150,8 @@ above_owner : (s : ℤ) (left : List ReceiptRow) (m : MovedRow) → AllByRecursi
     → list_any (λ r. int_eq r.seq m.seq) left ≡ true → s <ℤ m.seq
 above_owner s [] m up h = absurd (false≢true h)
 above_owner s (r ∷ rs) m up h =
-    elim (int_eq r.seq m.seq) as (λ v. int_eq r.seq m.seq ≡ v → (v || list_any (λ x. int_eq x.seq m.seq) rs) ≡ true
+    elim (int_eq r.seq m.seq) as (λ v. int_eq r.seq m.seq ≡ v
+    → (v || list_any (λ x. int_eq x.seq m.seq) rs) ≡ true
     → s <ℤ m.seq) [
       | true ↦ λ e _. let same = int_eq_at r.seq m.seq e in let less : s <ℤ r.seq =
           up.0 in omega (arith, ints, same, less)
@@ -234,7 +244,8 @@ positions_rise s (x ∷ xs) up same = (behind xs up.0 same.1, positions_rise s x
     )
 
 stand_up : (s : ℤ) (n : ℕ) (ms : List MovedRow) → AllByRecursion IsMovedInRange ms
-    → AllByRecursion (λ m. m.seq ≡ s) ms → map (λ m. m.position) ms ≡ map (λ x. pos x.0) (enumerate_from n ms)
+    → AllByRecursion (λ m. m.seq ≡ s) ms → map (λ m. m.position) ms
+    ≡ map (λ x. pos x.0) (enumerate_from n ms)
     → StandFrom s n ms
 stand_up s n [] r e p = tt
 stand_up s n (x ∷ xs) r e p =
@@ -310,7 +321,8 @@ one_less row left ms up turn it =
     differs m other e = true≢false (sym other ∙ ap not (ap (λ z. int_eq z row.seq) e ∙ int_eq_itself row.seq))
 
     other_owner : (m : MovedRow) → not (int_eq m.seq row.seq) ≡ true
-        → list_any (λ r. int_eq r.seq m.seq) (row ∷ left) ≡ true → list_any (λ r. int_eq r.seq m.seq) left ≡ true
+        → list_any (λ r. int_eq r.seq m.seq) (row ∷ left) ≡ true
+        → list_any (λ r. int_eq r.seq m.seq) left ≡ true
     other_owner m other h = subst (λ b. (b || list_any (λ r. int_eq r.seq m.seq) left) ≡ true)
         (int_eq_apart row.seq m.seq (λ e. differs m other (sym e))) h
 
@@ -333,7 +345,8 @@ one_more row left own others up range stand rest =
     (λ m h. int_eq_apart m.seq s (λ g. absurd (omega (arith, ints, h, g)))) others higher) in
     let here : moved_under s (own ++ others) ≡ own = filter-append (λ m. int_eq m.seq s) own others
     ∙ ap (λ l. l ++ moved_under s others) all ∙ ap (λ l. own ++ l) none ∙ append-nil own in
-    let later : (r : ReceiptRow) → s <ℤ r.seq → moved_under r.seq (own ++ others) ≡ moved_under r.seq others = λ r less.
+    let later : (r : ReceiptRow) → s <ℤ r.seq → moved_under r.seq (own ++ others) ≡ moved_under r.seq others =
+    λ r less.
     filter-append (λ m. int_eq m.seq r.seq) own others
     ∙ ap (λ l. l ++ moved_under r.seq others) (filter_none (λ m. int_eq m.seq r.seq) own
     (All-weaker (λ m. m.seq ≡ s) (λ m. int_eq m.seq r.seq ≡ false)
@@ -359,7 +372,8 @@ one_more row left own others up range stand rest =
 
 -- ---- the walk
 
-head_above : (s : ℤ) (n : ℕ) (ms : List MovedRow) → ((d : MovedRow) → n < length ms → s <ℤ (get_or ms n d).seq)
+head_above : (s : ℤ) (n : ℕ) (ms : List MovedRow) → ((d : MovedRow) → n < length ms
+    → s <ℤ (get_or ms n d).seq)
     → HeadAbove s (drop n ms)
 head_above s zero [] h = tt
 head_above s (suc n) [] h = tt
@@ -400,8 +414,7 @@ begun receipts moved up turn = record {
   fit = tt;
   fore = λ h. h;
   back = λ h. h;
-  rising =
-      up;
+  rising = up;
   turn = turn;
 }
 
@@ -451,7 +464,8 @@ ended receipts moved entered left rest no_left no_rest so = record {
   range = so.fore (subst (λ l. AreReceiptsInRange l rest) (sym no_left)
       (subst (AreReceiptsInRange []) (sym no_rest) (record { rows = tt; things = tt; positions = tt; owners = tt })));
   rows = so.rows ∙ ap (λ l. map receipt_row entered ++ l) no_left ∙ append-nil (map receipt_row entered);
-  things = so.things ∙ ap (λ l. flat_map moved_rows entered ++ l) no_rest ∙ append-nil (flat_map moved_rows entered);
+  things = so.things ∙ ap (λ l. flat_map moved_rows entered ++ l) no_rest
+      ∙ append-nil (flat_map moved_rows entered);
   fit = so.fit;
 }
 
@@ -469,13 +483,15 @@ none_long n (x ∷ xs) long none = absurd (omega (arith, long, none))
 
 pub none_there : {X : Type 0} (l : List X) → (length l == 0) ≡ true → l ≡ []
 none_there [] h = refl
-none_there (x ∷ xs) h = absurd (let e : length (x ∷ xs) ≡ 0 = eqb-true (length (x ∷ xs)) 0 h in omega (arith, e))
+none_there (x ∷ xs) h = absurd (let e : length (x ∷ xs) ≡ 0 =
+    eqb-true (length (x ∷ xs)) 0 h in omega (arith, e))
 
 -- ---- what was read of one receipt
 
 pub receipt_if : (row : ReceiptRow) (rows : List MovedRow) (things : List Moved) (r : Option Receipt)
     → AreThingsOf row.seq rows things → IfSome r (λ x. receipt_row x ≡ row) → IfSome r IsFitReceipt
-    → IfSome r (λ x. x.items ≡ things) → IfSome r (λ _. IsReceiptInRange row) → IfSome r (IsReceiptAt row rows)
+    → IfSome r (λ x. x.items ≡ things) → IfSome r (λ _. IsReceiptInRange row)
+    → IfSome r (IsReceiptAt row rows)
 receipt_if row rows things None it is fit items range = tt
 receipt_if row rows things (Some r) it is fit items range = receipt_here row rows things r it is fit items range
 
@@ -513,15 +529,13 @@ receipt_there row rows range stand =
       request = range.request.id;
       at = row.at;
       line = row.line;
-      source =
-          source.0;
+      source = source.0;
       target = target.0;
       items = things.0;
       tiles = tiles.0;
       media = media.0;
       rows = marks.0;
-      links =
-          links.0;
+      links = links.0;
       bytes = bytes.0;
     } in
     let is : receipt_row r ≡ row = sym {A = ReceiptRow} (λ n. record {
@@ -530,21 +544,18 @@ receipt_there row rows range stand =
       at = row.at;
       line = row.line;
       source = source.1 n;
-      target =
-          target.1 n;
+      target = target.1 n;
       n_tiles = tiles.1 n;
       n_media = media.1 n;
       n_rows = marks.1 n;
       n_links = links.1 n;
-      n_bytes =
-          bytes.1 n;
+      n_bytes = bytes.1 n;
     }) in
     let fit : IsFitReceipt r = record {
       request = range.request.uuid;
       source = source.2;
       target = target.2;
-      items =
-          things.2;
+      items = things.2;
     } in
     (r, receipt_here row rows things.0 r (record { stand = stand; are = things.1; fit = things.2 }) is fit refl range)
 

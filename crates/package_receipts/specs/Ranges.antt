@@ -1,6 +1,7 @@
 -- Which rows of receipts, and of what they moved, are in their ranges. Profile, over UUIDs (RFC 9562, section 4) and
 -- digests (FIPS 180-4, section 6.2).
-use Rattle.std.specs.Prelude.{◌≡◌, ℕ, true, false, ℤ, pos, ◌≤ℤ◌, Bool, List, [], map, filter, IsPermutation, ◌⊎◌}
+use Rattle.std.specs.Prelude.{◌≡◌, ℕ, true, false, ℤ, pos, ◌≤ℤ◌, Bool, List, [], map, filter}
+use Rattle.std.specs.Prelude.{IsPermutation, ◌⊎◌}
 use Rattle.std.specs.List.{list_any, AllByRecursion, enumerate_from}
 use Rattle.std.specs.Ordering.{int_eq}
 use Rattle.hex.specs.Hex.{encode_lower}

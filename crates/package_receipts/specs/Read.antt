@@ -1,5 +1,6 @@
 -- What rows in their ranges say. Profile.
-use Rattle.std.specs.Prelude.{◌≡◌, ◌⊎◌, ℕ, ◌+◌, ℤ, ◌<ℤ◌, ◌≤ℤ◌, Bool, true, not, ◌&&◌, pos, if◌then◌else◌, List, []}
+use Rattle.std.specs.Prelude.{◌≡◌, ◌⊎◌, ℕ, ◌+◌, ℤ, ◌<ℤ◌, ◌≤ℤ◌, Bool, true, not}
+use Rattle.std.specs.Prelude.{◌&&◌, pos, if◌then◌else◌, List, []}
 use Rattle.std.specs.Prelude.{◌∷◌, map, flat_map, IsPermutation}
 use Rattle.std.specs.List.{AllByRecursion, enumerate_from}
 use Rattle.sqlite_trees.specs.Tree.{IsAscending}

@@ -1,5 +1,6 @@
 //! All rows of receipts, and of what they moved, in the order of the receipts' numbers and of the places.
-ghost use Rattle.std.specs.Prelude.{◌≡◌, ◌+◌, ◌<◌, ◌≤◌, ◌<ℤ◌, ◌≤ℤ◌, ◌↔◌, pos, take, length, slice_index_or, IsTrue};
+ghost use Rattle.std.specs.Prelude.{◌≡◌, ◌+◌, ◌<◌, ◌≤◌, ◌<ℤ◌, ◌≤ℤ◌, ◌↔◌, pos};
+ghost use Rattle.std.specs.Prelude.{take, length, slice_index_or, IsTrue};
 ghost use Rattle.std.specs.Prelude.{IfOk, IfSome, IfNone};
 ghost use Rattle.std.specs.List.{AllByRecursion};
 ghost use Rattle.std.specs.Vec.Iter.{into_iter_items, into_iter_len};
@@ -54,7 +55,8 @@ fn things_of(alloc: Global, seq: i64, rows: &[MovedRow]) -> Result<Option<MovedL
 /// or does not stand at its place.
 fn receipt_at(alloc: Global, row: ReceiptRow, moved: &[MovedRow]) -> Result<Option<Receipt>, Fault>
     ensures some { IfOk result (λ found. IfSome found (IsReceiptAt row moved.now)) }
-    ensures none { IfOk result (λ found. IfNone found (IsReceiptInRange row → StandFrom row.seq 0 moved.now → ⊥)) }
+    ensures none { IfOk result (λ found. IfNone found (IsReceiptInRange row → StandFrom row.seq 0 moved.now
+        → ⊥)) }
 {
     let Some(things) = things_of(alloc, row.seq, moved)? else {
         return Ok(None);

@@ -1,5 +1,6 @@
 -- Rows that agree in each column are equal.
-use Rattle.std.proofs.Common.{◌≡◌, ◌∙◌, ℤ, [], nat_eq, refl, sym, ap, IsTrue, FitsSigned, w64, of_z, to_z, to_z-of_z}
+use Rattle.std.proofs.Common.{◌≡◌, ◌∙◌, ℤ, [], nat_eq, refl, sym, ap, IsTrue, FitsSigned, w64, of_z}
+use Rattle.std.proofs.Common.{to_z, to_z-of_z}
 use Rattle.std.specs.Prelude.{◌↔◌}
 use Rattle.std.specs.Bool.{one_answer}
 use Rattle.std.specs.Ordering.{int_eq}
@@ -18,7 +19,8 @@ use Rattle.store_sql.proofs.Both.{two}
 pub same_z : (z : ℤ) → FitsSigned w64 z → to_z w64 (of_z w64 z) ≡ z
 same_z z fits = simp (to_z-of_z, fits) refl
 
-pub same_number : (a b : ℤ) → FitsSigned w64 a → FitsSigned w64 b → nat_eq (of_z w64 a) (of_z w64 b) ≡ int_eq a b
+pub same_number : (a b : ℤ) → FitsSigned w64 a → FitsSigned w64 b
+    → nat_eq (of_z w64 a) (of_z w64 b) ≡ int_eq a b
 same_number a b f g =
     let test = unsigned_Decides (of_z w64 a) (of_z w64 b) in
     one_answer (nat_eq (of_z w64 a) (of_z w64 b)) (int_eq a b)
@@ -36,8 +38,7 @@ agree_system a b =
       λ yes. let h = each.0 yes in λ n. record {
         srs_name = h.0.0.0.0.0 n;
         srs_id = h.0.0.0.0.1 n;
-        organization =
-            h.0.0.0.1 n;
+        organization = h.0.0.0.1 n;
         organization_coordsys_id = h.0.0.1 n;
         definition = h.0.1 n;
         description = h.1 n;
@@ -69,18 +70,15 @@ agree_content a b none =
     (signed_Decides a.max_y b.max_y)) (signed_Decides a.srs_id b.srs_id) in (
       λ yes. let h = each.0 yes in λ n. record {
         table_name = h.0.0.0.0.0.0.0.0 n;
-        data_type =
-            h.0.0.0.0.0.0.0.1 n;
+        data_type = h.0.0.0.0.0.0.0.1 n;
         identifier = h.0.0.0.0.0.0.1 n;
         description = h.0.0.0.0.0.1 n;
-        min_x =
-            h.0.0.0.0.1 n;
+        min_x = h.0.0.0.0.1 n;
         min_y = h.0.0.0.1 n;
         max_x = h.0.0.1 n;
         max_y = h.0.1 n;
         srs_id = h.1 n;
-        last_change =
-            sym none n;
+        last_change = sym none n;
       },
       λ e. each.1 (
         (
@@ -120,8 +118,7 @@ agree_set a b =
       λ yes. let h = each.0 yes in λ n. record {
         table_name = h.0.0.0.0.0 n;
         srs_id = h.0.0.0.0.1 n;
-        min_x =
-            h.0.0.0.1 n;
+        min_x = h.0.0.0.1 n;
         min_y = h.0.0.1 n;
         max_x = h.0.1 n;
         max_y = h.1 n;
@@ -152,12 +149,10 @@ agree_level a b =
     (signed_Decides a.pixel_x_size b.pixel_x_size)) (signed_Decides a.pixel_y_size b.pixel_y_size) in (
       λ yes. let h = each.0 yes in λ n. record {
         table_name = h.0.0.0.0.0.0.0 n;
-        zoom_level =
-            h.0.0.0.0.0.0.1 n;
+        zoom_level = h.0.0.0.0.0.0.1 n;
         matrix_width = h.0.0.0.0.0.1 n;
         matrix_height = h.0.0.0.0.1 n;
-        tile_width =
-            h.0.0.0.1 n;
+        tile_width = h.0.0.0.1 n;
         tile_height = h.0.0.1 n;
         pixel_x_size = h.0.1 n;
         pixel_y_size = h.1 n;
@@ -197,11 +192,9 @@ agree_relation a b =
     (bytes_eq-Decides a.mapping_table_name b.mapping_table_name) in (
       λ yes. let h = each.0 yes in λ n. record {
         id = h.0.0.0.0.0.0 n;
-        base_table_name =
-            h.0.0.0.0.0.1 n;
+        base_table_name = h.0.0.0.0.0.1 n;
         base_primary_column = h.0.0.0.0.1 n;
-        related_table_name =
-            h.0.0.0.1 n;
+        related_table_name = h.0.0.0.1 n;
         related_primary_column = h.0.0.1 n;
         relation_name = h.0.1 n;
         mapping_table_name = h.1 n;

@@ -1,5 +1,6 @@
 -- Two lists that rise by a number are one where each is an order of the other.
-use Rattle.std.specs.Prelude.{◌≡◌, ℤ, ◌<ℤ◌, Bool, true, false, int_lt, List, [], ◌∷◌, map, refl, IsPermutation}
+use Rattle.std.specs.Prelude.{◌≡◌, ℤ, ◌<ℤ◌, Bool, true, false, int_lt, List, [], ◌∷◌, map, refl}
+use Rattle.std.specs.Prelude.{IsPermutation}
 use Rattle.std.specs.Prelude.{IsSorted}
 use Rattle.std.proofs.Common.{sym, ap, ◌∙◌, arith, inl, inr, Less, Equal, Greater, cond}
 use Rattle.std.specs.List.{AllByRecursion, IsDistinct}
@@ -47,7 +48,8 @@ module _ {X : Type 0} (number : X → ℤ) where
   abbrev pub Up : X → X → Type 0
   Up a b = number a <ℤ number b
 
-  rest : (x y : X) (xs ys : List X) → x ≡ y → AllByRecursion (Up x) xs → AllByRecursion (λ z. In z (y ∷ ys)) xs
+  rest : (x y : X) (xs ys : List X) → x ≡ y → AllByRecursion (Up x) xs
+      → AllByRecursion (λ z. In z (y ∷ ys)) xs
       → AllByRecursion (λ z. In z ys) xs
   rest x y xs ys same up all = All-both (Up x) (λ z. In z (y ∷ ys)) (λ z. In z ys)
       (λ z less i. elim i [
@@ -80,7 +82,8 @@ module _ {X : Type 0} (number : X → ℤ) where
   distinct_up [] up = tt
   distinct_up (x ∷ xs) up = (
     all-map (λ k. int_eq (number x) k ≡ false) number xs
-        (All-weaker (Up x) (λ y. int_eq (number x) (number y) ≡ false) (λ y h. apart (number x) (number y) h) xs up.0),
+        (All-weaker (Up x) (λ y. int_eq (number x) (number y) ≡ false) (λ y h. apart (number x) (number y) h) xs
+        up.0),
     distinct_up xs up.1,
   )
 
@@ -89,7 +92,8 @@ module _ {X : Type 0} (number : X → ℤ) where
   unfolding IsDistinct
   up_distinct [] most apart = tt
   up_distinct (x ∷ xs) most apart = (
-    All-both (λ y. is_gt (int_cmp (number x) (number y)) ≡ false) (λ y. int_eq (number x) (number y) ≡ false) (Up x)
+    All-both (λ y. is_gt (int_cmp (number x) (number y)) ≡ false) (λ y. int_eq (number x) (number y) ≡ false)
+        (Up x)
         (λ y m d. strictly (number x) (number y) m d) xs most.0
         (All-of_map (λ k. int_eq (number x) k ≡ false) number xs apart.0),
     up_distinct xs most.1 apart.1,

@@ -1,5 +1,6 @@
 -- From the clauses of `query_all` to what a look at a store shows: of no table, and of the rows of one.
-use Rattle.std.proofs.Common.{◌≡◌, Ordering, ℕ, List, [], codes, Bool, true, false, Result, Ok, Err, IsTrue, refl}
+use Rattle.std.proofs.Common.{◌≡◌, Ordering, ℕ, List, [], codes, Bool, true, false, Result, Ok, Err, IsTrue}
+use Rattle.std.proofs.Common.{refl}
 use Rattle.std.proofs.Common.{subst}
 use Rattle.std.specs.Prelude.{IfOk, IfErr, IsPermutation, ⊤}
 use Rattle.sqlite.specs.Order.{Row}
@@ -72,14 +73,14 @@ module _ {S Y : Type 0} (items : Y → List Row) (given : Row) (same : given ≡
         read.listing read.is g shuts settles items old new rests r
         (subst (λ p. HasCleanDisk (state g new) → IfOk r (λ y. Shown text p (state g old) (state g new) (items y)))
         same ok)
-        (subst (λ p. HasCleanDisk (state g new) → IfErr r (FailsToQuery text p (state g old) (state g new))) same err)
+        (subst (λ p. HasCleanDisk (state g new) → IfErr r (FailsToQuery text p (state g old) (state g new))) same
+        err)
         mode
         (subst (λ p. Survives (state g old) (state g new) (CommitsShowing text p (state g old))) same survives) in
         record {
           rests = found.rests;
           done = λ clean. at r result (found.done clean) said;
-          was_open =
-              found.was_open;
+          was_open = found.was_open;
           holds = found.holds;
           survives = found.survives;
         }
@@ -123,21 +124,22 @@ module _ {S Y : Type 0} (items : Y → List Row) (given : Row) (same : given ≡
         → Survives (state g old) (state g new) (CommitsShowing text given (state g old))
         → {X : Type 0} (of : X → List R) (result : Result X Fault)
         → AreSaid items (λ rows x. AreShown shown rows (of x)) r result
-        → Looks (Sees (λ db x. IsFormed shape db → AreAll cmp (rows_of shape db) (of x))) (state g old) (state g new)
+        → Looks (Sees (λ db x. IsFormed shape db → AreAll cmp (rows_of shape db) (of x))) (state g old)
+        (state g new)
         result
     rows_look ok err mode survives {X} of result said =
         let found = found_looks text shape.table read.test read.by read.selects read.planned [] read.given
         read.listing read.is g shuts settles items old new rests r
         (subst (λ p. HasCleanDisk (state g new) → IfOk r (λ y. Shown text p (state g old) (state g new) (items y)))
         same ok)
-        (subst (λ p. HasCleanDisk (state g new) → IfErr r (FailsToQuery text p (state g old) (state g new))) same err)
+        (subst (λ p. HasCleanDisk (state g new) → IfErr r (FailsToQuery text p (state g old) (state g new))) same
+        err)
         mode
         (subst (λ p. Survives (state g old) (state g new) (CommitsShowing text p (state g old))) same survives) in
         record {
           rests = found.rests;
           done = λ clean. at r result (found.done clean) said;
-          was_open =
-              found.was_open;
+          was_open = found.was_open;
           holds = found.holds;
           survives = found.survives;
         }

@@ -1,5 +1,6 @@
 -- The two tables whose columns let a NULL in, and what a look at their rows tells of it.
-use Rattle.std.proofs.Common.{◌≡◌, ℕ, List, [], ◌∷◌, map, codes, Bool, true, false, Result, Ok, Err, IsTrue, IsErr}
+use Rattle.std.proofs.Common.{◌≡◌, ℕ, List, [], ◌∷◌, map, codes, Bool, true, false, Result, Ok, Err}
+use Rattle.std.proofs.Common.{IsTrue, IsErr}
 use Rattle.std.proofs.Common.{refl, sym, subst, ◌∙◌}
 use Rattle.std.specs.Prelude.{◌↔◌, not, IfOk, IfErr, IsOkAnd, IsPermutation}
 use Rattle.std.specs.List.{AllByRecursion, list_all}
@@ -111,8 +112,7 @@ contents_whole = record {
   selects = contents_text;
   planned = contents_plan;
   listing = _;
-  is =
-      λ spelling. refl;
+  is = λ spelling. refl;
   keeps = λ r. refl;
   shows = λ r int. refl;
 }
@@ -123,8 +123,7 @@ systems_whole = record {
   selects = systems_text;
   planned = systems_plan;
   listing = _;
-  is =
-      λ spelling. refl;
+  is = λ spelling. refl;
   keeps = λ r. refl;
   shows = λ r int. rw (int_is_value (column r 0) int) refl;
 }
@@ -216,7 +215,8 @@ module _ {R : Type 0} (shape : Shape R) (laws : IsShape shape) {text : List ℕ}
   whole_looks {S} {Y} {E} items given same g shuts settles old new rests r ok err mode survives result said =
       let found = found_looks text shape.table always it.by it.selects it.planned [] refl it.listing it.is g shuts
       settles items old new rests r
-      (subst (λ p. HasCleanDisk (state g new) → IfOk r (λ y. Shown text p (state g old) (state g new) (items y))) same
+      (subst (λ p. HasCleanDisk (state g new) → IfOk r (λ y. Shown text p (state g old) (state g new) (items y)))
+      same
       ok)
       (subst (λ p. HasCleanDisk (state g new) → IfErr r (FailsToQuery text p (state g old) (state g new))) same err)
       mode
@@ -224,15 +224,15 @@ module _ {R : Type 0} (shape : Shape R) (laws : IsShape shape) {text : List ℕ}
       record {
         rests = found.rests;
         done = λ clean. at r result (found.done clean) said;
-        was_open =
-            found.was_open;
+        was_open = found.was_open;
         holds = found.holds;
         survives = found.survives;
       }
     where
       at : (r : Result Y Error) (result : Result Bool E) → IfOk r
           (λ y. IsTrue (state g new).is_open × Finds shape.table it.listing (items y) (state g old).now
-          (state g new).now) → IfOk result (λ full. IsOkAnd r (λ y. IsTrue full ↔ AllByRecursion IsFull (items y)))
+          (state g new).now) → IfOk result (λ full. IsOkAnd r
+          (λ y. IsTrue full ↔ AllByRecursion IsFull (items y)))
           → IfOk result (λ x. IsTrue (state g new).is_open × SaysOf (AreFilled shape) x (state g old).now
           (state g new).now)
       at (Ok y) (Ok x) found said = (

@@ -1,5 +1,6 @@
 -- Tests of the rows that each package has are tests of the lists, in any order.
-use Rattle.std.proofs.Common.{◌≡◌, ℕ, suc, ℤ, List, [], ◌∷◌, length, nat_eq, Bool, true, false, refl, sym, ap, subst}
+use Rattle.std.proofs.Common.{◌≡◌, ℕ, suc, ℤ, List, [], ◌∷◌, length, nat_eq, Bool, true, false, refl}
+use Rattle.std.proofs.Common.{sym, ap, subst}
 use Rattle.std.proofs.Common.{◌∙◌, IsTrue}
 use Rattle.std.specs.Prelude.{◌↔◌, ◌&&◌, IsPermutation, cond}
 use Rattle.std.specs.List.{list_any}
@@ -24,7 +25,8 @@ use Rattle.package_schema.proofs.Having.{has_one, has_this, just}
 
 -- tests of three elements and of how many there are
 three_just : {X : Type 0} (key : X → List ℕ) (xs : List X) (e f g : X) (a b c d : Bool)
-    → IsArranged key (e ∷ f ∷ g ∷ []) → (IsTrue a ↔ In e xs) → (IsTrue b ↔ In f xs) → (IsTrue c ↔ In g xs)
+    → IsArranged key (e ∷ f ∷ g ∷ []) → (IsTrue a ↔ In e xs) → (IsTrue b ↔ In f xs)
+    → (IsTrue c ↔ In g xs)
     → (IsTrue d ↔ (length xs ≡ 3))
     → IsTrue (((a && b) && c) && d) ↔ IsPermutation xs (e ∷ f ∷ g ∷ [])
 three_just key xs e f g a b c d order first second third long =
@@ -62,7 +64,8 @@ relations_just rows e f g a b c all first second third =
     (relation_in rows e a first) (relation_in rows f b second) (relation_in rows g c third)
     (unsigned_Decides (length rows) 3))
 
-pub first_relations_just : (rows : List RelationRow) (e f : RelationRow) (a b : Bool) → first_relations ≡ e ∷ f ∷ []
+pub first_relations_just : (rows : List RelationRow) (e f : RelationRow) (a b : Bool)
+    → first_relations ≡ e ∷ f ∷ []
     → a ≡ list_any (λ x. same_relation x e) rows → b ≡ list_any (λ x. same_relation x f) rows
     → IsTrue ((a && b) && nat_eq (length rows) 2) ↔ IsPermutation rows first_relations
 first_relations_just rows e f a b all first second =
@@ -76,7 +79,8 @@ first_relations_just rows e f a b all first second =
 pub contents_just : (frame : Frame) (rows : List ContentsRow) (e f g : ContentsRow) (a b c : Bool)
     → contents_of frame [] ≡ e ∷ f ∷ g ∷ [] → a ≡ list_any (λ x. same_content x e) rows
     → b ≡ list_any (λ x. same_content x f) rows
-    → c ≡ list_any (λ x. same_content x g) rows → e.last_change ≡ [] → f.last_change ≡ [] → g.last_change ≡ []
+    → c ≡ list_any (λ x. same_content x g) rows → e.last_change ≡ [] → f.last_change ≡ []
+    → g.last_change ≡ []
     → IsTrue (((a && b) && c) && nat_eq (length rows) 3) ↔ IsPermutation (undated rows) (contents_of frame [])
 contents_just frame rows e f g a b c all first second third p q s =
     let long : IsTrue (nat_eq (length rows) 3) ↔ (length (undated rows) ≡ 3) =
@@ -88,9 +92,11 @@ contents_just frame rows e f g a b c all first second third p q s =
     (content_in rows f b q second) (content_in rows g c s third) long)
 
 pub standard_just : (n : ℤ) (rows : List SpatialRefSysRow) (e f g : SpatialRefSysRow) (a b c : Bool)
-    → is_standard n ≡ true → standard_systems ≡ e ∷ f ∷ g ∷ [] → a ≡ list_any (λ x. same_system x e) rows
+    → is_standard n ≡ true → standard_systems ≡ e ∷ f ∷ g ∷ []
+    → a ≡ list_any (λ x. same_system x e) rows
     → b ≡ list_any (λ x. same_system x f) rows
-    → c ≡ list_any (λ x. same_system x g) rows → IsTrue (((a && b) && c) && nat_eq (length rows) 3) ↔ IsPermutation
+    → c ≡ list_any (λ x. same_system x g) rows → IsTrue (((a && b) && c) && nat_eq (length rows) 3) ↔
+    IsPermutation
     rows (systems_of n)
 standard_just n rows e f g a b c standard all first second third =
     let is : systems_of n ≡ e ∷ f ∷ g ∷ [] = standard_suffices n standard ∙ all in
@@ -106,7 +112,8 @@ put_longer key x (y ∷ ys) = elim (is_before (key y) (key x)) as
     [ true ↦ ap suc (put_longer key x ys) | false ↦ refl ]
 
 pub own_just : (n : ℤ) (rows : List SpatialRefSysRow) (e f g : SpatialRefSysRow) (a b c d : Bool)
-    → is_standard n ≡ false → standard_systems ≡ e ∷ f ∷ g ∷ [] → a ≡ list_any (λ x. same_system x e) rows
+    → is_standard n ≡ false → standard_systems ≡ e ∷ f ∷ g ∷ []
+    → a ≡ list_any (λ x. same_system x e) rows
     → b ≡ list_any (λ x. same_system x f) rows
     → c ≡ list_any (λ x. same_system x g) rows → d ≡ list_any (λ x. same_system x (own_system n)) rows
     → IsTrue ((((a && b) && c) && d) && nat_eq (length rows) 4) ↔ IsPermutation rows (systems_of n)

@@ -1,5 +1,6 @@
 -- The fixed rows as they were read are those of the tables, which stand in the order of their keys.
-use Rattle.std.proofs.Common.{◌≡◌, ◌<◌, ◌+◌, ℕ, zero, suc, ℤ, pos, ◌≤ℤ◌, ◌+ℤ◌, List, [], ◌∷◌, map, Bool, true, false}
+use Rattle.std.proofs.Common.{◌≡◌, ◌<◌, ◌+◌, ℕ, zero, suc, ℤ, pos, ◌≤ℤ◌, ◌+ℤ◌, List}
+use Rattle.std.proofs.Common.{[], ◌∷◌, map, Bool, true, false}
 use Rattle.std.proofs.Common.{Option, Some, None, refl, sym, ap, subst, ◌∙◌, arith, IsTrue, unsigned_abs}
 use Rattle.std.specs.Prelude.{◌↔◌, IsPermutation, bytes_eq}
 use Rattle.std.specs.List.{AllByRecursion, range_with_len}
@@ -55,7 +56,8 @@ contents_order f at = ((refl, (refl, tt)), ((refl, tt), (tt, tt)))
 pub relations_order : IsArranged relation_shape.key mapping_relations
 relations_order = ((refl, (refl, tt)), ((refl, tt), (tt, tt)))
 
-levels_order : (f : Frame) (n : ℕ) → pos 0 ≤ℤ f.first_zoom → IsArranged tile_matrix_shape.key (first_levels f n)
+levels_order : (f : Frame) (n : ℕ) → pos 0 ≤ℤ f.first_zoom → IsArranged tile_matrix_shape.key
+    (first_levels f n)
 levels_order f zero low = tt
 levels_order f (suc n) low = subst (IsArranged tile_matrix_shape.key)
     (level_comes f n low ∙ ap (first_levels f) (let e : n + 1 ≡ suc n = omega arith in e))
@@ -146,19 +148,16 @@ frame_same rels order f good db found read =
         related.0 are.related,
         record {
           spatial_ref_sys = systems.0 are.systems;
-          contents =
-              listed.0 are.listed;
+          contents = listed.0 are.listed;
           tile_matrix_set = sets.0 are.sets;
           tile_matrix = levels.0 are.levels;
-          relations =
-              refl;
+          relations = refl;
         },
       ),
       λ has. record {
         systems = systems.1 has.1.spatial_ref_sys;
         listed = listed.1 has.1.contents;
-        sets =
-            sets.1 has.1.tile_matrix_set;
+        sets = sets.1 has.1.tile_matrix_set;
         levels = levels.1 has.1.tile_matrix;
         related = related.1 has.0;
       },
@@ -169,8 +168,7 @@ whole_fixed : (f : Frame) (t : Tables) → HasFixedWith mapping_relations f t �
 whole_fixed f t has = record {
   spatial_ref_sys = has.1.spatial_ref_sys;
   contents = has.1.contents;
-  tile_matrix_set =
-      has.1.tile_matrix_set;
+  tile_matrix_set = has.1.tile_matrix_set;
   tile_matrix = has.1.tile_matrix;
   relations = has.0;
 }
@@ -180,8 +178,7 @@ parted_fixed f t has = (
   has.relations,
   record {
     spatial_ref_sys = has.spatial_ref_sys;
-    contents =
-        has.contents;
+    contents = has.contents;
     tile_matrix_set = has.tile_matrix_set;
     tile_matrix = has.tile_matrix;
     relations = refl;

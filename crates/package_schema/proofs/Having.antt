@@ -1,6 +1,7 @@
 -- A list in any order, and a list in the order of a key: where the first has as many elements and each of the second,
 -- the second is an order of it.
-use Rattle.std.proofs.Common.{◌≡◌, ◌≤◌, ℕ, List, [], ◌∷◌, map, length, Bool, true, refl, sym, subst, inl, inr, arith}
+use Rattle.std.proofs.Common.{◌≡◌, ◌≤◌, ℕ, List, [], ◌∷◌, map, length, Bool, true, refl, sym}
+use Rattle.std.proofs.Common.{subst, inl, inr, arith}
 use Rattle.std.proofs.Common.{IsTrue}
 use Rattle.std.specs.Prelude.{◌↔◌, IsPermutation, count_by, cond, bytes_eq}
 use Rattle.std.specs.List.{AllByRecursion, list_any}
@@ -63,7 +64,8 @@ module _ {X : Type 0} (key : X → List ℕ) where
   )
 
   -- an arranged list that has the elements of a list in order is this list
-  pub arranged_is : (raw es : List X) → IsPermutation (arranged key raw) es → IsArranged key es → arranged key raw ≡ es
+  pub arranged_is : (raw es : List X) → IsPermutation (arranged key raw) es → IsArranged key es
+      → arranged key raw ≡ es
   arranged_is raw es same order =
       let whole = IsPermutation-trans raw (arranged key raw) es (arranged_permutation key raw) same in
       same_list key (arranged key raw) es (arranged_counts key raw (λ k. count_same k raw es whole order)) order
@@ -76,9 +78,11 @@ module _ {A B : Type 0} (f : A → B) (same : A → B → Bool) (P : B → Type 
     (decides : (a : A) (b : B) → P b → IsTrue (same a b) ↔ (f a ≡ b)) where
   pub has_one : (xs : List A) (e : B) → P e → IsTrue (list_any (λ a. same a e) xs) ↔ In e (map f xs)
   has_one xs e p = (
-    λ yes. let found = any_at (λ a. same a e) xs yes in subst (λ b. In b (map f xs)) ((decides found.0 e p).0 found.2)
+    λ yes. let found = any_at (λ a. same a e) xs yes in subst (λ b. In b (map f xs))
+        ((decides found.0 e p).0 found.2)
         (In-map f found.0 xs found.1),
-    λ i. let found = In-of_map f e xs i in any_in (λ a. same a e) found.0 xs found.1 ((decides found.0 e p).1 found.2),
+    λ i. let found = In-of_map f e xs i in any_in (λ a. same a e) found.0 xs found.1
+        ((decides found.0 e p).1 found.2),
   )
 
 -- each element of a list is one of its orders
@@ -86,7 +90,8 @@ pub each_in : {X : Type 0} (xs es : List X) → IsPermutation xs es → AllByRec
 each_in xs es same = all-permutation (λ z. In z xs) xs es same (In-all xs)
 
 -- an element by a test of equality
-pub has_this : {X : Type 0} (same : X → X → Bool) → ((a b : X) → IsTrue (same a b) ↔ (a ≡ b)) → (xs : List X) (e : X)
+pub has_this : {X : Type 0} (same : X → X → Bool) → ((a b : X) → IsTrue (same a b) ↔ (a ≡ b))
+    → (xs : List X) (e : X)
     → IsTrue (list_any (λ a. same a e) xs) ↔ In e xs
 has_this same decides xs e = (
   λ yes. let found = any_at (λ a. same a e) xs yes in subst (λ b. In b xs) ((decides found.0 e).0 found.2) found.1,
@@ -95,7 +100,8 @@ has_this same decides xs e = (
 
 -- a test of each element and of how many there are
 pub just : {X : Type 0} (key : X → List ℕ) (xs es : List X) (r : Bool) → IsArranged key es
-    → (IsTrue r ↔ AllByRecursion (λ e. In e xs) es × (length xs ≡ length es)) → IsTrue r ↔ IsPermutation xs es
+    → (IsTrue r ↔ AllByRecursion (λ e. In e xs) es × (length xs ≡ length es))
+    → IsTrue r ↔ IsPermutation xs es
 just key xs es r order so = (
   λ yes. let h = so.0 yes in filled key xs es order h.1 h.0,
   λ same. so.1

@@ -1,5 +1,6 @@
 -- Whose a store says that it is, from the rows of its table of heads.
-use Rattle.std.proofs.Common.{◌≡◌, ℤ, List, [], ◌∷◌, length, Option, Some, None, Ordering, refl, sym, ap, subst}
+use Rattle.std.proofs.Common.{◌≡◌, ℤ, List, [], ◌∷◌, length, Option, Some, None, Ordering, refl, sym}
+use Rattle.std.proofs.Common.{ap, subst}
 use Rattle.std.proofs.Common.{IsTrue, arith}
 use Rattle.std.specs.Prelude.{◌↔◌, IfSome, IfNone, IsPermutation, false}
 use Rattle.std.specs.List.{AllByRecursion}
@@ -48,7 +49,8 @@ pub head_read : (v : ℤ) (cmp : HeadRow → HeadRow → Ordering) (db : Databas
     (keyed : AreKeyed db) (placed : IsPlaced db.schema sheet_package) (rows : List HeadRow)
     → (IsFormed head_shape db → AreAll cmp (rows_of head_shape db) rows)
     → (found : Option StoreHead) → IfSome found (λ h. IsHeadOfAt v rows (head_said h))
-    → IfNone found ((head : Head) → IsHeadOfAt v rows head → ⊥) → ReadsHeadAt v db (option_map head_said found)
+    → IfNone found ((head : Head) → IsHeadOfAt v rows head → ⊥)
+    → ReadsHeadAt v db (option_map head_said found)
 head_read v cmp db sound keyed placed rows all (Some h) some none =
     let formed = formed_needed head_shape heads_plain db sound keyed placed refl in
     (formed, moved_head v (rows_of head_shape db) rows (head_said h) (all formed).0 some)

@@ -1,5 +1,6 @@
 -- The levels of a frame row by row, and the one frame that a tile matrix set and the rows of its levels may be of.
-use Rattle.std.proofs.Common.{◌≡◌, ◌≤◌, ◌<◌, ◌+◌, ℕ, ℤ, pos, negsuc, ◌≤ℤ◌, ◌+ℤ◌, ◌-ℤ◌, ◌*ℤ◌, List, [], ◌∷◌, ◌++◌}
+use Rattle.std.proofs.Common.{◌≡◌, ◌≤◌, ◌<◌, ◌+◌, ℕ, ℤ, pos, negsuc, ◌≤ℤ◌, ◌+ℤ◌}
+use Rattle.std.proofs.Common.{◌-ℤ◌, ◌*ℤ◌, List, [], ◌∷◌, ◌++◌}
 use Rattle.std.proofs.Common.{length, take, get_or, Bool, refl, sym, ap, subst, ◌∙◌, arith, IsTrue, unsigned_abs}
 use Rattle.std.proofs.Common.{FitsSigned, w64, to_z}
 use Rattle.std.specs.Prelude.{◌↔◌, ◌&&◌, ◌^◌}
@@ -32,7 +33,8 @@ one_more f rows at row zoom are here within is level same before =
     let last : IsTrue here ↔ (row ≡ next) = subst (λ z. IsTrue here ↔ (row ≡ level_row f z)) level
     (subst (λ b. IsTrue b ↔ (row ≡ level_row f zoom)) (sym same) (agree_level row (level_row f zoom))) in
     let both = two are here before last in (
-      λ yes. let h = both.0 yes in whole ∙ ap (λ l. l ++ row ∷ []) h.0 ∙ ap (λ r. first_levels f at ++ r ∷ []) h.1
+      λ yes. let h = both.0 yes in whole ∙ ap (λ l. l ++ row ∷ []) h.0
+          ∙ ap (λ r. first_levels f at ++ r ∷ []) h.1
           ∙ sym levels,
       λ e. both.1 (same_from_push (take at rows) (first_levels f at) row next (sym whole ∙ e ∙ levels)),
     )
@@ -54,8 +56,11 @@ pub one_set : (rows : List TileMatrixSetRow) (row s : TileMatrixSetRow) (is : Bo
     → row ≡ get_or rows 0 row → is ≡ same_set row s → IsTrue is ↔ (rows ≡ s ∷ [])
 one_set [] row s is one at same = absurd (omega (arith, one))
 one_set (r ∷ []) row s is one at same =
-    let agree = agree_set row s in
-    (λ yes. ap (λ x. x ∷ []) (sym at ∙ agree.0 (sym same ∙ yes)), λ e. same ∙ agree.1 (at ∙ ap (λ l. get_or l 0 row) e))
+    let agree = agree_set row s in (
+      λ yes. ap (λ x. x ∷ []) (sym at ∙ agree.0 (sym same ∙ yes)),
+      λ e. same
+          ∙ agree.1 (at ∙ ap (λ l. get_or l 0 row) e),
+    )
 one_set (r ∷ q ∷ rows) row s is one at same = absurd (omega (arith, one))
 
 -- ---- the candidate
@@ -87,12 +92,10 @@ pub candidate_is : (f : Frame) → IsTrue (is_good_frame f) → (sets : List Til
       min_y = s.min_y;
       max_x = s.max_x;
       max_y = s.max_y;
-      tile_width =
-          m.tile_width;
+      tile_width = m.tile_width;
       tile_height = m.tile_height;
       first_zoom = m.zoom_level;
-      levels =
-          pos (length levels);
+      levels = pos (length levels);
       matrix_width = m.matrix_width;
       matrix_height = m.matrix_height;
     } ≡ f
@@ -129,14 +132,16 @@ candidate_is f good sets levels s m one all at first =
     some_level (negsuc k) low = absurd (omega (arith, ints, low))
 
 -- a good frame has 1 to 21 levels
-pub level_numbers : (f : Frame) → IsTrue (is_good_frame f) → (levels : List TileMatrixRow) → levels ≡ levels_of f
+pub level_numbers : (f : Frame) → IsTrue (is_good_frame f) → (levels : List TileMatrixRow)
+    → levels ≡ levels_of f
     → (1 ≤ length levels) × (length levels ≤ 21)
 level_numbers f good levels all =
     let g = good_frame f good in
     let long : length levels ≡ unsigned_abs f.levels = ap length all ∙ levels_long f in
     bounds f.first_zoom f.levels (length levels) g.first_zoom g.levels g.zooms long
   where
-    bounds : (z l : ℤ) (n : ℕ) → pos 0 ≤ℤ z → pos 1 ≤ℤ l → (z +ℤ l) ≤ℤ pos 21 → n ≡ unsigned_abs l → (1 ≤ n) × (n ≤ 21)
+    bounds : (z l : ℤ) (n : ℕ) → pos 0 ≤ℤ z → pos 1 ≤ℤ l → (z +ℤ l) ≤ℤ pos 21
+        → n ≡ unsigned_abs l → (1 ≤ n) × (n ≤ 21)
     bounds (pos a) (pos b) n low some most e = (omega (arith, ints, some, most, e), omega (arith, ints, some, most, e))
     bounds (pos a) (negsuc b) n low some most e = absurd (omega (arith, ints, some))
     bounds (negsuc a) l n low some most e = absurd (omega (arith, ints, low))

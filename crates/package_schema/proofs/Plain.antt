@@ -17,8 +17,7 @@ systems_plain = record {
   columns = λ tree. refl;
   key = λ tree. refl;
   kept = refl;
-  ends =
-      refl;
+  ends = refl;
   says = λ r. refl;
   fills = λ v x. refl;
 }
@@ -29,8 +28,7 @@ contents_plain = record {
   columns = λ tree. refl;
   key = λ tree. refl;
   kept = refl;
-  ends =
-      refl;
+  ends = refl;
   says = λ r. refl;
   fills = λ v x. refl;
 }
@@ -40,8 +38,7 @@ matrix_sets_plain = record {
   laws = matrix_sets_listed.laws;
   columns = λ tree. refl;
   key = λ tree. refl;
-  kept =
-      refl;
+  kept = refl;
   ends = refl;
   says = λ r. refl;
   fills = λ v x. refl;
@@ -53,8 +50,7 @@ matrices_plain = record {
   columns = λ tree. refl;
   key = λ tree. refl;
   kept = refl;
-  ends =
-      refl;
+  ends = refl;
   says = λ r. refl;
   fills = λ v x. refl;
 }
@@ -64,8 +60,7 @@ relations_plain = record {
   laws = relations_listed.laws;
   columns = λ tree. refl;
   key = λ tree. refl;
-  kept =
-      refl;
+  kept = refl;
   ends = refl;
   says = λ r. refl;
   fills = λ v x. refl;
@@ -77,8 +72,7 @@ tiles_plain = record {
   columns = λ tree. refl;
   key = λ tree. refl;
   kept = refl;
-  ends =
-      refl;
+  ends = refl;
   says = λ r. refl;
   fills = λ v x. refl;
 }
@@ -89,8 +83,7 @@ media_plain = record {
   columns = λ tree. refl;
   key = λ tree. refl;
   kept = refl;
-  ends =
-      refl;
+  ends = refl;
   says = λ r. refl;
   fills = λ v x. refl;
 }
@@ -100,8 +93,7 @@ attributes_plain = record {
   laws = attributes_listed.laws;
   columns = λ tree. refl;
   key = λ tree. refl;
-  kept =
-      refl;
+  kept = refl;
   ends = refl;
   says = λ r. refl;
   fills = λ v x. refl;
@@ -112,8 +104,7 @@ tiles_media_plain = record {
   laws = (pairs_listed TilesMedia).laws;
   columns = λ tree. refl;
   key = λ tree. refl;
-  kept =
-      refl;
+  kept = refl;
   ends = refl;
   says = λ r. refl;
   fills = λ v x. refl;
@@ -124,8 +115,7 @@ rows_media_plain = record {
   laws = (pairs_listed RowsMedia).laws;
   columns = λ tree. refl;
   key = λ tree. refl;
-  kept =
-      refl;
+  kept = refl;
   ends = refl;
   says = λ r. refl;
   fills = λ v x. refl;
@@ -136,8 +126,7 @@ rows_tiles_plain = record {
   laws = (pairs_listed RowsTiles).laws;
   columns = λ tree. refl;
   key = λ tree. refl;
-  kept =
-      refl;
+  kept = refl;
   ends = refl;
   says = λ r. refl;
   fills = λ v x. refl;
@@ -149,8 +138,7 @@ heads_plain = record {
   columns = λ tree. refl;
   key = λ tree. refl;
   kept = refl;
-  ends =
-      refl;
+  ends = refl;
   says = λ r. refl;
   fills = λ v x. refl;
 }
@@ -160,8 +148,7 @@ identities_plain = record {
   laws = identities_listed.laws;
   columns = λ tree. refl;
   key = λ tree. refl;
-  kept =
-      refl;
+  kept = refl;
   ends = refl;
   says = λ r. refl;
   fills = λ v x. refl;
@@ -173,8 +160,7 @@ receipts_plain = record {
   columns = λ tree. refl;
   key = λ tree. refl;
   kept = refl;
-  ends =
-      refl;
+  ends = refl;
   says = λ r. refl;
   fills = λ v x. refl;
 }
@@ -185,8 +171,7 @@ moved_plain = record {
   columns = λ tree. refl;
   key = λ tree. refl;
   kept = refl;
-  ends =
-      refl;
+  ends = refl;
   says = λ r. refl;
   fills = λ v x. refl;
 }

@@ -1,5 +1,6 @@
 -- A row that its table lets in, and that has no NULL, is one of values of the columns' kinds.
-use Rattle.std.proofs.Common.{◌≡◌, ℕ, suc, ◌+◌, List, [], ◌∷◌, Bool, true, false, Option, Some, None, refl, ap, subst}
+use Rattle.std.proofs.Common.{◌≡◌, ℕ, suc, ◌+◌, List, [], ◌∷◌, Bool, true, false, Option, Some}
+use Rattle.std.proofs.Common.{None, refl, ap, subst}
 use Rattle.std.proofs.Common.{◌∙◌, arith, drop}
 use Rattle.std.specs.Prelude.{not, ◌&&◌, ◌||◌, if◌then◌else◌}
 use Rattle.std.proofs.lemmas.Bool.{true≢false, false≢true, and_parts}
@@ -19,7 +20,8 @@ use Rattle.package_schema.specs.Rows.{is_kept, are_kept, as_kind, as_columns, as
 use Rattle.package_schema.specs.Rows.{ends_otherwise, are_needed}
 
 -- a value of a kind
-of_kind : (k : Kind) (v : Value) → is_kept k ≡ true → is_of k v ≡ true → is_null v ≡ false → as_kind k v ≡ v
+of_kind : (k : Kind) (v : Value) → is_kept k ≡ true → is_of k v ≡ true → is_null v ≡ false
+    → as_kind k v ≡ v
 of_kind kind.Integer Null k h n = absurd (true≢false n)
 of_kind kind.Integer (Int i) k h n = refl
 of_kind kind.Integer (Real x) k h n = absurd (false≢true h)
@@ -65,7 +67,8 @@ value_is key at c v kept typed filled = one (is_key key at) typed filled
         of_kind c.kind v both.1 of (not_true (is_null v) f)
 
 -- a row that lacks its last columns has a NULL
-short : (key : Option ℕ) (at : ℕ) (c : Column) (cs : List Column) (r : Row) → ((k : ℕ) → column r (at + 1 + k) ≡ Null)
+short : (key : Option ℕ) (at : ℕ) (c : Column) (cs : List Column) (r : Row)
+    → ((k : ℕ) → column r (at + 1 + k) ≡ Null)
     → ends_otherwise key at (c ∷ cs) ≡ true → are_filled key at (c ∷ cs) r ≡ true → ⊥
 short key at c [] r none ends filled =
     let here : column r (at + 1) ≡ Null = ap (column r) (omega arith) ∙ none 0 in
@@ -86,7 +89,8 @@ rest_ends key at c [] h = refl
 rest_ends key at c (d ∷ cs) h = h
 
 columns_are : (key : Option ℕ) (at : ℕ) (cs : List Column) (r vs : Row)
-    → ((k : ℕ) → column r (at + 1 + k) ≡ column vs k) → are_kept cs ≡ true → ends_otherwise key at cs ≡ true
+    → ((k : ℕ) → column r (at + 1 + k) ≡ column vs k) → are_kept cs ≡ true
+    → ends_otherwise key at cs ≡ true
     → are_typed key at cs vs ≡ true → are_filled key at cs r ≡ true
     → as_columns key at cs r ≡ vs
 columns_are key at [] r [] same kept ends typed filled = refl
@@ -114,7 +118,8 @@ rowid_is (Some at) (Blob b) vs h = absurd (false≢true h)
 
 -- the whole row
 pub row_is : (t : Table) (r : Row) → are_kept t.columns ≡ true → ends_otherwise t.key 0 t.columns ≡ true
-    → is_int (rowid r) ≡ true → are_typed t.key 0 t.columns (drop 1 r) ≡ true → is_filled t r ≡ true → as_row t r ≡ r
+    → is_int (rowid r) ≡ true → are_typed t.key 0 t.columns (drop 1 r) ≡ true → is_filled t r ≡ true
+    → as_row t r ≡ r
 row_is t [] kept ends int typed filled = absurd (false≢true int)
 row_is t (w ∷ vs) kept ends int typed filled =
     ap (λ v. v ∷ as_columns t.key 0 t.columns (w ∷ vs)) (rowid_is t.key w vs int)

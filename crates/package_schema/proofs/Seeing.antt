@@ -43,7 +43,8 @@ seen_then {Fact} Says {a} {b} {c} {r} {x} first is looks = record {
 
 -- what was found is an answer
 pub sees : {X E : Type 0} {Fact : Database → Type 0} (Says : Database → X → Type 0) {old new : State} {x : X}
-    → Seen Fact old new → ((db : Database) → Fact db → Says db x) → Looks {X = X} {E = E} (Sees Says) old new (Ok x)
+    → Seen Fact old new → ((db : Database) → Fact db → Says db x)
+    → Looks {X = X} {E = E} (Sees Says) old new (Ok x)
 sees Says {old} it says = record {
   rests = it.stays.rests;
   done = λ clean. let d = it.told clean in (d.0, (d.1, says old.now d.2));
@@ -53,15 +54,15 @@ sees Says {old} it says = record {
 }
 
 -- a call that failed tells nothing
-pub fails : {X E : Type 0} {Changes : X → Database → Database → Type 0} {old new : State} (r : Result X E) → IsErr r
+pub fails : {X E : Type 0} {Changes : X → Database → Database → Type 0} {old new : State} (r : Result X E)
+    → IsErr r
     → Stays old new → Looks {X = X} {E = E} Changes old new r
 fails (Ok x) failed it = cc
 fails (Err e) failed it = record {
   rests = it.rests;
   done = λ clean. tt;
   was_open = it.was_open;
-  holds =
-      it.holds;
+  holds = it.holds;
   survives = it.survives;
 }
 

@@ -75,7 +75,8 @@ not_filled db placed filled tried is keyed = (
       (false≢true (sym is ∙ (tried.1 keyed formed.spatial_ref_sys.placed).1 (systems_values db formed))),
 )
 
-pub last_tells : (db : Database) (placed filled full : Bool) → Tried placed filled db → placed ≡ true → filled ≡ true
+pub last_tells : (db : Database) (placed filled full : Bool) → Tried placed filled db → placed ≡ true
+    → filled ≡ true
     → (AreKeyed db → AreFilled contents_shape db full) → AreKeyed db → (IsTrue full ↔ AreFormed db)
 last_tells db placed filled full tried there has last keyed = (
   λ h. let all = tried.0.1.0 there in all_formed db tried.0.0 keyed all ((tried.1 keyed all.1.0).0 has)
@@ -134,7 +135,8 @@ first_not_filled db placed filled tried is keyed = (
 )
 
 pub first_tells : (db : Database) (placed filled full : Bool) → TriedFirst placed filled db → placed ≡ true
-    → filled ≡ true → (AreKeyed db → AreFilled contents_shape db full) → AreKeyed db → (IsTrue full ↔ HasFirstForm db)
+    → filled ≡ true → (AreKeyed db → AreFilled contents_shape db full) → AreKeyed db
+    → (IsTrue full ↔ HasFirstForm db)
 first_tells db placed filled full tried there has last keyed = (
   λ h. let all = tried.0.1.0 there in first_formed db tried.0.0 keyed all ((tried.1 keyed all.0.1.0).0 has)
       ((last keyed all.0.1.1).0 h),

@@ -1,5 +1,6 @@
 -- Of which frame the fixed rows of a store are.
-use Rattle.std.specs.Prelude.{◌≡◌, ◌&&◌, Bool, true, List, [], ◌∷◌, Option, Some, None, IsTrue, IsPermutation, bytes_eq}
+use Rattle.std.specs.Prelude.{◌≡◌, ◌&&◌, Bool, true, List, [], ◌∷◌, Option, Some, None, IsTrue}
+use Rattle.std.specs.Prelude.{IsPermutation, bytes_eq}
 use Rattle.std.specs.List.{AllByRecursion}
 use Rattle.std.specs.Ordering.{on, int_cmp, int_eq}
 use Rattle.sheet_types.specs.Matrix.{is_good_frame}

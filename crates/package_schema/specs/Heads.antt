@@ -1,5 +1,6 @@
 -- Whose a store says that it is, at a version, and what its receipts claim, where these two tables have their form.
-use Rattle.std.specs.Prelude.{◌≡◌, ◌↔◌, ◌≤◌, true, List, [], ◌∷◌, Option, Some, None, MatchOption, ℤ, pos, ⊤}
+use Rattle.std.specs.Prelude.{◌≡◌, ◌↔◌, ◌≤◌, true, List, [], ◌∷◌, Option, Some, None}
+use Rattle.std.specs.Prelude.{MatchOption, ℤ, pos, ⊤}
 use Rattle.sqlite.specs.Effect.{Database}
 use Rattle.sheet_types.specs.Lines.{IsUuid}
 use Rattle.sheet_types.specs.Reading.{optional_uuid_text}

@@ -49,7 +49,8 @@ fn has_system(
     organization: &str,
     definition: &str,
 ) -> bool
-    ensures { result ≡ list_any (λ r. same_system r (system name.now number organization.now definition.now)) rows.now }
+    ensures { result ≡ list_any (λ r. same_system r (system name.now number organization.now definition.now))
+        rows.now }
 {
     rows.iter().any(|row| is_system(row, name, number, organization, definition))
 }

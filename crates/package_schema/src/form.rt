@@ -63,8 +63,8 @@ fn are_contents_filled<S: Alter>(conn: &mut Connection<S>) -> Result<bool, Fault
 }
 
 /// Whether the store has the fifteen tables of a package in their form, whatever else it has. The
-/// constraints that the columns of
-/// most of them have are kept by any store, so only two of them are read.
+/// constraints that the columns of most of them have are kept by any store, so only two of them are
+/// read.
 ///
 /// # Errors
 ///
@@ -91,7 +91,8 @@ pub fn has_form<S: Alter>(conn: &mut Connection<S>) -> Result<bool, Fault>
 /// Those of `has_form`.
 pub fn has_first_form<S: Alter>(conn: &mut Connection<S>) -> Result<bool, Fault>
     requires { Rests (state S.Store conn.old) }
-    ensures { LooksAt (λ db formed. IsTrue formed ↔ HasFirstForm db) (state S.Store conn.old) (state S.Store conn.new)
+    ensures { LooksAt (λ db formed. IsTrue formed ↔ HasFirstForm db) (state S.Store conn.old)
+        (state S.Store conn.new)
         result }
 {
     if !are_first_placed(conn)? {

@@ -21,7 +21,8 @@ const MOST_LEVELS: usize = 21;
 /// The one frame whose tile matrices these may be: its bounds are those of the set, its numbers of
 /// tiles those of the first level (OGC GeoPackage 1.3, 2.2.6 and 2.2.7).
 fn candidate(sets: &[TileMatrixSetRow], levels: &[TileMatrixRow]) -> Option<Frame>
-    ensures { (f : SomeFrame) → IsTrue (is_good_frame f) → sets.now ≡ matrix_set f ∷ [] → levels.now ≡ levels_of f
+    ensures { (f : SomeFrame) → IsTrue (is_good_frame f) → sets.now ≡ matrix_set f ∷ []
+        → levels.now ≡ levels_of f
         → result ≡ Some f }
 {
     if sets.len() != 1 || levels.is_empty() || levels.len() > MOST_LEVELS {

@@ -43,7 +43,8 @@ pub(crate) fn have_moments(rows: &[ContentsRow]) -> bool
 /// `OutOfMemory` where a growth was refused, and `StoreFault` where the store failed or a text is no UTF-8.
 pub fn are_dated<S: Alter>(conn: &mut Connection<S>, alloc: Global) -> Result<bool, Fault>
     requires { Rests (state S.Store conn.old) }
-    ensures { LooksUp (λ t dated. IsTrue dated ↔ AreDated t) (state S.Store conn.old) (state S.Store conn.new) result }
+    ensures { LooksUp (λ t dated. IsTrue dated ↔ AreDated t) (state S.Store conn.old) (state S.Store conn.new)
+        result }
 {
     let rows = all_contents(conn, alloc)?;
     Ok(have_moments(&rows))

@@ -12,5 +12,7 @@ of_undated at [] = refl
 of_undated at (c ∷ cs) = ap (λ l. record c { last_change = at } ∷ l) (of_undated at cs)
 
 -- Where each row gets the moment, the contents are those of the frame at the moment, and nothing else changed.
-pub dated : (f : Frame) (at : List ℕ) (before after : Tables) → HasFixed f before → SetsLastChange at before after → after ≡ record before { contents = contents_of f at }
-dated f at before after has is = is ∙ ap (λ (l : List ContentsRow). record before { contents = l }) (of_undated at before.contents ∙ ap (redated at) has.contents)
+pub dated : (f : Frame) (at : List ℕ) (before after : Tables) → HasFixed f before
+    → SetsLastChange at before after → after ≡ record before { contents = contents_of f at }
+dated f at before after has is = is ∙ ap (λ (l : List ContentsRow). record before { contents = l })
+    (of_undated at before.contents ∙ ap (redated at) has.contents)

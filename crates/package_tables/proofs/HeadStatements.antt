@@ -24,17 +24,44 @@ use Rattle.std.proofs.lemmas.Cmp.{on_total, int_cmp_total}
 use Rattle.package_tables.proofs.Looking.{IsRanked}
 use Rattle.package_tables.proofs.Ranking.{one_number}
 
-pub insert_text : (spelling : Spelling) → IsInsert (codes "INSERT INTO sheet_package VALUES (?1, ?2, ?3, ?4, ?5, ?6, ?7)") (spelled sheet_package spelling)
+pub insert_text : (spelling : Spelling)
+    → IsInsert (codes "INSERT INTO sheet_package VALUES (?1, ?2, ?3, ?4, ?5, ?6, ?7)")
+    (spelled sheet_package spelling)
 unfolding everything
-insert_text spelling = record { parse = _; rows = _; parsed = refl; statement = refl; formats = refl; named = refl; unstamped = refl; source = λ schema. refl }
+insert_text spelling = record {
+  parse = _;
+  rows = _;
+  parsed = refl;
+  statement = refl;
+  formats = refl;
+  named = refl;
+  unstamped = refl;
+  source = λ schema. refl;
+}
 
-pub insert_row : (row : HeadRow) (spelling : Spelling) (there : List Row) → IsRow (spelled sheet_package spelling) (Int row.id ∷ Int row.version ∷ Text row.package ∷ Text row.parent ∷ Int row.depth ∷ Int row.loan ∷ Text row.created ∷ []) there (head_shape.stored Null row)
+pub insert_row : (row : HeadRow) (spelling : Spelling) (there : List Row)
+    → IsRow (spelled sheet_package spelling) (Int row.id ∷ Int row.version ∷ Text row.package
+    ∷ Text row.parent ∷ Int row.depth ∷ Int row.loan ∷ Text row.created ∷ []) there
+    (head_shape.stored Null row)
 insert_row row spelling there = record { source = _; laid = refl; kinds = refl; placed = λ top. refl }
 
 pub heads_known : IsKnown heads head_shown
-heads_known = record { is = heads_listed; back = λ r. record { id = int_at r 0; version = int_at r 1; «package» = text_at r 2; parent = text_at r 3; depth = int_at r 4; loan = int_at r 5; created = text_at r 6 }; returns = λ x. refl }
+heads_known = record {
+  is = heads_listed;
+  back = λ r. record {
+    id = int_at r 0;
+    version = int_at r 1;
+    «package» = text_at r 2;
+    parent = text_at r 3;
+    depth = int_at r 4;
+    loan = int_at r 5;
+    created = text_at r 6;
+  };
+  returns = λ x. refl;
+}
 
-all_heads_text : (spelling : Spelling) → IsSelect (codes "SELECT * FROM sheet_package ORDER BY id") (spelled sheet_package spelling) always ((col 1 0, ascending) ∷ [])
+all_heads_text : (spelling : Spelling) → IsSelect (codes "SELECT * FROM sheet_package ORDER BY id")
+    (spelled sheet_package spelling) always ((col 1 0, ascending) ∷ [])
 unfolding everything
 all_heads_text spelling = record {
   parse = _;
@@ -52,13 +79,29 @@ all_heads_text spelling = record {
   sorted = λ schema at. (_, refl, refl);
 }
 
-all_heads_plan : (spelling : Spelling) → IsPlannedSelect (spelled sheet_package spelling) always ((col 1 0, ascending) ∷ [])
+all_heads_plan : (spelling : Spelling) → IsPlannedSelect (spelled sheet_package spelling) always
+    ((col 1 0, ascending) ∷ [])
 unfolding resolving
 all_heads_plan spelling schema at h = rw (h.stored, h.by_tree) refl
 
 pub all_heads : IsLookUp head_shape head_shown (codes "SELECT * FROM sheet_package ORDER BY id") [] (λ x. true)
-all_heads = record { test = _; by = _; selects = all_heads_text; planned = all_heads_plan; given = refl; listing = _; is = λ spelling. refl; shows = λ v x. refl; passing = λ v x. refl }
+all_heads = record {
+  test = _;
+  by = _;
+  selects = all_heads_text;
+  planned = all_heads_plan;
+  given = refl;
+  listing = _;
+  is = λ spelling. refl;
+  shows = λ v x. refl;
+  passing = λ v x. refl;
+}
 
 pub all_heads_ranked : IsRanked all_heads (on (λ x. x.id) int_cmp)
 unfolding all_heads
-all_heads_ranked = record { keys = λ x. Int x.id ∷ []; keyed = λ v x. refl; total = (on_total (λ x. x.id) int_cmp_total); alike = λ x y. one_number x.id y.id }
+all_heads_ranked = record {
+  keys = λ x. Int x.id ∷ [];
+  keyed = λ v x. refl;
+  total = (on_total (λ x. x.id) int_cmp_total);
+  alike = λ x y. one_number x.id y.id;
+}

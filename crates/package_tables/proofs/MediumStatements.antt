@@ -24,26 +24,56 @@ use Rattle.package_tables.proofs.Ranking.{one_number}
 use Rattle.package_tables.proofs.Values.{same_number}
 use Rattle.package_tables.proofs.Written.{media_listed}
 
-pub insert_text : (spelling : Spelling) → IsInsert (codes "INSERT INTO sheet_media VALUES (?1, ?2, ?3)") (spelled sheet_media spelling)
+pub insert_text : (spelling : Spelling) → IsInsert (codes "INSERT INTO sheet_media VALUES (?1, ?2, ?3)")
+    (spelled sheet_media spelling)
 unfolding everything
-insert_text spelling = record { parse = _; rows = _; parsed = refl; statement = refl; formats = refl; named = refl; unstamped = refl; source = λ schema. refl }
+insert_text spelling = record {
+  parse = _;
+  rows = _;
+  parsed = refl;
+  statement = refl;
+  formats = refl;
+  named = refl;
+  unstamped = refl;
+  source = λ schema. refl;
+}
 
 pub insert_row : (row : MediaRow) (spelling : Spelling) (there : List Row)
-    → IsRow (spelled sheet_media spelling) (Int row.id ∷ Blob row.data ∷ Text row.content_type ∷ []) there (medium_shape.stored Null row)
+    → IsRow (spelled sheet_media spelling) (Int row.id ∷ Blob row.data ∷ Text row.content_type ∷ []) there
+    (medium_shape.stored Null row)
 insert_row row spelling there = record { source = _; laid = refl; kinds = refl; placed = λ top. refl }
 
-pub delete_text : (spelling : Spelling) → IsDelete (codes "DELETE FROM sheet_media WHERE id = ?1") (spelled sheet_media spelling) (equals 0 0)
+pub delete_text : (spelling : Spelling) → IsDelete (codes "DELETE FROM sheet_media WHERE id = ?1")
+    (spelled sheet_media spelling) (equals 0 0)
 unfolding everything
-delete_text spelling = record { parse = _; where' = _; parsed = refl; statement = refl; formats = refl; named = refl; condition = (_, refl, (_, _, _, _, refl, refl, refl, refl, refl, refl, refl)); enough = refl }
+delete_text spelling = record {
+  parse = _;
+  where' = _;
+  parsed = refl;
+  statement = refl;
+  formats = refl;
+  named = refl;
+  condition = (_, refl, (_, _, _, _, refl, refl, refl, refl, refl, refl, refl));
+  enough = refl;
+}
 
 pub delete_plan : (spelling : Spelling) → IsPlannedDelete (spelled sheet_media spelling) (equals 0 0)
 unfolding resolving
 delete_plan spelling schema at h = rw (h.stored, h.by_tree) refl
 
 pub known : IsKnown media medium_shown
-known = record { is = media_listed; back = λ r. record { id = int_at r 0; «data» = blob_at r 1; content_type = text_at r 2 }; returns = λ x. refl }
+known = record {
+  is = media_listed;
+  back = λ r. record {
+    id = int_at r 0;
+    «data» = blob_at r 1;
+    content_type = text_at r 2;
+  };
+  returns = λ x. refl;
+}
 
-medium_by_id_text : (spelling : Spelling) → IsSelect (codes "SELECT * FROM sheet_media WHERE id = ?1") (spelled sheet_media spelling) (equals 0 0) []
+medium_by_id_text : (spelling : Spelling) → IsSelect (codes "SELECT * FROM sheet_media WHERE id = ?1")
+    (spelled sheet_media spelling) (equals 0 0) []
 unfolding everything
 medium_by_id_text spelling = record {
   parse = _;
@@ -65,10 +95,22 @@ medium_by_id_plan : (spelling : Spelling) → IsPlannedSelect (spelled sheet_med
 unfolding resolving
 medium_by_id_plan spelling schema at h = rw (h.stored, h.by_tree) refl
 
-pub medium_by_id : (id : ℤ) → IsLookUp medium_shape medium_shown (codes "SELECT * FROM sheet_media WHERE id = ?1") (Int id ∷ []) (λ x. int_eq x.id id)
-medium_by_id id = record { test = _; by = _; selects = medium_by_id_text; planned = medium_by_id_plan; given = refl; listing = _; is = λ spelling. refl; shows = λ v x. refl; passing = λ v x. (same_number x.id id) }
+pub medium_by_id : (id : ℤ) → IsLookUp medium_shape medium_shown (codes "SELECT * FROM sheet_media WHERE id = ?1")
+    (Int id ∷ []) (λ x. int_eq x.id id)
+medium_by_id id = record {
+  test = _;
+  by = _;
+  selects = medium_by_id_text;
+  planned = medium_by_id_plan;
+  given = refl;
+  listing = _;
+  is = λ spelling. refl;
+  shows = λ v x. refl;
+  passing = λ v x. (same_number x.id id);
+}
 
-all_text : (spelling : Spelling) → IsSelect (codes "SELECT * FROM sheet_media ORDER BY id") (spelled sheet_media spelling) always ((col 1 0, ascending) ∷ [])
+all_text : (spelling : Spelling) → IsSelect (codes "SELECT * FROM sheet_media ORDER BY id")
+    (spelled sheet_media spelling) always ((col 1 0, ascending) ∷ [])
 unfolding everything
 all_text spelling = record {
   parse = _;
@@ -91,13 +133,29 @@ unfolding resolving
 all_plan spelling schema at h = rw (h.stored, h.by_tree) refl
 
 pub all : IsLookUp medium_shape medium_shown (codes "SELECT * FROM sheet_media ORDER BY id") [] (λ x. true)
-all = record { test = _; by = _; selects = all_text; planned = all_plan; given = refl; listing = _; is = λ spelling. refl; shows = λ v x. refl; passing = λ v x. refl }
+all = record {
+  test = _;
+  by = _;
+  selects = all_text;
+  planned = all_plan;
+  given = refl;
+  listing = _;
+  is = λ spelling. refl;
+  shows = λ v x. refl;
+  passing = λ v x. refl;
+}
 
 pub all_ranked : IsRanked all (on (λ x. x.id) int_cmp)
 unfolding all
-all_ranked = record { keys = λ x. Int x.id ∷ []; keyed = λ v x. refl; total = (on_total (λ x. x.id) int_cmp_total); alike = λ x y. one_number x.id y.id }
+all_ranked = record {
+  keys = λ x. Int x.id ∷ [];
+  keyed = λ v x. refl;
+  total = (on_total (λ x. x.id) int_cmp_total);
+  alike = λ x y. one_number x.id y.id;
+}
 
-ids_text : (spelling : Spelling) → IsNamed (codes "SELECT id FROM sheet_media") (spelled sheet_media spelling) (0 ∷ []) always [] all_rows
+ids_text : (spelling : Spelling) → IsNamed (codes "SELECT id FROM sheet_media") (spelled sheet_media spelling)
+    (0 ∷ []) always [] all_rows
 unfolding everything
 ids_text spelling = record {
   parse = _;
@@ -120,9 +178,21 @@ unfolding resolving
 ids_plan spelling schema at h = rw (h.stored, h.by_tree) refl
 
 pub ids : IsNumbering medium_shape (λ x. x.id) (codes "SELECT id FROM sheet_media") [] (λ x. true)
-ids = record { test = _; project = _; by = _; asked = λ spelling. asked_named (ids_text spelling) (ids_plan spelling); given = refl; listing = _; is = λ spelling. refl; shows = λ v x. refl; passing = λ v x. refl }
+ids = record {
+  test = _;
+  project = _;
+  by = _;
+  asked = λ spelling. asked_named (ids_text spelling)
+      (ids_plan spelling);
+  given = refl;
+  listing = _;
+  is = λ spelling. refl;
+  shows = λ v x. refl;
+  passing = λ v x. refl;
+}
 
-has_medium_text : (spelling : Spelling) → IsNamed (codes "SELECT id FROM sheet_media WHERE id = ?1") (spelled sheet_media spelling) (0 ∷ []) (equals 0 0) [] all_rows
+has_medium_text : (spelling : Spelling) → IsNamed (codes "SELECT id FROM sheet_media WHERE id = ?1")
+    (spelled sheet_media spelling) (0 ∷ []) (equals 0 0) [] all_rows
 unfolding everything
 has_medium_text spelling = record {
   parse = _;
@@ -140,9 +210,21 @@ has_medium_text spelling = record {
   enough = refl;
 }
 
-has_medium_plan : (spelling : Spelling) → IsPlannedNamed (spelled sheet_media spelling) (0 ∷ []) (equals 0 0) [] all_rows
+has_medium_plan : (spelling : Spelling) → IsPlannedNamed (spelled sheet_media spelling) (0 ∷ []) (equals 0 0) []
+    all_rows
 unfolding resolving
 has_medium_plan spelling schema at h = rw (h.stored, h.by_tree) refl
 
-pub has_medium : (id : ℤ) → IsNumbering medium_shape (λ x. x.id) (codes "SELECT id FROM sheet_media WHERE id = ?1") (Int id ∷ []) (λ x. int_eq x.id id)
-has_medium id = record { test = _; project = _; by = _; asked = λ spelling. asked_named (has_medium_text spelling) (has_medium_plan spelling); given = refl; listing = _; is = λ spelling. refl; shows = λ v x. refl; passing = λ v x. (same_number x.id id) }
+pub has_medium : (id : ℤ) → IsNumbering medium_shape (λ x. x.id)
+    (codes "SELECT id FROM sheet_media WHERE id = ?1") (Int id ∷ []) (λ x. int_eq x.id id)
+has_medium id = record {
+  test = _;
+  project = _;
+  by = _;
+  asked = λ spelling. asked_named (has_medium_text spelling) (has_medium_plan spelling);
+  given = refl;
+  listing = _;
+  is = λ spelling. refl;
+  shows = λ v x. refl;
+  passing = λ v x. (same_number x.id id);
+}

@@ -16,8 +16,17 @@ pub plain_keys : (keys : List (List ℕ)) → AllByRecursion (λ o. undirected o
 plain_keys [] = tt
 plain_keys (k ∷ keys) = (refl, plain_keys keys)
 
-pub own_meant : (table : ℕ → Table) → AllByRecursion (λ o. undirected o ≡ plain) (table 0).orders → (tree : ℕ) → IsSpelling (table 0) (own table tree)
-own_meant table orders tree = let is = own_spelling (table 0) orders in record { primary = is.primary; uniques = is.uniques; orders = is.orders; meant = is.meant; written = is.written }
+pub own_meant : (table : ℕ → Table) → AllByRecursion (λ o. undirected o ≡ plain) (table 0).orders
+    → (tree : ℕ) → IsSpelling (table 0) (own table tree)
+own_meant table orders tree = let is = own_spelling (table 0) orders in record
+    { primary = is.primary; uniques = is.uniques; orders = is.orders; meant = is.meant; written = is.written }
 
-pub own_placed : (schema : Schema) (table : ℕ → Table) → AllByRecursion (λ o. undirected o ≡ plain) (table 0).orders → (at tree : ℕ) → HasTable schema at (spelled table (own table tree)) → IsPlaced schema table
-own_placed schema table orders at tree has = record { at = at; spelling = own table tree; meant = own_meant table orders tree; has = has }
+pub own_placed : (schema : Schema) (table : ℕ → Table) → AllByRecursion (λ o. undirected o ≡ plain)
+    (table 0).orders → (at tree : ℕ) → HasTable schema at (spelled table (own table tree))
+    → IsPlaced schema table
+own_placed schema table orders at tree has = record {
+  at = at;
+  spelling = own table tree;
+  meant = own_meant table orders tree;
+  has = has;
+}

@@ -26,26 +26,58 @@ use Rattle.package_tables.proofs.Ranking.{one_number}
 use Rattle.package_tables.proofs.Values.{same_number, at_least, at_most, both_same}
 use Rattle.package_tables.proofs.Written.{tiles_listed}
 
-pub insert_text : (spelling : Spelling) → IsInsert (codes "INSERT INTO sheet_tiles VALUES (?1, ?2, ?3, ?4, ?5)") (spelled sheet_tiles spelling)
+pub insert_text : (spelling : Spelling) → IsInsert (codes "INSERT INTO sheet_tiles VALUES (?1, ?2, ?3, ?4, ?5)")
+    (spelled sheet_tiles spelling)
 unfolding everything
-insert_text spelling = record { parse = _; rows = _; parsed = refl; statement = refl; formats = refl; named = refl; unstamped = refl; source = λ schema. refl }
+insert_text spelling = record {
+  parse = _;
+  rows = _;
+  parsed = refl;
+  statement = refl;
+  formats = refl;
+  named = refl;
+  unstamped = refl;
+  source = λ schema. refl;
+}
 
 pub insert_row : (row : TileRow) (spelling : Spelling) (there : List Row)
-    → IsRow (spelled sheet_tiles spelling) (Int row.id ∷ Int row.zoom_level ∷ Int row.tile_column ∷ Int row.tile_row ∷ Blob row.tile_data ∷ []) there (tile_shape.stored Null row)
+    → IsRow (spelled sheet_tiles spelling) (Int row.id ∷ Int row.zoom_level ∷ Int row.tile_column
+    ∷ Int row.tile_row ∷ Blob row.tile_data ∷ []) there (tile_shape.stored Null row)
 insert_row row spelling there = record { source = _; laid = refl; kinds = refl; placed = λ top. refl }
 
-pub delete_text : (spelling : Spelling) → IsDelete (codes "DELETE FROM sheet_tiles WHERE id = ?1") (spelled sheet_tiles spelling) (equals 0 0)
+pub delete_text : (spelling : Spelling) → IsDelete (codes "DELETE FROM sheet_tiles WHERE id = ?1")
+    (spelled sheet_tiles spelling) (equals 0 0)
 unfolding everything
-delete_text spelling = record { parse = _; where' = _; parsed = refl; statement = refl; formats = refl; named = refl; condition = (_, refl, (_, _, _, _, refl, refl, refl, refl, refl, refl, refl)); enough = refl }
+delete_text spelling = record {
+  parse = _;
+  where' = _;
+  parsed = refl;
+  statement = refl;
+  formats = refl;
+  named = refl;
+  condition = (_, refl, (_, _, _, _, refl, refl, refl, refl, refl, refl, refl));
+  enough = refl;
+}
 
 pub delete_plan : (spelling : Spelling) → IsPlannedDelete (spelled sheet_tiles spelling) (equals 0 0)
 unfolding resolving
 delete_plan spelling schema at h = rw (h.stored, h.by_tree) refl
 
 pub known : IsKnown tiles tile_shown
-known = record { is = tiles_listed; back = λ r. record { id = int_at r 0; zoom_level = int_at r 1; tile_column = int_at r 2; tile_row = int_at r 3; tile_data = blob_at r 4 }; returns = λ x. refl }
+known = record {
+  is = tiles_listed;
+  back = λ r. record {
+    id = int_at r 0;
+    zoom_level = int_at r 1;
+    tile_column = int_at r 2;
+    tile_row = int_at r 3;
+    tile_data = blob_at r 4;
+  };
+  returns = λ x. refl;
+}
 
-tile_by_id_text : (spelling : Spelling) → IsSelect (codes "SELECT * FROM sheet_tiles WHERE id = ?1") (spelled sheet_tiles spelling) (equals 0 0) []
+tile_by_id_text : (spelling : Spelling) → IsSelect (codes "SELECT * FROM sheet_tiles WHERE id = ?1")
+    (spelled sheet_tiles spelling) (equals 0 0) []
 unfolding everything
 tile_by_id_text spelling = record {
   parse = _;
@@ -67,10 +99,23 @@ tile_by_id_plan : (spelling : Spelling) → IsPlannedSelect (spelled sheet_tiles
 unfolding resolving
 tile_by_id_plan spelling schema at h = rw (h.stored, h.by_tree) refl
 
-pub tile_by_id : (id : ℤ) → IsLookUp tile_shape tile_shown (codes "SELECT * FROM sheet_tiles WHERE id = ?1") (Int id ∷ []) (λ x. int_eq x.id id)
-tile_by_id id = record { test = _; by = _; selects = tile_by_id_text; planned = tile_by_id_plan; given = refl; listing = _; is = λ spelling. refl; shows = λ v x. refl; passing = λ v x. (same_number x.id id) }
+pub tile_by_id : (id : ℤ) → IsLookUp tile_shape tile_shown (codes "SELECT * FROM sheet_tiles WHERE id = ?1")
+    (Int id ∷ []) (λ x. int_eq x.id id)
+tile_by_id id = record {
+  test = _;
+  by = _;
+  selects = tile_by_id_text;
+  planned = tile_by_id_plan;
+  given = refl;
+  listing = _;
+  is = λ spelling. refl;
+  shows = λ v x. refl;
+  passing = λ v x. (same_number x.id id);
+}
 
-tile_at_text : (spelling : Spelling) → IsSelect (codes "SELECT * FROM sheet_tiles WHERE zoom_level = ?1 AND tile_column = ?2 AND tile_row = ?3") (spelled sheet_tiles spelling) (both (both (equals 1 0) (equals 2 1)) (equals 3 2)) []
+tile_at_text : (spelling : Spelling)
+    → IsSelect (codes "SELECT * FROM sheet_tiles WHERE zoom_level = ?1 AND tile_column = ?2 AND tile_row = ?3")
+    (spelled sheet_tiles spelling) (both (both (equals 1 0) (equals 2 1)) (equals 3 2)) []
 unfolding everything
 tile_at_text spelling = record {
   parse = _;
@@ -81,19 +126,52 @@ tile_at_text spelling = record {
   statement = refl;
   formats = refl;
   one = one_table refl refl refl refl refl refl refl refl refl refl refl refl refl refl refl;
-  condition = (_, refl, (_, _, refl, (_, _, refl, (_, _, _, _, refl, refl, refl, refl, refl, refl, refl), (_, _, _, _, refl, refl, refl, refl, refl, refl, refl)), (_, _, _, _, refl, refl, refl, refl, refl, refl, refl)));
+  condition = (
+    _,
+    refl,
+    (
+      _,
+      _,
+      refl,
+      (
+        _,
+        _,
+        refl,
+        (_, _, _, _, refl, refl, refl, refl, refl, refl, refl),
+        (_, _, _, _, refl, refl, refl, refl, refl, refl, refl),
+      ),
+      (_, _, _, _, refl, refl, refl, refl, refl, refl, refl),
+    ),
+  );
   enough = refl;
   few = λ at. refl;
   some = λ at. refl;
   sorted = λ schema at. (_, refl, refl);
 }
 
-tile_at_plan : (spelling : Spelling) → IsPlannedSelect (spelled sheet_tiles spelling) (both (both (equals 1 0) (equals 2 1)) (equals 3 2)) []
+tile_at_plan : (spelling : Spelling) → IsPlannedSelect (spelled sheet_tiles spelling)
+    (both (both (equals 1 0) (equals 2 1)) (equals 3 2)) []
 unfolding resolving
 tile_at_plan spelling schema at h = rw (h.stored, h.by_tree) refl
 
-pub tile_at : (zoom_level : ℤ) (tile_column : ℤ) (tile_row : ℤ) → IsLookUp tile_shape tile_shown (codes "SELECT * FROM sheet_tiles WHERE zoom_level = ?1 AND tile_column = ?2 AND tile_row = ?3") (Int zoom_level ∷ Int tile_column ∷ Int tile_row ∷ []) (λ x. int_eq x.zoom_level zoom_level && int_eq x.tile_column tile_column && int_eq x.tile_row tile_row)
-tile_at zoom_level tile_column tile_row = record { test = _; by = _; selects = tile_at_text; planned = tile_at_plan; given = refl; listing = _; is = λ spelling. refl; shows = λ v x. refl; passing = λ v x. (both_same (both_same (same_number x.zoom_level zoom_level) (same_number x.tile_column tile_column)) (same_number x.tile_row tile_row)) }
+pub tile_at : (zoom_level : ℤ) (tile_column : ℤ) (tile_row : ℤ)
+    → IsLookUp tile_shape tile_shown
+    (codes "SELECT * FROM sheet_tiles WHERE zoom_level = ?1 AND tile_column = ?2 AND tile_row = ?3")
+    (Int zoom_level ∷ Int tile_column ∷ Int tile_row ∷ []) (λ x. int_eq x.zoom_level zoom_level && int_eq
+    x.tile_column tile_column && int_eq x.tile_row tile_row)
+tile_at zoom_level tile_column tile_row = record {
+  test = _;
+  by = _;
+  selects = tile_at_text;
+  planned = tile_at_plan;
+  given = refl;
+  listing = _;
+  is = λ spelling. refl;
+  shows = λ v x. refl;
+  passing =
+      λ v x. (both_same (both_same (same_number x.zoom_level zoom_level) (same_number x.tile_column tile_column))
+      (same_number x.tile_row tile_row));
+}
 
 tiles_between_text : (spelling : Spelling) → IsSelect (codes "SELECT * FROM sheet_tiles WHERE zoom_level = ?1 AND tile_column >= ?2 AND tile_column <= ?3 AND tile_row >= ?4 AND tile_row <= ?5") (spelled sheet_tiles spelling) (both (both (both (both (equals 1 0) (compares Ge 2 1)) (compares Le 2 2)) (compares Ge 3 3)) (compares Le 3 4)) []
 unfolding everything
@@ -106,21 +184,66 @@ tiles_between_text spelling = record {
   statement = refl;
   formats = refl;
   one = one_table refl refl refl refl refl refl refl refl refl refl refl refl refl refl refl;
-  condition = (_, refl, (_, _, refl, (_, _, refl, (_, _, refl, (_, _, refl, (_, _, _, _, refl, refl, refl, refl, refl, refl, refl), (_, _, _, _, refl, refl, refl, refl, refl, refl, refl)), (_, _, _, _, refl, refl, refl, refl, refl, refl, refl)), (_, _, _, _, refl, refl, refl, refl, refl, refl, refl)), (_, _, _, _, refl, refl, refl, refl, refl, refl, refl)));
+  condition = (
+    _,
+    refl,
+    (
+      _,
+      _,
+      refl,
+      (
+        _,
+        _,
+        refl,
+        (
+          _,
+          _,
+          refl,
+          (
+            _,
+            _,
+            refl,
+            (_, _, _, _, refl, refl, refl, refl, refl, refl, refl),
+            (_, _, _, _, refl, refl, refl, refl, refl, refl, refl),
+          ),
+          (_, _, _, _, refl, refl, refl, refl, refl, refl, refl),
+        ),
+        (_, _, _, _, refl, refl, refl, refl, refl, refl, refl),
+      ),
+      (_, _, _, _, refl, refl, refl, refl, refl, refl, refl),
+    ),
+  );
   enough = refl;
   few = λ at. refl;
   some = λ at. refl;
   sorted = λ schema at. (_, refl, refl);
 }
 
-tiles_between_plan : (spelling : Spelling) → IsPlannedSelect (spelled sheet_tiles spelling) (both (both (both (both (equals 1 0) (compares Ge 2 1)) (compares Le 2 2)) (compares Ge 3 3)) (compares Le 3 4)) []
+tiles_between_plan : (spelling : Spelling) → IsPlannedSelect (spelled sheet_tiles spelling)
+    (both (both (both (both (equals 1 0) (compares Ge 2 1)) (compares Le 2 2)) (compares Ge 3 3)) (compares Le 3 4))
+    []
 unfolding resolving
 tiles_between_plan spelling schema at h = rw (h.stored, h.by_tree) refl
 
 pub tiles_between : (zoom_level : ℤ) (first_column : ℤ) (last_column : ℤ) (first_row : ℤ) (last_row : ℤ) → IsLookUp tile_shape tile_shown (codes "SELECT * FROM sheet_tiles WHERE zoom_level = ?1 AND tile_column >= ?2 AND tile_column <= ?3 AND tile_row >= ?4 AND tile_row <= ?5") (Int zoom_level ∷ Int first_column ∷ Int last_column ∷ Int first_row ∷ Int last_row ∷ []) (λ x. int_eq x.zoom_level zoom_level && int_le first_column x.tile_column && int_le x.tile_column last_column && int_le first_row x.tile_row && int_le x.tile_row last_row)
-tiles_between zoom_level first_column last_column first_row last_row = record { test = _; by = _; selects = tiles_between_text; planned = tiles_between_plan; given = refl; listing = _; is = λ spelling. refl; shows = λ v x. refl; passing = λ v x. (both_same (both_same (both_same (both_same (same_number x.zoom_level zoom_level) (at_least x.tile_column first_column)) (at_most x.tile_column last_column)) (at_least x.tile_row first_row)) (at_most x.tile_row last_row)) }
+tiles_between zoom_level first_column last_column first_row last_row =
+    record {
+      test = _;
+      by = _;
+      selects = tiles_between_text;
+      planned = tiles_between_plan;
+      given = refl;
+      listing = _;
+      is = λ spelling. refl;
+      shows = λ v x. refl;
+      passing =
+          λ v x. (both_same (both_same (both_same (both_same (same_number x.zoom_level zoom_level)
+          (at_least x.tile_column first_column)) (at_most x.tile_column last_column)) (at_least x.tile_row first_row))
+          (at_most x.tile_row last_row));
+    }
 
-all_text : (spelling : Spelling) → IsSelect (codes "SELECT * FROM sheet_tiles ORDER BY id") (spelled sheet_tiles spelling) always ((col 1 0, ascending) ∷ [])
+all_text : (spelling : Spelling) → IsSelect (codes "SELECT * FROM sheet_tiles ORDER BY id")
+    (spelled sheet_tiles spelling) always ((col 1 0, ascending) ∷ [])
 unfolding everything
 all_text spelling = record {
   parse = _;
@@ -143,13 +266,29 @@ unfolding resolving
 all_plan spelling schema at h = rw (h.stored, h.by_tree) refl
 
 pub all : IsLookUp tile_shape tile_shown (codes "SELECT * FROM sheet_tiles ORDER BY id") [] (λ x. true)
-all = record { test = _; by = _; selects = all_text; planned = all_plan; given = refl; listing = _; is = λ spelling. refl; shows = λ v x. refl; passing = λ v x. refl }
+all = record {
+  test = _;
+  by = _;
+  selects = all_text;
+  planned = all_plan;
+  given = refl;
+  listing = _;
+  is = λ spelling. refl;
+  shows = λ v x. refl;
+  passing = λ v x. refl;
+}
 
 pub all_ranked : IsRanked all (on (λ x. x.id) int_cmp)
 unfolding all
-all_ranked = record { keys = λ x. Int x.id ∷ []; keyed = λ v x. refl; total = (on_total (λ x. x.id) int_cmp_total); alike = λ x y. one_number x.id y.id }
+all_ranked = record {
+  keys = λ x. Int x.id ∷ [];
+  keyed = λ v x. refl;
+  total = (on_total (λ x. x.id) int_cmp_total);
+  alike = λ x y. one_number x.id y.id;
+}
 
-ids_text : (spelling : Spelling) → IsNamed (codes "SELECT id FROM sheet_tiles") (spelled sheet_tiles spelling) (0 ∷ []) always [] all_rows
+ids_text : (spelling : Spelling) → IsNamed (codes "SELECT id FROM sheet_tiles") (spelled sheet_tiles spelling)
+    (0 ∷ []) always [] all_rows
 unfolding everything
 ids_text spelling = record {
   parse = _;
@@ -172,9 +311,21 @@ unfolding resolving
 ids_plan spelling schema at h = rw (h.stored, h.by_tree) refl
 
 pub ids : IsNumbering tile_shape (λ x. x.id) (codes "SELECT id FROM sheet_tiles") [] (λ x. true)
-ids = record { test = _; project = _; by = _; asked = λ spelling. asked_named (ids_text spelling) (ids_plan spelling); given = refl; listing = _; is = λ spelling. refl; shows = λ v x. refl; passing = λ v x. refl }
+ids = record {
+  test = _;
+  project = _;
+  by = _;
+  asked = λ spelling. asked_named (ids_text spelling)
+      (ids_plan spelling);
+  given = refl;
+  listing = _;
+  is = λ spelling. refl;
+  shows = λ v x. refl;
+  passing = λ v x. refl;
+}
 
-has_tile_text : (spelling : Spelling) → IsNamed (codes "SELECT id FROM sheet_tiles WHERE id = ?1") (spelled sheet_tiles spelling) (0 ∷ []) (equals 0 0) [] all_rows
+has_tile_text : (spelling : Spelling) → IsNamed (codes "SELECT id FROM sheet_tiles WHERE id = ?1")
+    (spelled sheet_tiles spelling) (0 ∷ []) (equals 0 0) [] all_rows
 unfolding everything
 has_tile_text spelling = record {
   parse = _;
@@ -192,14 +343,28 @@ has_tile_text spelling = record {
   enough = refl;
 }
 
-has_tile_plan : (spelling : Spelling) → IsPlannedNamed (spelled sheet_tiles spelling) (0 ∷ []) (equals 0 0) [] all_rows
+has_tile_plan : (spelling : Spelling) → IsPlannedNamed (spelled sheet_tiles spelling) (0 ∷ []) (equals 0 0) []
+    all_rows
 unfolding resolving
 has_tile_plan spelling schema at h = rw (h.stored, h.by_tree) refl
 
-pub has_tile : (id : ℤ) → IsNumbering tile_shape (λ x. x.id) (codes "SELECT id FROM sheet_tiles WHERE id = ?1") (Int id ∷ []) (λ x. int_eq x.id id)
-has_tile id = record { test = _; project = _; by = _; asked = λ spelling. asked_named (has_tile_text spelling) (has_tile_plan spelling); given = refl; listing = _; is = λ spelling. refl; shows = λ v x. refl; passing = λ v x. (same_number x.id id) }
+pub has_tile : (id : ℤ) → IsNumbering tile_shape (λ x. x.id) (codes "SELECT id FROM sheet_tiles WHERE id = ?1")
+    (Int id ∷ []) (λ x. int_eq x.id id)
+has_tile id = record {
+  test = _;
+  project = _;
+  by = _;
+  asked = λ spelling. asked_named (has_tile_text spelling) (has_tile_plan spelling);
+  given = refl;
+  listing = _;
+  is = λ spelling. refl;
+  shows = λ v x. refl;
+  passing = λ v x. (same_number x.id id);
+}
 
-has_tile_at_text : (spelling : Spelling) → IsNamed (codes "SELECT id FROM sheet_tiles WHERE zoom_level = ?1 AND tile_column = ?2 AND tile_row = ?3") (spelled sheet_tiles spelling) (0 ∷ []) (both (both (equals 1 0) (equals 2 1)) (equals 3 2)) [] all_rows
+has_tile_at_text : (spelling : Spelling)
+    → IsNamed (codes "SELECT id FROM sheet_tiles WHERE zoom_level = ?1 AND tile_column = ?2 AND tile_row = ?3")
+    (spelled sheet_tiles spelling) (0 ∷ []) (both (both (equals 1 0) (equals 2 1)) (equals 3 2)) [] all_rows
 unfolding everything
 has_tile_at_text spelling = record {
   parse = _;
@@ -212,17 +377,50 @@ has_tile_at_text spelling = record {
   one = over_table refl refl refl refl refl refl refl refl refl refl refl refl;
   paged = λ schema. refl;
   columns = ((_, _, refl, (_, _, refl, refl, refl)), tt);
-  condition = (_, refl, (_, _, refl, (_, _, refl, (_, _, _, _, refl, refl, refl, refl, refl, refl, refl), (_, _, _, _, refl, refl, refl, refl, refl, refl, refl)), (_, _, _, _, refl, refl, refl, refl, refl, refl, refl)));
+  condition = (
+    _,
+    refl,
+    (
+      _,
+      _,
+      refl,
+      (
+        _,
+        _,
+        refl,
+        (_, _, _, _, refl, refl, refl, refl, refl, refl, refl),
+        (_, _, _, _, refl, refl, refl, refl, refl, refl, refl),
+      ),
+      (_, _, _, _, refl, refl, refl, refl, refl, refl, refl),
+    ),
+  );
   orders = tt;
   enough = refl;
 }
 
-has_tile_at_plan : (spelling : Spelling) → IsPlannedNamed (spelled sheet_tiles spelling) (0 ∷ []) (both (both (equals 1 0) (equals 2 1)) (equals 3 2)) [] all_rows
+has_tile_at_plan : (spelling : Spelling) → IsPlannedNamed (spelled sheet_tiles spelling) (0 ∷ [])
+    (both (both (equals 1 0) (equals 2 1)) (equals 3 2)) [] all_rows
 unfolding resolving
 has_tile_at_plan spelling schema at h = rw (h.stored, h.by_tree) refl
 
-pub has_tile_at : (zoom_level : ℤ) (tile_column : ℤ) (tile_row : ℤ) → IsNumbering tile_shape (λ x. x.id) (codes "SELECT id FROM sheet_tiles WHERE zoom_level = ?1 AND tile_column = ?2 AND tile_row = ?3") (Int zoom_level ∷ Int tile_column ∷ Int tile_row ∷ []) (λ x. int_eq x.zoom_level zoom_level && int_eq x.tile_column tile_column && int_eq x.tile_row tile_row)
-has_tile_at zoom_level tile_column tile_row = record { test = _; project = _; by = _; asked = λ spelling. asked_named (has_tile_at_text spelling) (has_tile_at_plan spelling); given = refl; listing = _; is = λ spelling. refl; shows = λ v x. refl; passing = λ v x. (both_same (both_same (same_number x.zoom_level zoom_level) (same_number x.tile_column tile_column)) (same_number x.tile_row tile_row)) }
+pub has_tile_at : (zoom_level : ℤ) (tile_column : ℤ) (tile_row : ℤ)
+    → IsNumbering tile_shape (λ x. x.id)
+    (codes "SELECT id FROM sheet_tiles WHERE zoom_level = ?1 AND tile_column = ?2 AND tile_row = ?3")
+    (Int zoom_level ∷ Int tile_column ∷ Int tile_row ∷ []) (λ x. int_eq x.zoom_level zoom_level && int_eq
+    x.tile_column tile_column && int_eq x.tile_row tile_row)
+has_tile_at zoom_level tile_column tile_row = record {
+  test = _;
+  project = _;
+  by = _;
+  asked = λ spelling. asked_named (has_tile_at_text spelling) (has_tile_at_plan spelling);
+  given = refl;
+  listing = _;
+  is = λ spelling. refl;
+  shows = λ v x. refl;
+  passing = λ v x. (both_same
+      (both_same (same_number x.zoom_level zoom_level) (same_number x.tile_column tile_column))
+      (same_number x.tile_row tile_row));
+}
 
 tile_ids_between_text : (spelling : Spelling) → IsNamed (codes "SELECT id FROM sheet_tiles WHERE zoom_level = ?1 AND tile_column >= ?2 AND tile_column <= ?3 AND tile_row >= ?4 AND tile_row <= ?5") (spelled sheet_tiles spelling) (0 ∷ []) (both (both (both (both (equals 1 0) (compares Ge 2 1)) (compares Le 2 2)) (compares Ge 3 3)) (compares Le 3 4)) [] all_rows
 unfolding everything
@@ -237,14 +435,58 @@ tile_ids_between_text spelling = record {
   one = over_table refl refl refl refl refl refl refl refl refl refl refl refl;
   paged = λ schema. refl;
   columns = ((_, _, refl, (_, _, refl, refl, refl)), tt);
-  condition = (_, refl, (_, _, refl, (_, _, refl, (_, _, refl, (_, _, refl, (_, _, _, _, refl, refl, refl, refl, refl, refl, refl), (_, _, _, _, refl, refl, refl, refl, refl, refl, refl)), (_, _, _, _, refl, refl, refl, refl, refl, refl, refl)), (_, _, _, _, refl, refl, refl, refl, refl, refl, refl)), (_, _, _, _, refl, refl, refl, refl, refl, refl, refl)));
+  condition = (
+    _,
+    refl,
+    (
+      _,
+      _,
+      refl,
+      (
+        _,
+        _,
+        refl,
+        (
+          _,
+          _,
+          refl,
+          (
+            _,
+            _,
+            refl,
+            (_, _, _, _, refl, refl, refl, refl, refl, refl, refl),
+            (_, _, _, _, refl, refl, refl, refl, refl, refl, refl),
+          ),
+          (_, _, _, _, refl, refl, refl, refl, refl, refl, refl),
+        ),
+        (_, _, _, _, refl, refl, refl, refl, refl, refl, refl),
+      ),
+      (_, _, _, _, refl, refl, refl, refl, refl, refl, refl),
+    ),
+  );
   orders = tt;
   enough = refl;
 }
 
-tile_ids_between_plan : (spelling : Spelling) → IsPlannedNamed (spelled sheet_tiles spelling) (0 ∷ []) (both (both (both (both (equals 1 0) (compares Ge 2 1)) (compares Le 2 2)) (compares Ge 3 3)) (compares Le 3 4)) [] all_rows
+tile_ids_between_plan : (spelling : Spelling) → IsPlannedNamed (spelled sheet_tiles spelling) (0 ∷ [])
+    (both (both (both (both (equals 1 0) (compares Ge 2 1)) (compares Le 2 2)) (compares Ge 3 3)) (compares Le 3 4))
+    [] all_rows
 unfolding resolving
 tile_ids_between_plan spelling schema at h = rw (h.stored, h.by_tree) refl
 
 pub tile_ids_between : (zoom_level : ℤ) (first_column : ℤ) (last_column : ℤ) (first_row : ℤ) (last_row : ℤ) → IsNumbering tile_shape (λ x. x.id) (codes "SELECT id FROM sheet_tiles WHERE zoom_level = ?1 AND tile_column >= ?2 AND tile_column <= ?3 AND tile_row >= ?4 AND tile_row <= ?5") (Int zoom_level ∷ Int first_column ∷ Int last_column ∷ Int first_row ∷ Int last_row ∷ []) (λ x. int_eq x.zoom_level zoom_level && int_le first_column x.tile_column && int_le x.tile_column last_column && int_le first_row x.tile_row && int_le x.tile_row last_row)
-tile_ids_between zoom_level first_column last_column first_row last_row = record { test = _; project = _; by = _; asked = λ spelling. asked_named (tile_ids_between_text spelling) (tile_ids_between_plan spelling); given = refl; listing = _; is = λ spelling. refl; shows = λ v x. refl; passing = λ v x. (both_same (both_same (both_same (both_same (same_number x.zoom_level zoom_level) (at_least x.tile_column first_column)) (at_most x.tile_column last_column)) (at_least x.tile_row first_row)) (at_most x.tile_row last_row)) }
+tile_ids_between zoom_level first_column last_column first_row last_row =
+    record {
+      test = _;
+      project = _;
+      by = _;
+      asked = λ spelling. asked_named (tile_ids_between_text spelling)
+          (tile_ids_between_plan spelling);
+      given = refl;
+      listing = _;
+      is = λ spelling. refl;
+      shows = λ v x. refl;
+      passing = λ v x. (both_same (both_same (both_same
+          (both_same (same_number x.zoom_level zoom_level) (at_least x.tile_column first_column))
+          (at_most x.tile_column last_column)) (at_least x.tile_row first_row)) (at_most x.tile_row last_row));
+    }

@@ -10,7 +10,9 @@ use Rattle.store_sql.specs.Spelling.{Spelling, spelled}
 use Rattle.sheet_types.specs.declared.command.Mapping.{Mapping}
 use Rattle.sheet_types.specs.declared.command.Mapping.TheVariants.{TilesMedia, RowsMedia, RowsTiles}
 use Rattle.package_tables.specs.Shape.{Shape, IsShape, IsFormed, rows_of}
-use Rattle.package_tables.specs.Shapes.{spatial_ref_sys_shape, contents_shape, tile_matrix_set_shape, tile_matrix_shape, relation_shape, tile_shape, medium_shape, attribute_shape, head_shape, identity_shape, receipt_shape, moved_shape}
+use Rattle.package_tables.specs.Shapes.{spatial_ref_sys_shape, contents_shape, tile_matrix_set_shape}
+use Rattle.package_tables.specs.Shapes.{tile_matrix_shape, relation_shape, tile_shape, medium_shape, attribute_shape}
+use Rattle.package_tables.specs.Shapes.{head_shape, identity_shape, receipt_shape, moved_shape}
 use Rattle.package_tables.specs.Mappings.{pair_shape}
 use Rattle.package_tables.specs.Package.{Tables, tables_of, AreFormed}
 use Rattle.package_tables.specs.declared.rows.AttributeRow.{AttributeRow}
@@ -26,7 +28,8 @@ use Rattle.package_tables.specs.declared.rows.SpatialRefSysRow.{SpatialRefSysRow
 use Rattle.package_tables.specs.declared.rows.TileMatrixRow.{TileMatrixRow}
 use Rattle.package_tables.specs.declared.rows.TileMatrixSetRow.{TileMatrixSetRow}
 use Rattle.package_tables.specs.declared.rows.TileRow.{TileRow}
-use Rattle.package_tables.specs.Listed.{systems, contents, matrix_sets, matrices, relations, tiles, media, attributes, pairs, heads, identities, receipts, moved}
+use Rattle.package_tables.specs.Listed.{systems, contents, matrix_sets, matrices, relations, tiles, media, attributes}
+use Rattle.package_tables.specs.Listed.{pairs, heads, identities, receipts, moved}
 use Rattle.package_tables.proofs.Shapes.{spared}
 use Rattle.package_tables.proofs.Lists.{IsListed}
 
@@ -78,24 +81,116 @@ shape_of Receipts = receipt_shape
 shape_of Moved = moved_shape
 
 shape_of_is : (n : Name) → IsShape (shape_of n)
-shape_of_is SpatialRefSys = record { named = λ tree. refl; treed = λ tree. refl; says = λ v x. refl; again = λ v x. refl; numbered = λ v x h. refl }
-shape_of_is Contents = record { named = λ tree. refl; treed = λ tree. refl; says = λ v x. refl; again = λ v x. refl; numbered = λ v x h. h }
-shape_of_is TileMatrixSet = record { named = λ tree. refl; treed = λ tree. refl; says = λ v x. refl; again = λ v x. refl; numbered = λ v x h. h }
-shape_of_is TileMatrix = record { named = λ tree. refl; treed = λ tree. refl; says = λ v x. refl; again = λ v x. refl; numbered = λ v x h. h }
-shape_of_is Relations = record { named = λ tree. refl; treed = λ tree. refl; says = λ v x. refl; again = λ v x. refl; numbered = λ v x h. refl }
-shape_of_is Tiles = record { named = λ tree. refl; treed = λ tree. refl; says = λ v x. refl; again = λ v x. refl; numbered = λ v x h. refl }
-shape_of_is Media = record { named = λ tree. refl; treed = λ tree. refl; says = λ v x. refl; again = λ v x. refl; numbered = λ v x h. refl }
-shape_of_is Rows = record { named = λ tree. refl; treed = λ tree. refl; says = λ v x. refl; again = λ v x. refl; numbered = λ v x h. refl }
-shape_of_is (Pairs TilesMedia) = record { named = λ tree. refl; treed = λ tree. refl; says = λ v x. refl; again = λ v x. refl; numbered = λ v x h. h }
-shape_of_is (Pairs RowsMedia) = record { named = λ tree. refl; treed = λ tree. refl; says = λ v x. refl; again = λ v x. refl; numbered = λ v x h. h }
-shape_of_is (Pairs RowsTiles) = record { named = λ tree. refl; treed = λ tree. refl; says = λ v x. refl; again = λ v x. refl; numbered = λ v x h. h }
-shape_of_is Heads = record { named = λ tree. refl; treed = λ tree. refl; says = λ v x. refl; again = λ v x. refl; numbered = λ v x h. refl }
-shape_of_is Identities = record { named = λ tree. refl; treed = λ tree. refl; says = λ v x. refl; again = λ v x. refl; numbered = λ v x h. h }
-shape_of_is Receipts = record { named = λ tree. refl; treed = λ tree. refl; says = λ v x. refl; again = λ v x. refl; numbered = λ v x h. refl }
-shape_of_is Moved = record { named = λ tree. refl; treed = λ tree. refl; says = λ v x. refl; again = λ v x. refl; numbered = λ v x h. h }
+shape_of_is SpatialRefSys = record {
+  named = λ tree. refl;
+  treed = λ tree. refl;
+  says = λ v x. refl;
+  again = λ v x. refl;
+  numbered = λ v x h. refl;
+}
+shape_of_is Contents = record {
+  named = λ tree. refl;
+  treed = λ tree. refl;
+  says = λ v x. refl;
+  again = λ v x. refl;
+  numbered = λ v x h. h;
+}
+shape_of_is TileMatrixSet = record {
+  named = λ tree. refl;
+  treed = λ tree. refl;
+  says = λ v x. refl;
+  again = λ v x. refl;
+  numbered = λ v x h. h;
+}
+shape_of_is TileMatrix = record {
+  named = λ tree. refl;
+  treed = λ tree. refl;
+  says = λ v x. refl;
+  again = λ v x. refl;
+  numbered = λ v x h. h;
+}
+shape_of_is Relations = record {
+  named = λ tree. refl;
+  treed = λ tree. refl;
+  says = λ v x. refl;
+  again = λ v x. refl;
+  numbered = λ v x h. refl;
+}
+shape_of_is Tiles = record {
+  named = λ tree. refl;
+  treed = λ tree. refl;
+  says = λ v x. refl;
+  again = λ v x. refl;
+  numbered = λ v x h. refl;
+}
+shape_of_is Media = record {
+  named = λ tree. refl;
+  treed = λ tree. refl;
+  says = λ v x. refl;
+  again = λ v x. refl;
+  numbered = λ v x h. refl;
+}
+shape_of_is Rows = record {
+  named = λ tree. refl;
+  treed = λ tree. refl;
+  says = λ v x. refl;
+  again = λ v x. refl;
+  numbered = λ v x h. refl;
+}
+shape_of_is (Pairs TilesMedia) = record {
+  named = λ tree. refl;
+  treed = λ tree. refl;
+  says = λ v x. refl;
+  again = λ v x. refl;
+  numbered = λ v x h. h;
+}
+shape_of_is (Pairs RowsMedia) = record {
+  named = λ tree. refl;
+  treed = λ tree. refl;
+  says = λ v x. refl;
+  again = λ v x. refl;
+  numbered = λ v x h. h;
+}
+shape_of_is (Pairs RowsTiles) = record {
+  named = λ tree. refl;
+  treed = λ tree. refl;
+  says = λ v x. refl;
+  again = λ v x. refl;
+  numbered = λ v x h. h;
+}
+shape_of_is Heads = record {
+  named = λ tree. refl;
+  treed = λ tree. refl;
+  says = λ v x. refl;
+  again = λ v x. refl;
+  numbered = λ v x h. refl;
+}
+shape_of_is Identities = record {
+  named = λ tree. refl;
+  treed = λ tree. refl;
+  says = λ v x. refl;
+  again = λ v x. refl;
+  numbered = λ v x h. h;
+}
+shape_of_is Receipts = record {
+  named = λ tree. refl;
+  treed = λ tree. refl;
+  says = λ v x. refl;
+  again = λ v x. refl;
+  numbered = λ v x h. refl;
+}
+shape_of_is Moved = record {
+  named = λ tree. refl;
+  treed = λ tree. refl;
+  says = λ v x. refl;
+  again = λ v x. refl;
+  numbered = λ v x h. h;
+}
 
 abbrev all : List Name
-all = SpatialRefSys ∷ Contents ∷ TileMatrixSet ∷ TileMatrix ∷ Relations ∷ Tiles ∷ Media ∷ Rows ∷ Pairs TilesMedia ∷ Pairs RowsMedia ∷ Pairs RowsTiles ∷ Heads ∷ Identities ∷ Receipts ∷ Moved ∷ []
+all = SpatialRefSys ∷ Contents ∷ TileMatrixSet ∷ TileMatrix ∷ Relations ∷ Tiles ∷ Media ∷ Rows
+    ∷ Pairs TilesMedia ∷ Pairs RowsMedia ∷ Pairs RowsTiles ∷ Heads ∷ Identities ∷ Receipts ∷ Moved
+    ∷ []
 
 -- the lists of some tables, one after the other
 abbrev Lists : List Name → Type 0
@@ -153,12 +248,15 @@ others_apart name (n ∷ ns) zero = all_apart name ns
 others_apart name (n ∷ ns) (suc place) = is_apart name n && others_apart name ns place
 
 module _ (t : Table) (old new : Database) (spares : Spares t old new) where
-  kept : (n : Name) → is_apart t.name n ≡ true → IsFormed (shape_of n) old → IsFormed (shape_of n) new × (rows_of (shape_of n) new ≡ rows_of (shape_of n) old)
+  kept : (n : Name) → is_apart t.name n ≡ true → IsFormed (shape_of n) old → IsFormed (shape_of n) new
+      × (rows_of (shape_of n) new ≡ rows_of (shape_of n) old)
   kept n apart formed =
-      let parts = and_parts (is_other ((shape_of n).table 0).name t.name) (is_other ((shape_of n).table 0).name sequence_name) apart in
+      let parts = and_parts (is_other ((shape_of n).table 0).name t.name)
+      (is_other ((shape_of n).table 0).name sequence_name) apart in
       spared (shape_of n) (shape_of_is n) t old new spares parts.0 parts.1 formed
 
-  all_kept : (ns : List Name) → all_apart t.name ns ≡ true → Formed ns old → Formed ns new × (lists_of ns new ≡ lists_of ns old)
+  all_kept : (ns : List Name) → all_apart t.name ns ≡ true → Formed ns old → Formed ns new
+      × (lists_of ns new ≡ lists_of ns old)
   all_kept [] apart formed = (tt, refl)
   all_kept (n ∷ ns) apart formed =
       let parts = and_parts (is_apart t.name n) (all_apart t.name ns) apart in
@@ -166,8 +264,10 @@ module _ (t : Table) (old new : Database) (spares : Spares t old new) where
       let rest = all_kept ns parts.1 formed.1 in
       ((first.0, rest.0), λ i. (first.1 i, rest.1 i))
 
-  others_kept : (ns : List Name) (place : ℕ) → others_apart t.name ns place ≡ true → Formed ns old → IsFormed (shape_of (get_or ns place Moved)) new
-      → Formed ns new × (lists_of ns new ≡ put_at ns place (rows_of (shape_of (get_or ns place Moved)) new) (lists_of ns old))
+  others_kept : (ns : List Name) (place : ℕ) → others_apart t.name ns place ≡ true → Formed ns old
+      → IsFormed (shape_of (get_or ns place Moved)) new
+      → Formed ns new × (lists_of ns new ≡ put_at ns place (rows_of (shape_of (get_or ns place Moved)) new)
+      (lists_of ns old))
   others_kept [] place apart formed here = (tt, refl)
   others_kept (n ∷ ns) zero apart formed here =
       let rest = all_kept ns apart formed.1 in
@@ -180,7 +280,31 @@ module _ (t : Table) (old new : Database) (spares : Spares t old new) where
 
 -- one after the other, and by their names
 each_formed : (db : Database) → AreFormed db → Formed all db
-each_formed db f = (f.spatial_ref_sys, (f.contents, (f.tile_matrix_set, (f.tile_matrix, (f.relations, (f.tiles, (f.media, (f.rows, (f.tiles_media, (f.rows_media, (f.rows_tiles, (f.heads, (f.identities, (f.receipts, (f.moved, tt)))))))))))))))
+each_formed db f = (
+  f.spatial_ref_sys,
+  (
+    f.contents,
+    (
+      f.tile_matrix_set,
+      (
+        f.tile_matrix,
+        (
+          f.relations,
+          (
+            f.tiles,
+            (
+              f.media,
+              (
+                f.rows,
+                (f.tiles_media, (f.rows_media, (f.rows_tiles, (f.heads, (f.identities, (f.receipts, (f.moved, tt))))))),
+              ),
+            ),
+          ),
+        ),
+      ),
+    ),
+  ),
+)
 
 are_formed : (db : Database) → IsDatabase db → IsQuiet db.schema → Formed all db → AreFormed db
 are_formed db sound quiet f = record {
@@ -207,51 +331,175 @@ are_formed db sound quiet f = record {
 abbrev ShapeAt : (place : ℕ) → Shape (RowOf (get_or all place Moved))
 ShapeAt place = shape_of (get_or all place Moved)
 
-written : (place : ℕ) (spelling : Spelling) (old new : Database) → others_apart (spelled (ShapeAt place).table spelling).name all place ≡ true → Spares (spelled (ShapeAt place).table spelling) old new → AreFormed old → IsFormed (ShapeAt place) new
-    → AreFormed new × (tables_of new ≡ as_tables (put_at all place (rows_of (ShapeAt place) new) (lists_of all old)))
+written : (place : ℕ) (spelling : Spelling) (old new : Database)
+    → others_apart (spelled (ShapeAt place).table spelling).name all place ≡ true
+    → Spares (spelled (ShapeAt place).table spelling) old new → AreFormed old → IsFormed (ShapeAt place) new
+    → AreFormed new × (tables_of new ≡ as_tables (put_at all place (rows_of (ShapeAt place) new)
+    (lists_of all old)))
 written place spelling old new apart spares formed here =
-    let did = others_kept (spelled (ShapeAt place).table spelling) old new spares all place apart (each_formed old formed) here in
+    let did = others_kept (spelled (ShapeAt place).table spelling) old new spares all place apart
+    (each_formed old formed) here in
     (are_formed new spares.sound (subst IsQuiet (sym spares.schema) formed.quiet) did.0, λ i. as_tables (did.1 i))
 
 -- ---- each list
 
 pub systems_listed : IsListed systems
-systems_listed = record { laws = shape_of_is SpatialRefSys; formed = λ db f. f.spatial_ref_sys; lists = λ db. refl; written = λ spelling old new. written 0 spelling old new refl; reads = λ l t. refl; again = λ k l t. refl; same = λ t. refl }
+systems_listed = record {
+  laws = shape_of_is SpatialRefSys;
+  formed = λ db f. f.spatial_ref_sys;
+  lists = λ db. refl;
+  written = λ spelling old new. written 0 spelling old new refl;
+  reads = λ l t. refl;
+  again = λ k l t. refl;
+  same = λ t. refl;
+}
 
 pub contents_listed : IsListed contents
-contents_listed = record { laws = shape_of_is Contents; formed = λ db f. f.contents; lists = λ db. refl; written = λ spelling old new. written 1 spelling old new refl; reads = λ l t. refl; again = λ k l t. refl; same = λ t. refl }
+contents_listed = record {
+  laws = shape_of_is Contents;
+  formed = λ db f. f.contents;
+  lists = λ db. refl;
+  written = λ spelling old new. written 1 spelling old new refl;
+  reads = λ l t. refl;
+  again = λ k l t. refl;
+  same = λ t. refl;
+}
 
 pub matrix_sets_listed : IsListed matrix_sets
-matrix_sets_listed = record { laws = shape_of_is TileMatrixSet; formed = λ db f. f.tile_matrix_set; lists = λ db. refl; written = λ spelling old new. written 2 spelling old new refl; reads = λ l t. refl; again = λ k l t. refl; same = λ t. refl }
+matrix_sets_listed = record {
+  laws = shape_of_is TileMatrixSet;
+  formed = λ db f. f.tile_matrix_set;
+  lists = λ db. refl;
+  written = λ spelling old new. written 2 spelling old new refl;
+  reads = λ l t. refl;
+  again = λ k l t. refl;
+  same = λ t. refl;
+}
 
 pub matrices_listed : IsListed matrices
-matrices_listed = record { laws = shape_of_is TileMatrix; formed = λ db f. f.tile_matrix; lists = λ db. refl; written = λ spelling old new. written 3 spelling old new refl; reads = λ l t. refl; again = λ k l t. refl; same = λ t. refl }
+matrices_listed = record {
+  laws = shape_of_is TileMatrix;
+  formed = λ db f. f.tile_matrix;
+  lists = λ db. refl;
+  written = λ spelling old new. written 3 spelling old new refl;
+  reads = λ l t. refl;
+  again = λ k l t. refl;
+  same = λ t. refl;
+}
 
 pub relations_listed : IsListed relations
-relations_listed = record { laws = shape_of_is Relations; formed = λ db f. f.relations; lists = λ db. refl; written = λ spelling old new. written 4 spelling old new refl; reads = λ l t. refl; again = λ k l t. refl; same = λ t. refl }
+relations_listed = record {
+  laws = shape_of_is Relations;
+  formed = λ db f. f.relations;
+  lists = λ db. refl;
+  written = λ spelling old new. written 4 spelling old new refl;
+  reads = λ l t. refl;
+  again = λ k l t. refl;
+  same = λ t. refl;
+}
 
 pub tiles_listed : IsListed tiles
-tiles_listed = record { laws = shape_of_is Tiles; formed = λ db f. f.tiles; lists = λ db. refl; written = λ spelling old new. written 5 spelling old new refl; reads = λ l t. refl; again = λ k l t. refl; same = λ t. refl }
+tiles_listed = record {
+  laws = shape_of_is Tiles;
+  formed = λ db f. f.tiles;
+  lists = λ db. refl;
+  written = λ spelling old new. written 5 spelling old new refl;
+  reads = λ l t. refl;
+  again = λ k l t. refl;
+  same = λ t. refl;
+}
 
 pub media_listed : IsListed media
-media_listed = record { laws = shape_of_is Media; formed = λ db f. f.media; lists = λ db. refl; written = λ spelling old new. written 6 spelling old new refl; reads = λ l t. refl; again = λ k l t. refl; same = λ t. refl }
+media_listed = record {
+  laws = shape_of_is Media;
+  formed = λ db f. f.media;
+  lists = λ db. refl;
+  written = λ spelling old new. written 6 spelling old new refl;
+  reads = λ l t. refl;
+  again = λ k l t. refl;
+  same = λ t. refl;
+}
 
 pub attributes_listed : IsListed attributes
-attributes_listed = record { laws = shape_of_is Rows; formed = λ db f. f.rows; lists = λ db. refl; written = λ spelling old new. written 7 spelling old new refl; reads = λ l t. refl; again = λ k l t. refl; same = λ t. refl }
+attributes_listed = record {
+  laws = shape_of_is Rows;
+  formed = λ db f. f.rows;
+  lists = λ db. refl;
+  written = λ spelling old new. written 7 spelling old new refl;
+  reads = λ l t. refl;
+  again = λ k l t. refl;
+  same = λ t. refl;
+}
 
 pub pairs_listed : (m : Mapping) → IsListed (pairs m)
-pairs_listed TilesMedia = record { laws = shape_of_is (Pairs TilesMedia); formed = λ db f. f.tiles_media; lists = λ db. refl; written = λ spelling old new. written 8 spelling old new refl; reads = λ l t. refl; again = λ k l t. refl; same = λ t. refl }
-pairs_listed RowsMedia = record { laws = shape_of_is (Pairs RowsMedia); formed = λ db f. f.rows_media; lists = λ db. refl; written = λ spelling old new. written 9 spelling old new refl; reads = λ l t. refl; again = λ k l t. refl; same = λ t. refl }
-pairs_listed RowsTiles = record { laws = shape_of_is (Pairs RowsTiles); formed = λ db f. f.rows_tiles; lists = λ db. refl; written = λ spelling old new. written 10 spelling old new refl; reads = λ l t. refl; again = λ k l t. refl; same = λ t. refl }
+pairs_listed TilesMedia = record {
+  laws = shape_of_is (Pairs TilesMedia);
+  formed = λ db f. f.tiles_media;
+  lists = λ db. refl;
+  written = λ spelling old new. written 8 spelling old new refl;
+  reads = λ l t. refl;
+  again = λ k l t. refl;
+  same = λ t. refl;
+}
+pairs_listed RowsMedia = record {
+  laws = shape_of_is (Pairs RowsMedia);
+  formed = λ db f. f.rows_media;
+  lists = λ db. refl;
+  written = λ spelling old new. written 9 spelling old new refl;
+  reads = λ l t. refl;
+  again = λ k l t. refl;
+  same = λ t. refl;
+}
+pairs_listed RowsTiles = record {
+  laws = shape_of_is (Pairs RowsTiles);
+  formed = λ db f. f.rows_tiles;
+  lists = λ db. refl;
+  written = λ spelling old new. written 10 spelling old new refl;
+  reads = λ l t. refl;
+  again = λ k l t. refl;
+  same = λ t. refl;
+}
 
 pub heads_listed : IsListed heads
-heads_listed = record { laws = shape_of_is Heads; formed = λ db f. f.heads; lists = λ db. refl; written = λ spelling old new. written 11 spelling old new refl; reads = λ l t. refl; again = λ k l t. refl; same = λ t. refl }
+heads_listed = record {
+  laws = shape_of_is Heads;
+  formed = λ db f. f.heads;
+  lists = λ db. refl;
+  written = λ spelling old new. written 11 spelling old new refl;
+  reads = λ l t. refl;
+  again = λ k l t. refl;
+  same = λ t. refl;
+}
 
 pub identities_listed : IsListed identities
-identities_listed = record { laws = shape_of_is Identities; formed = λ db f. f.identities; lists = λ db. refl; written = λ spelling old new. written 12 spelling old new refl; reads = λ l t. refl; again = λ k l t. refl; same = λ t. refl }
+identities_listed = record {
+  laws = shape_of_is Identities;
+  formed = λ db f. f.identities;
+  lists = λ db. refl;
+  written = λ spelling old new. written 12 spelling old new refl;
+  reads = λ l t. refl;
+  again = λ k l t. refl;
+  same = λ t. refl;
+}
 
 pub receipts_listed : IsListed receipts
-receipts_listed = record { laws = shape_of_is Receipts; formed = λ db f. f.receipts; lists = λ db. refl; written = λ spelling old new. written 13 spelling old new refl; reads = λ l t. refl; again = λ k l t. refl; same = λ t. refl }
+receipts_listed = record {
+  laws = shape_of_is Receipts;
+  formed = λ db f. f.receipts;
+  lists = λ db. refl;
+  written = λ spelling old new. written 13 spelling old new refl;
+  reads = λ l t. refl;
+  again = λ k l t. refl;
+  same = λ t. refl;
+}
 
 pub moved_listed : IsListed moved
-moved_listed = record { laws = shape_of_is Moved; formed = λ db f. f.moved; lists = λ db. refl; written = λ spelling old new. written 14 spelling old new refl; reads = λ l t. refl; again = λ k l t. refl; same = λ t. refl }
+moved_listed = record {
+  laws = shape_of_is Moved;
+  formed = λ db f. f.moved;
+  lists = λ db. refl;
+  written = λ spelling old new. written 14 spelling old new refl;
+  reads = λ l t. refl;
+  again = λ k l t. refl;
+  same = λ t. refl;
+}

@@ -9,7 +9,8 @@ use Rattle.package_tables.specs.declared.rows.ContentsRow.{ContentsRow}
 
 -- a row comes in, under a key that no row has
 abbrev pub Adds : {R : Type 0} → Listed R → R → Tables → Tables → Type 0
-Adds list row before after = has list.shape.key (list.shape.key row) (list.rows before) ≡ false → after ≡ list.with_rows (put list.shape.key row (list.rows before)) before
+Adds list row before after = has list.shape.key (list.shape.key row) (list.rows before) ≡ false
+    → after ≡ list.with_rows (put list.shape.key row (list.rows before)) before
 
 -- the rows that pass go
 abbrev pub Drops : {R : Type 0} → Listed R → (R → Bool) → Tables → Tables → Type 0

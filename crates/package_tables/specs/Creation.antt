@@ -12,15 +12,45 @@ use Rattle.package_tables.specs.declared.rows.HeadRow.{HeadRow}
 
 -- the head of a package of the second version, with the moment at which it was made. The archive has no parent
 abbrev pub head_of : List ℕ → Option (List ℕ) → ℕ → ℕ → List ℕ → HeadRow
-head_of uuid parent depth loan created = record { id = pos 1; version = pos 2; «package» = uuid_text uuid; parent = optional_uuid_text parent; depth = pos depth; loan = pos loan; created = created }
+head_of uuid parent depth loan created = record {
+  id = pos 1;
+  version = pos 2;
+  «package» = uuid_text uuid;
+  parent = optional_uuid_text parent;
+  depth = pos depth;
+  loan = pos loan;
+  created = created;
+}
 
 -- tables that have no rows
 abbrev pub no_rows : Tables
-no_rows = record { spatial_ref_sys = []; contents = []; tile_matrix_set = []; tile_matrix = []; relations = []; tiles = []; media = []; rows = []; tiles_media = []; rows_media = []; rows_tiles = []; heads = []; identities = []; receipts = []; moved = [] }
+no_rows = record {
+  spatial_ref_sys = [];
+  contents = [];
+  tile_matrix_set = [];
+  tile_matrix = [];
+  relations = [];
+  tiles = [];
+  media = [];
+  rows = [];
+  tiles_media = [];
+  rows_media = [];
+  rows_tiles = [];
+  heads = [];
+  identities = [];
+  receipts = [];
+  moved = [];
+}
 
 -- the fixed rows alone
 abbrev pub fixed_tables : Frame → List ℕ → Tables
-fixed_tables f at = record no_rows { spatial_ref_sys = systems_of f.srs_id; contents = contents_of f at; tile_matrix_set = matrix_set f ∷ []; tile_matrix = levels_of f; relations = mapping_relations }
+fixed_tables f at = record no_rows {
+  spatial_ref_sys = systems_of f.srs_id;
+  contents = contents_of f at;
+  tile_matrix_set = matrix_set f ∷ [];
+  tile_matrix = levels_of f;
+  relations = mapping_relations;
+}
 
 -- the tables of a package with nothing in it
 abbrev pub new_tables : Frame → HeadRow → Tables

@@ -1,5 +1,7 @@
--- What is read of a store that may be damaged: nothing is asked of its database. Profile, over the tables of GeoPackage 1.3 and OGC 18-000.
-use Rattle.std.specs.Prelude.{◌≡◌, Bool, true, ◌≤◌, List, [], ◌∷◌, map, Option, Some, None, MatchOption, ℤ, pos, ⊤}
+-- What is read of a store that may be damaged: nothing is asked of its database. Profile, over the tables of
+-- GeoPackage 1.3 and OGC 18-000.
+use Rattle.std.specs.Prelude.{◌≡◌, Bool, true, ◌≤◌, List, [], ◌∷◌, map, Option, Some, None}
+use Rattle.std.specs.Prelude.{MatchOption, ℤ, pos, ⊤}
 use Rattle.sqlite.specs.Effect.{Database}
 use Rattle.store_sql.specs.Known.{IsQuiet}
 use Rattle.sheet_types.specs.Matrix.{is_within}
@@ -9,7 +11,10 @@ use Rattle.sheet_types.specs.Refuse.{greatest_depth}
 use Rattle.sheet_types.specs.Texts.{uuid_text, is_moment}
 use Rattle.sheet_types.specs.Opening.{Head, Claim}
 use Rattle.package_tables.specs.Shape.{Shape, rows_of, IsFormed}
-use Rattle.package_tables.specs.Shapes.{spatial_ref_sys_shape, contents_shape, tile_matrix_set_shape, tile_matrix_shape, relation_shape, tile_shape, medium_shape, attribute_shape, tiles_media_shape, rows_media_shape, rows_tiles_shape, head_shape, identity_shape, receipt_shape, moved_shape}
+use Rattle.package_tables.specs.Shapes.{spatial_ref_sys_shape, contents_shape, tile_matrix_set_shape}
+use Rattle.package_tables.specs.Shapes.{tile_matrix_shape, relation_shape, tile_shape, medium_shape, attribute_shape}
+use Rattle.package_tables.specs.Shapes.{tiles_media_shape, rows_media_shape, rows_tiles_shape, head_shape}
+use Rattle.package_tables.specs.Shapes.{identity_shape, receipt_shape, moved_shape}
 use Rattle.package_tables.specs.declared.rows.HeadRow.{HeadRow}
 use Rattle.package_tables.specs.declared.rows.ReceiptRow.{ReceiptRow}
 
@@ -53,11 +58,13 @@ claim_of_row r = record { seq = r.seq; line = r.line; source = r.source; target 
 
 -- those of the rows, in their ranges or not; none where the table hasn't its form
 abbrev pub ReadsClaims : Database → List Claim → Type 0
-ReadsClaims db claims = (IsFormed receipt_shape db → claims ≡ map claim_of_row (rows_of receipt_shape db)) × ((IsFormed receipt_shape db → ⊥) → claims ≡ [])
+ReadsClaims db claims = (IsFormed receipt_shape db → claims ≡ map claim_of_row (rows_of receipt_shape db))
+    × ((IsFormed receipt_shape db → ⊥) → claims ≡ [])
 
 -- ---- all tables
 
--- each table of this version has its form. The first version has no table of the third mapping; a table more changes nothing
+-- each table of this version has its form. The first version has no table of the third mapping; a table more changes
+-- nothing
 pub record AreFormedAt (version : ℤ) (db : Database) : Type 0 where
   pub quiet : IsQuiet db.schema
   pub spatial_ref_sys : IsFormed spatial_ref_sys_shape db

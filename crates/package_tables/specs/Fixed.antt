@@ -1,5 +1,8 @@
--- The rows that are the same in every package but for the frame and the moment of the last change. OGC GeoPackage 1.3 (spatial reference systems, contents, tile matrix sets, tile matrices) and OGC 18-000 (relations) say which rows have to be there; names, definitions and bounds are profile.
-use Rattle.std.specs.Prelude.{◌≡◌, ℕ, ℤ, pos, negsuc, ◌+ℤ◌, unsigned_abs, ◌||◌, Bool, List, [], ◌∷◌, ◌++◌, map, codes, if◌then◌else◌}
+-- The rows that are the same in every package but for the frame and the moment of the last change. OGC GeoPackage 1.3
+-- (spatial reference systems, contents, tile matrix sets, tile matrices) and OGC 18-000 (relations) say which rows
+-- have to be there; names, definitions and bounds are profile.
+use Rattle.std.specs.Prelude.{◌≡◌, ℕ, ℤ, pos, negsuc, ◌+ℤ◌, unsigned_abs, ◌||◌, Bool, List, []}
+use Rattle.std.specs.Prelude.{◌∷◌, ◌++◌, map, codes, if◌then◌else◌}
 use Rattle.std.specs.Ordering.{int_eq}
 use Rattle.std.specs.List.{range_with_len}
 use Rattle.std.specs.Fmt.{signed_decimal}
@@ -15,7 +18,14 @@ use Rattle.package_tables.specs.declared.rows.TileMatrixRow.{TileMatrixRow}
 use Rattle.package_tables.specs.declared.rows.RelationRow.{RelationRow}
 
 abbrev pub system : List ℕ → ℤ → List ℕ → List ℕ → SpatialRefSysRow
-system name number organization definition = record { srs_name = name; srs_id = number; organization = organization; organization_coordsys_id = number; definition = definition; description = [] }
+system name number organization definition = record {
+  srs_name = name;
+  srs_id = number;
+  organization = organization;
+  organization_coordsys_id = number;
+  definition = definition;
+  description = [];
+}
 
 -- the three reference systems that each package has, by their numbers
 abbrev pub standard_systems : List SpatialRefSysRow
@@ -38,7 +48,18 @@ systems_of n = if is_standard n then standard_systems else put spatial_ref_sys_s
 
 -- the row of a table in the contents
 abbrev pub content : List ℕ → List ℕ → Frame → List ℕ → ContentsRow
-content name kind f at = record { table_name = name; data_type = kind; identifier = name; description = []; last_change = at; min_x = f.min_x; min_y = f.min_y; max_x = f.max_x; max_y = f.max_y; srs_id = f.srs_id }
+content name kind f at = record {
+  table_name = name;
+  data_type = kind;
+  identifier = name;
+  description = [];
+  last_change = at;
+  min_x = f.min_x;
+  min_y = f.min_y;
+  max_x = f.max_x;
+  max_y = f.max_y;
+  srs_id = f.srs_id;
+}
 
 -- the contents, by the names of the tables
 abbrev pub contents_of : Frame → List ℕ → List ContentsRow
@@ -49,7 +70,14 @@ contents_of f at =
     ∷ []
 
 abbrev pub matrix_set : Frame → TileMatrixSetRow
-matrix_set f = record { table_name = codes "sheet_tiles"; srs_id = f.srs_id; min_x = f.min_x; min_y = f.min_y; max_x = f.max_x; max_y = f.max_y }
+matrix_set f = record {
+  table_name = codes "sheet_tiles";
+  srs_id = f.srs_id;
+  min_x = f.min_x;
+  min_y = f.min_y;
+  max_x = f.max_x;
+  max_y = f.max_y;
+}
 
 -- the tile matrix of a zoom level
 abbrev pub level_row : Frame → ℤ → TileMatrixRow
@@ -95,7 +123,8 @@ abbrev pub undated : List ContentsRow → List ContentsRow
 undated = map (λ (c : ContentsRow). record c { last_change = [] })
 
 -- these lists are the fixed rows of the frame, with no others beside them
-pub record AreFixed (f : Frame) (systems : List SpatialRefSysRow) (listed : List ContentsRow) (sets : List TileMatrixSetRow) (levels : List TileMatrixRow) (related : List RelationRow) : Type 0 where
+pub record AreFixed (f : Frame) (systems : List SpatialRefSysRow) (listed : List ContentsRow)
+    (sets : List TileMatrixSetRow) (levels : List TileMatrixRow) (related : List RelationRow) : Type 0 where
   pub spatial_ref_sys : systems ≡ systems_of f.srs_id
   pub contents : undated listed ≡ contents_of f []
   pub tile_matrix_set : sets ≡ matrix_set f ∷ []

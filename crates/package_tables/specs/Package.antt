@@ -3,7 +3,10 @@ use Rattle.std.specs.Prelude.{List}
 use Rattle.sqlite.specs.Effect.{Database, IsDatabase}
 use Rattle.store_sql.specs.Known.{IsQuiet}
 use Rattle.package_tables.specs.Shape.{rows_of, IsFormed}
-use Rattle.package_tables.specs.Shapes.{spatial_ref_sys_shape, contents_shape, tile_matrix_set_shape, tile_matrix_shape, relation_shape, tile_shape, medium_shape, attribute_shape, tiles_media_shape, rows_media_shape, rows_tiles_shape, head_shape, identity_shape, receipt_shape, moved_shape}
+use Rattle.package_tables.specs.Shapes.{spatial_ref_sys_shape, contents_shape, tile_matrix_set_shape}
+use Rattle.package_tables.specs.Shapes.{tile_matrix_shape, relation_shape, tile_shape, medium_shape, attribute_shape}
+use Rattle.package_tables.specs.Shapes.{tiles_media_shape, rows_media_shape, rows_tiles_shape, head_shape}
+use Rattle.package_tables.specs.Shapes.{identity_shape, receipt_shape, moved_shape}
 use Rattle.package_tables.specs.declared.rows.AttributeRow.{AttributeRow}
 use Rattle.package_tables.specs.declared.rows.ContentsRow.{ContentsRow}
 use Rattle.package_tables.specs.declared.rows.HeadRow.{HeadRow}

@@ -11,7 +11,8 @@ use Rattle.sheet_types.specs.Ordered.{arranged}
 use Rattle.store_sql.specs.Writing.{IsKeyed}
 use Rattle.package_tables.specs.Form.{IsPlaced, rows_named}
 
--- the table, what a row says, how a value is stored under a rowid (a table whose key is the rowid does not look at it), and the key by which the values are arranged
+-- the table, what a row says, how a value is stored under a rowid (a table whose key is the rowid does not look at
+-- it), and the key by which the values are arranged
 pub record Shape (R : Type 0) : Type 0 where
   pub table : ℕ → Table
   pub typed : Row → R

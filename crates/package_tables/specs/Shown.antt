@@ -1,5 +1,6 @@
 -- The row that a SELECT shows of a value, column by column.
-use Rattle.std.specs.Prelude.{◌≡◌, ◌⊎◌, ℕ, ◌<◌, ℤ, ◌≤ℤ◌, unsigned_abs, List, [], ◌∷◌, map, Option, Some, MatchOption, slice_get, IsUtf8, IsPermutation}
+use Rattle.std.specs.Prelude.{◌≡◌, ◌⊎◌, ℕ, ◌<◌, ℤ, ◌≤ℤ◌, unsigned_abs, List, []}
+use Rattle.std.specs.Prelude.{◌∷◌, map, Option, Some, MatchOption, slice_get, IsUtf8, IsPermutation}
 use Rattle.sqlite_trees.specs.Tree.{IsAscending}
 use Rattle.sqlite.specs.Order.{Row, column}
 use Rattle.sqlite.specs.declared.types.Value.TheVariants.{Int, Text, Blob}
@@ -41,32 +42,41 @@ abbrev pub identity_shown : IdentityRow → Row
 identity_shown x = Int x.kind ∷ Int x.local_id ∷ Text x.uuid ∷ []
 
 abbrev pub receipt_shown : ReceiptRow → Row
-receipt_shown x = Int x.seq ∷ Text x.request ∷ Text x.at ∷ Text x.line ∷ Text x.source ∷ Text x.target ∷ Int x.n_tiles ∷ Int x.n_media ∷ Int x.n_rows ∷ Int x.n_links ∷ Int x.n_bytes ∷ []
+receipt_shown x = Int x.seq ∷ Text x.request ∷ Text x.at ∷ Text x.line ∷ Text x.source ∷ Text x.target
+    ∷ Int x.n_tiles ∷ Int x.n_media ∷ Int x.n_rows ∷ Int x.n_links ∷ Int x.n_bytes ∷ []
 
 abbrev pub moved_shown : MovedRow → Row
-moved_shown x = Int x.seq ∷ Int x.position ∷ Int x.kind ∷ Text x.base ∷ Text x.other ∷ Int x.size ∷ Text x.fingerprint ∷ []
+moved_shown x = Int x.seq ∷ Int x.position ∷ Int x.kind ∷ Text x.base ∷ Text x.other ∷ Int x.size
+    ∷ Text x.fingerprint ∷ []
 
 abbrev pub head_shown : HeadRow → Row
-head_shown x = Int x.id ∷ Int x.version ∷ Text x.package ∷ Text x.parent ∷ Int x.depth ∷ Int x.loan ∷ Text x.created ∷ []
+head_shown x = Int x.id ∷ Int x.version ∷ Text x.package ∷ Text x.parent ∷ Int x.depth ∷ Int x.loan
+    ∷ Text x.created ∷ []
 
 abbrev pub spatial_ref_sys_shown : SpatialRefSysRow → Row
-spatial_ref_sys_shown x = Text x.srs_name ∷ Int x.srs_id ∷ Text x.organization ∷ Int x.organization_coordsys_id ∷ Text x.definition ∷ Text x.description ∷ []
+spatial_ref_sys_shown x = Text x.srs_name ∷ Int x.srs_id ∷ Text x.organization ∷ Int x.organization_coordsys_id
+    ∷ Text x.definition ∷ Text x.description ∷ []
 
 abbrev pub contents_shown : ContentsRow → Row
-contents_shown x = Text x.table_name ∷ Text x.data_type ∷ Text x.identifier ∷ Text x.description ∷ Text x.last_change ∷ Int x.min_x ∷ Int x.min_y ∷ Int x.max_x ∷ Int x.max_y ∷ Int x.srs_id ∷ []
+contents_shown x = Text x.table_name ∷ Text x.data_type ∷ Text x.identifier ∷ Text x.description
+    ∷ Text x.last_change ∷ Int x.min_x ∷ Int x.min_y ∷ Int x.max_x ∷ Int x.max_y ∷ Int x.srs_id ∷ []
 
 abbrev pub tile_matrix_set_shown : TileMatrixSetRow → Row
-tile_matrix_set_shown x = Text x.table_name ∷ Int x.srs_id ∷ Int x.min_x ∷ Int x.min_y ∷ Int x.max_x ∷ Int x.max_y ∷ []
+tile_matrix_set_shown x = Text x.table_name ∷ Int x.srs_id ∷ Int x.min_x ∷ Int x.min_y ∷ Int x.max_x
+    ∷ Int x.max_y ∷ []
 
 abbrev pub tile_matrix_shown : TileMatrixRow → Row
-tile_matrix_shown x = Text x.table_name ∷ Int x.zoom_level ∷ Int x.matrix_width ∷ Int x.matrix_height ∷ Int x.tile_width ∷ Int x.tile_height ∷ Int x.pixel_x_size ∷ Int x.pixel_y_size ∷ []
+tile_matrix_shown x = Text x.table_name ∷ Int x.zoom_level ∷ Int x.matrix_width ∷ Int x.matrix_height
+    ∷ Int x.tile_width ∷ Int x.tile_height ∷ Int x.pixel_x_size ∷ Int x.pixel_y_size ∷ []
 
 abbrev pub relation_shown : RelationRow → Row
-relation_shown x = Int x.id ∷ Text x.base_table_name ∷ Text x.base_primary_column ∷ Text x.related_table_name ∷ Text x.related_primary_column ∷ Text x.relation_name ∷ Text x.mapping_table_name ∷ []
+relation_shown x = Int x.id ∷ Text x.base_table_name ∷ Text x.base_primary_column ∷ Text x.related_table_name
+    ∷ Text x.related_primary_column ∷ Text x.relation_name ∷ Text x.mapping_table_name ∷ []
 
 -- the first row of an answer, if there is one, begins with the number
 abbrev pub BeginsWith : List Row → Option ℤ → Type 0
-BeginsWith rows found = MatchOption found (rows ≡ []) (λ n. (r : Row) × (slice_get rows 0 ≡ Some r) × (column r 0 ≡ Int n))
+BeginsWith rows found = MatchOption found (rows ≡ []) (λ n. (r : Row) × (slice_get rows 0 ≡ Some r)
+    × (column r 0 ≡ Int n))
 
 -- numbers in the order in which a table has them (`number_key`): by their size, and of one size the lower first
 abbrev pub InSize : ℤ → ℤ → Type 0
@@ -74,4 +84,5 @@ InSize a b = (unsigned_abs a < unsigned_abs b) ⊎ ((unsigned_abs a ≡ unsigned
 
 -- the rows show these numbers, which have come into that order
 abbrev pub AreInSize : List Row → List ℤ → Type 0
-AreInSize rows numbers = (read : List ℤ) × (rows ≡ map number_shown read) × IsPermutation read numbers × IsAscending InSize numbers
+AreInSize rows numbers = (read : List ℤ) × (rows ≡ map number_shown read) × IsPermutation read numbers
+    × IsAscending InSize numbers

@@ -9,7 +9,7 @@ ghost use Rattle.package_tables.specs.Calls.{Makes, LooksUp, IsOneOf, AreThose, 
 ghost use Rattle.package_tables.specs.Listed.{attributes};
 ghost use Rattle.package_tables.specs.Changes.{Adds, DropsAttribute};
 
-use crate::fault::{Fault, settled};
+use crate::fault::{Fault, drop_count};
 use crate::from_row::{FromRow, all_of, first_of, number_at, text_at};
 use crate::numbers::{has_any, numbers_of};
 use crate::rows::AttributeRow;
@@ -45,10 +45,11 @@ pub fn insert_attribute<S: Alter>(
     label: &str,
 ) -> Result<(), Fault>
     ensures same_reference { tx.new.conn.ghost_name ≡ tx.old.conn.ghost_name }
-    ensures wrote { Makes (Adds attributes (record { id = id; x = x; y = y; code = code; label = label.now })) (state S.Store tx.old.conn.now) (state S.Store tx.new.conn.now) result }
+    ensures wrote { Makes (Adds attributes (record { id = id; x = x; y = y; code = code; label = label.now }))
+        (state S.Store tx.old.conn.now) (state S.Store tx.new.conn.now) result }
     ensures survives { Survives (state S.Store tx.old.conn.now) (state S.Store tx.new.conn.now) (λ _. ⊥) }
 {
-    settled(tx.execute(
+    drop_count(tx.execute(
         "INSERT INTO sheet_rows VALUES (?1, ?2, ?3, ?4, ?5)",
         params![id, x, y, code, label],
     ))
@@ -60,7 +61,7 @@ pub fn delete_attribute<S: Alter>(tx: &mut Transaction<'_, S>, id: i64) -> Resul
     ensures wrote { Makes (DropsAttribute id) (state S.Store tx.old.conn.now) (state S.Store tx.new.conn.now) result }
     ensures survives { Survives (state S.Store tx.old.conn.now) (state S.Store tx.new.conn.now) (λ _. ⊥) }
 {
-    settled(tx.execute("DELETE FROM sheet_rows WHERE id = ?1", params![id]))
+    drop_count(tx.execute("DELETE FROM sheet_rows WHERE id = ?1", params![id]))
 }
 
 /// The attributes row of this number.
@@ -69,7 +70,8 @@ pub fn attribute_by_id<S: Alter>(
     id: i64,
 ) -> Result<Option<AttributeRow>, Fault>
     requires { Rests (state S.Store conn.old) }
-    ensures { LooksUp (λ t. IsOneOf (λ x. int_eq x.id id) t.rows) (state S.Store conn.old) (state S.Store conn.new) result }
+    ensures { LooksUp (λ t. IsOneOf (λ x. int_eq x.id id) t.rows) (state S.Store conn.old) (state S.Store conn.new)
+        result }
 {
     first_of(conn.query_all("SELECT * FROM sheet_rows WHERE id = ?1", params![id]))
 }
@@ -84,7 +86,8 @@ pub fn attributes_within<S: Alter>(
     north: i64,
 ) -> Result<Vec<AttributeRow>, Fault>
     requires { Rests (state S.Store conn.old) }
-    ensures { LooksUp (λ t found. AreThose (λ x. int_le west x.x && int_lt x.x east && int_lt south x.y && int_le x.y north) t.rows found.items) (state S.Store conn.old) (state S.Store conn.new) result }
+    ensures { LooksUp (λ t found. AreThose (λ x. int_le west x.x && int_lt x.x east && int_lt south x.y && int_le
+        x.y north) t.rows found.items) (state S.Store conn.old) (state S.Store conn.new) result }
 {
     all_of(
         alloc,
@@ -101,7 +104,8 @@ pub fn all_attributes<S: Alter>(
     alloc: Global,
 ) -> Result<Vec<AttributeRow>, Fault>
     requires { Rests (state S.Store conn.old) }
-    ensures { LooksUp (λ t found. AreAll (on (λ x. x.id) int_cmp) t.rows found.items) (state S.Store conn.old) (state S.Store conn.new) result }
+    ensures { LooksUp (λ t found. AreAll (on (λ x. x.id) int_cmp) t.rows found.items) (state S.Store conn.old)
+        (state S.Store conn.new) result }
 {
     all_of(
         alloc,
@@ -112,7 +116,8 @@ pub fn all_attributes<S: Alter>(
 /// The numbers of all attributes rows, in the order of the table.
 pub fn attribute_ids<S: Alter>(conn: &mut Connection<S>, alloc: Global) -> Result<Vec<i64>, Fault>
     requires { Rests (state S.Store conn.old) }
-    ensures { LooksUp (λ t found. found.items ≡ map (λ r. r.id) t.rows) (state S.Store conn.old) (state S.Store conn.new) result }
+    ensures { LooksUp (λ t found. found.items ≡ map (λ r. r.id) t.rows) (state S.Store conn.old)
+        (state S.Store conn.new) result }
 {
     numbers_of(alloc, conn.query_all("SELECT id FROM sheet_rows", &[]))
 }
@@ -120,7 +125,8 @@ pub fn attribute_ids<S: Alter>(conn: &mut Connection<S>, alloc: Global) -> Resul
 /// Whether there is an attributes row of this number.
 pub fn has_attribute<S: Alter>(conn: &mut Connection<S>, id: i64) -> Result<bool, Fault>
     requires { Rests (state S.Store conn.old) }
-    ensures { LooksUp (λ t found. found ≡ list_any (λ r. int_eq r.id id) t.rows) (state S.Store conn.old) (state S.Store conn.new) result }
+    ensures { LooksUp (λ t found. found ≡ list_any (λ r. int_eq r.id id) t.rows) (state S.Store conn.old)
+        (state S.Store conn.new) result }
 {
     has_any(conn.query_all("SELECT id FROM sheet_rows WHERE id = ?1", params![id]))
 }
@@ -135,7 +141,8 @@ pub fn attribute_ids_within<S: Alter>(
     north: i64,
 ) -> Result<Vec<i64>, Fault>
     requires { Rests (state S.Store conn.old) }
-    ensures { LooksUp (λ t found. AreNumbersOf (λ r. r.id) (λ x. int_le west x.x && int_lt x.x east && int_lt south x.y && int_le x.y north) t.rows found.items) (state S.Store conn.old) (state S.Store conn.new) result }
+    ensures { LooksUp (λ t found. AreNumbersOf (λ r. r.id) (λ x. int_le west x.x && int_lt x.x east && int_lt south
+        x.y && int_le x.y north) t.rows found.items) (state S.Store conn.old) (state S.Store conn.new) result }
 {
     all_of(
         alloc,

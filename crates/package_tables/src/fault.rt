@@ -46,7 +46,7 @@ impl<T: Drop> From<AllocFailed<T>> for Fault {
 }
 
 /// What a write answers, its count of rows dropped.
-pub fn settled(outcome: Result<usize, Error>) -> Result<(), Fault>
+pub fn drop_count(outcome: Result<usize, Error>) -> Result<(), Fault>
     ensures { MatchResult outcome (λ _. IsOk result) (λ error. result ≡ Err (fault_of error)) }
 {
     match outcome {

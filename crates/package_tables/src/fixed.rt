@@ -1,5 +1,6 @@
-//! What is read of the tables that are the same in every package but for the frame: reference systems, contents, tile matrices and relations; and
-//! the moment of their last change. The rows are written when a package is made (`new_packages`).
+//! What is read of the tables that are the same in every package but for the frame: reference
+//! systems, contents, tile matrices and relations; and the moment of their last change. The rows
+//! are written when a package is made (`new_packages`).
 ghost use Rattle.std.specs.Prelude.{◌≡◌, true};
 ghost use Rattle.std.specs.Ordering.{on, int_cmp};
 ghost use Rattle.sqlite.specs.State.{Survives};
@@ -8,7 +9,7 @@ ghost use Rattle.store_sql.specs.Transactions.{Rests};
 ghost use Rattle.package_tables.specs.Calls.{Makes, LooksUp, AreThose, AreAll};
 ghost use Rattle.package_tables.specs.Changes.{SetsLastChange};
 
-use crate::fault::{Fault, settled};
+use crate::fault::{Fault, drop_count};
 use crate::from_row::{FromRow, all_of, number_at, text_at};
 use crate::rows::{ContentsRow, RelationRow, SpatialRefSysRow, TileMatrixRow, TileMatrixSetRow};
 use sqlite::{Alter, Connection, Row, Transaction, params};
@@ -17,10 +18,11 @@ use std::alloc::Global;
 /// Says when each table changed last, in `last_change` of each row of the contents (OGC GeoPackage 1.3, 1.1.3).
 pub fn set_last_change<S: Alter>(tx: &mut Transaction<'_, S>, at: &str) -> Result<(), Fault>
     ensures same_reference { tx.new.conn.ghost_name ≡ tx.old.conn.ghost_name }
-    ensures wrote { Makes (SetsLastChange at.now) (state S.Store tx.old.conn.now) (state S.Store tx.new.conn.now) result }
+    ensures wrote { Makes (SetsLastChange at.now) (state S.Store tx.old.conn.now) (state S.Store tx.new.conn.now)
+        result }
     ensures survives { Survives (state S.Store tx.old.conn.now) (state S.Store tx.new.conn.now) (λ _. ⊥) }
 {
-    settled(tx.execute("UPDATE gpkg_contents SET last_change = ?1", params![at]))
+    drop_count(tx.execute("UPDATE gpkg_contents SET last_change = ?1", params![at]))
 }
 
 impl FromRow for SpatialRefSysRow {
@@ -49,7 +51,8 @@ pub fn all_spatial_ref_sys<S: Alter>(
     alloc: Global,
 ) -> Result<Vec<SpatialRefSysRow>, Fault>
     requires { Rests (state S.Store conn.old) }
-    ensures { LooksUp (λ t found. AreAll (on (λ x. x.srs_id) int_cmp) t.spatial_ref_sys found.items) (state S.Store conn.old) (state S.Store conn.new) result }
+    ensures { LooksUp (λ t found. AreAll (on (λ x. x.srs_id) int_cmp) t.spatial_ref_sys found.items)
+        (state S.Store conn.old) (state S.Store conn.new) result }
 {
     all_of(
         alloc,
@@ -81,13 +84,15 @@ impl FromRow for ContentsRow {
     }
 }
 
-/// All rows of the contents (OGC GeoPackage 1.3, 1.1.3). The text orders them, so that a report of them is always the same; the clause promises no order, as nobody needs one.
+/// All rows of the contents (OGC GeoPackage 1.3, 1.1.3). The text orders them, so that a report of
+/// them is always the same; the clause promises no order, as nobody needs one.
 pub fn all_contents<S: Alter>(
     conn: &mut Connection<S>,
     alloc: Global,
 ) -> Result<Vec<ContentsRow>, Fault>
     requires { Rests (state S.Store conn.old) }
-    ensures { LooksUp (λ t found. AreThose (λ _. true) t.contents found.items) (state S.Store conn.old) (state S.Store conn.new) result }
+    ensures { LooksUp (λ t found. AreThose (λ _. true) t.contents found.items) (state S.Store conn.old)
+        (state S.Store conn.new) result }
 {
     all_of(
         alloc,
@@ -121,7 +126,8 @@ pub fn all_tile_matrix_sets<S: Alter>(
     alloc: Global,
 ) -> Result<Vec<TileMatrixSetRow>, Fault>
     requires { Rests (state S.Store conn.old) }
-    ensures { LooksUp (λ t found. AreThose (λ _. true) t.tile_matrix_set found.items) (state S.Store conn.old) (state S.Store conn.new) result }
+    ensures { LooksUp (λ t found. AreThose (λ _. true) t.tile_matrix_set found.items) (state S.Store conn.old)
+        (state S.Store conn.new) result }
 {
     all_of(
         alloc,
@@ -160,7 +166,8 @@ pub fn all_tile_matrices<S: Alter>(
     alloc: Global,
 ) -> Result<Vec<TileMatrixRow>, Fault>
     requires { Rests (state S.Store conn.old) }
-    ensures { LooksUp (λ t found. AreAll (on (λ x. x.zoom_level) int_cmp) t.tile_matrix found.items) (state S.Store conn.old) (state S.Store conn.new) result }
+    ensures { LooksUp (λ t found. AreAll (on (λ x. x.zoom_level) int_cmp) t.tile_matrix found.items)
+        (state S.Store conn.old) (state S.Store conn.new) result }
 {
     all_of(
         alloc,
@@ -195,7 +202,8 @@ pub fn all_relations<S: Alter>(
     alloc: Global,
 ) -> Result<Vec<RelationRow>, Fault>
     requires { Rests (state S.Store conn.old) }
-    ensures { LooksUp (λ t found. AreAll (on (λ x. x.id) int_cmp) t.relations found.items) (state S.Store conn.old) (state S.Store conn.new) result }
+    ensures { LooksUp (λ t found. AreAll (on (λ x. x.id) int_cmp) t.relations found.items) (state S.Store conn.old)
+        (state S.Store conn.new) result }
 {
     all_of(
         alloc,

@@ -8,7 +8,7 @@ ghost use Rattle.package_tables.specs.Calls.{Makes, LooksUp, AreAll};
 ghost use Rattle.package_tables.specs.Listed.{heads};
 ghost use Rattle.package_tables.specs.Changes.{Adds};
 
-use crate::fault::{Fault, settled};
+use crate::fault::{Fault, drop_count};
 use crate::from_row::{FromRow, all_of, number_at, text_at};
 use crate::rows::HeadRow;
 use sqlite::{Alter, Connection, Row, Transaction, params};
@@ -26,10 +26,19 @@ pub fn insert_head<S: Alter>(
     created: &str,
 ) -> Result<(), Fault>
     ensures same_reference { tx.new.conn.ghost_name ≡ tx.old.conn.ghost_name }
-    ensures wrote { Makes (Adds heads (record { id = id; version = version; «package» = «package».now; parent = parent.now; depth = depth; loan = loan; created = created.now })) (state S.Store tx.old.conn.now) (state S.Store tx.new.conn.now) result }
+    ensures wrote { Makes (Adds heads (record {
+      id = id;
+      version = version;
+      «package» = «package».now;
+      parent = parent.now;
+      depth = depth;
+      loan = loan;
+      created = created.now;
+    })) (state S.Store tx.old.conn.now)
+        (state S.Store tx.new.conn.now) result }
     ensures survives { Survives (state S.Store tx.old.conn.now) (state S.Store tx.new.conn.now) (λ _. ⊥) }
 {
-    settled(tx.execute(
+    drop_count(tx.execute(
         "INSERT INTO sheet_package VALUES (?1, ?2, ?3, ?4, ?5, ?6, ?7)",
         params![id, version, package, parent, depth, loan, created],
     ))
@@ -59,7 +68,8 @@ impl FromRow for HeadRow {
 /// The heads; a package has one.
 pub fn all_heads<S: Alter>(conn: &mut Connection<S>, alloc: Global) -> Result<Vec<HeadRow>, Fault>
     requires { Rests (state S.Store conn.old) }
-    ensures { LooksUp (λ t found. AreAll (on (λ x. x.id) int_cmp) t.heads found.items) (state S.Store conn.old) (state S.Store conn.new) result }
+    ensures { LooksUp (λ t found. AreAll (on (λ x. x.id) int_cmp) t.heads found.items) (state S.Store conn.old)
+        (state S.Store conn.new) result }
 {
     all_of(
         alloc,

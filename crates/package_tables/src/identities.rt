@@ -8,7 +8,7 @@ ghost use Rattle.package_tables.specs.Calls.{Makes, Tells, LooksUp, IsOneOf, Are
 ghost use Rattle.package_tables.specs.Listed.{identities};
 ghost use Rattle.package_tables.specs.Changes.{Adds, DropsIdentity};
 
-use crate::fault::{Fault, settled};
+use crate::fault::{Fault, drop_count};
 use crate::from_row::{FromRow, all_of, first_of, number_at, number_of, text_at};
 use crate::rows::IdentityRow;
 use sqlite::{Alter, Connection, Row, Transaction, params};
@@ -43,10 +43,11 @@ pub fn insert_identity<S: Alter>(
     uuid: &str,
 ) -> Result<(), Fault>
     ensures same_reference { tx.new.conn.ghost_name ≡ tx.old.conn.ghost_name }
-    ensures wrote { Makes (Adds identities (record { kind = kind; local_id = local_id; uuid = uuid.now })) (state S.Store tx.old.conn.now) (state S.Store tx.new.conn.now) result }
+    ensures wrote { Makes (Adds identities (record { kind = kind; local_id = local_id; uuid = uuid.now }))
+        (state S.Store tx.old.conn.now) (state S.Store tx.new.conn.now) result }
     ensures survives { Survives (state S.Store tx.old.conn.now) (state S.Store tx.new.conn.now) (λ _. ⊥) }
 {
-    settled(tx.execute(
+    drop_count(tx.execute(
         "INSERT INTO sheet_identity VALUES (?1, ?2, ?3)",
         params![kind, local_id, uuid],
     ))
@@ -59,10 +60,11 @@ pub fn delete_identity<S: Alter>(
     local_id: i64,
 ) -> Result<(), Fault>
     ensures same_reference { tx.new.conn.ghost_name ≡ tx.old.conn.ghost_name }
-    ensures wrote { Makes (DropsIdentity kind local_id) (state S.Store tx.old.conn.now) (state S.Store tx.new.conn.now) result }
+    ensures wrote { Makes (DropsIdentity kind local_id) (state S.Store tx.old.conn.now)
+        (state S.Store tx.new.conn.now) result }
     ensures survives { Survives (state S.Store tx.old.conn.now) (state S.Store tx.new.conn.now) (λ _. ⊥) }
 {
-    settled(tx.execute(
+    drop_count(tx.execute(
         "DELETE FROM sheet_identity WHERE kind = ?1 AND local_id = ?2",
         params![kind, local_id],
     ))
@@ -74,7 +76,8 @@ pub fn identity_by_uuid<S: Alter>(
     uuid: &str,
 ) -> Result<Option<IdentityRow>, Fault>
     requires { Rests (state S.Store conn.old) }
-    ensures { LooksUp (λ t. IsOneOf (λ x. bytes_eq x.uuid uuid.now) t.identities) (state S.Store conn.old) (state S.Store conn.new) result }
+    ensures { LooksUp (λ t. IsOneOf (λ x. bytes_eq x.uuid uuid.now) t.identities) (state S.Store conn.old)
+        (state S.Store conn.new) result }
 {
     first_of(conn.query_all(BY_UUID, params![uuid]))
 }
@@ -85,7 +88,8 @@ pub fn identity_by_uuid_inside<S: Alter>(
     uuid: &str,
 ) -> Result<Option<IdentityRow>, Fault>
     ensures same_reference { tx.new.conn.ghost_name ≡ tx.old.conn.ghost_name }
-    ensures told { Tells (λ t. IsOneOf (λ x. bytes_eq x.uuid uuid.now) t.identities) (state S.Store tx.old.conn.now) (state S.Store tx.new.conn.now) result }
+    ensures told { Tells (λ t. IsOneOf (λ x. bytes_eq x.uuid uuid.now) t.identities) (state S.Store tx.old.conn.now)
+        (state S.Store tx.new.conn.now) result }
     ensures survives { Survives (state S.Store tx.old.conn.now) (state S.Store tx.new.conn.now) (λ _. ⊥) }
 {
     first_of(tx.query_all(BY_UUID, params![uuid]))
@@ -98,7 +102,8 @@ pub fn identity_by_key<S: Alter>(
     local_id: i64,
 ) -> Result<Option<IdentityRow>, Fault>
     requires { Rests (state S.Store conn.old) }
-    ensures { LooksUp (λ t. IsOneOf (λ x. int_eq x.kind kind && int_eq x.local_id local_id) t.identities) (state S.Store conn.old) (state S.Store conn.new) result }
+    ensures { LooksUp (λ t. IsOneOf (λ x. int_eq x.kind kind && int_eq x.local_id local_id) t.identities)
+        (state S.Store conn.old) (state S.Store conn.new) result }
 {
     first_of(conn.query_all(BY_KEY, params![kind, local_id]))
 }
@@ -110,7 +115,8 @@ pub fn identity_by_key_inside<S: Alter>(
     local_id: i64,
 ) -> Result<Option<IdentityRow>, Fault>
     ensures same_reference { tx.new.conn.ghost_name ≡ tx.old.conn.ghost_name }
-    ensures told { Tells (λ t. IsOneOf (λ x. int_eq x.kind kind && int_eq x.local_id local_id) t.identities) (state S.Store tx.old.conn.now) (state S.Store tx.new.conn.now) result }
+    ensures told { Tells (λ t. IsOneOf (λ x. int_eq x.kind kind && int_eq x.local_id local_id) t.identities)
+        (state S.Store tx.old.conn.now) (state S.Store tx.new.conn.now) result }
     ensures survives { Survives (state S.Store tx.old.conn.now) (state S.Store tx.new.conn.now) (λ _. ⊥) }
 {
     first_of(tx.query_all(BY_KEY, params![kind, local_id]))
@@ -122,7 +128,8 @@ pub fn greatest_local_id<S: Alter>(
     kind: i64,
 ) -> Result<Option<i64>, Fault>
     ensures same_reference { tx.new.conn.ghost_name ≡ tx.old.conn.ghost_name }
-    ensures told { Tells (λ t. IsGreatest (λ x. x.local_id) (filter (λ x. int_eq x.kind kind) t.identities)) (state S.Store tx.old.conn.now) (state S.Store tx.new.conn.now) result }
+    ensures told { Tells (λ t. IsGreatest (λ x. x.local_id) (filter (λ x. int_eq x.kind kind) t.identities))
+        (state S.Store tx.old.conn.now) (state S.Store tx.new.conn.now) result }
     ensures survives { Survives (state S.Store tx.old.conn.now) (state S.Store tx.new.conn.now) (λ _. ⊥) }
 {
     number_of(tx.query_all(
@@ -137,7 +144,8 @@ pub fn all_identities<S: Alter>(
     alloc: Global,
 ) -> Result<Vec<IdentityRow>, Fault>
     requires { Rests (state S.Store conn.old) }
-    ensures { LooksUp (λ t found. AreAll (then_cmp (on (λ x. x.kind) int_cmp) (on (λ x. x.local_id) int_cmp)) t.identities found.items) (state S.Store conn.old) (state S.Store conn.new) result }
+    ensures { LooksUp (λ t found. AreAll (then_cmp (on (λ x. x.kind) int_cmp) (on (λ x. x.local_id) int_cmp))
+        t.identities found.items) (state S.Store conn.old) (state S.Store conn.new) result }
 {
     all_of(
         alloc,

@@ -1,5 +1,5 @@
-//! The statements on the mapping tables. A pair is a row of one of them; each function looks into the table of the mapping that it is
-//! given.
+//! The statements on the mapping tables. A pair is a row of one of them; each function looks into
+//! the table of the mapping that it is given.
 ghost use Rattle.std.specs.Prelude.{◌≡◌, ◌&&◌};
 ghost use Rattle.std.specs.Ordering.{int_eq, int_cmp, on, then_cmp};
 ghost use Rattle.sqlite.specs.State.{Survives};
@@ -8,9 +8,10 @@ ghost use Rattle.store_sql.specs.Transactions.{Rests};
 ghost use Rattle.package_tables.specs.Calls.{Makes, LooksUp, IsOneOf, AreThose, AreAll};
 ghost use Rattle.package_tables.specs.Listed.{pairs};
 ghost use Rattle.package_tables.specs.Changes.{Adds, DropsPair};
-ghost use Rattle.package_tables.specs.Mappings.{mapping_rows, insert_text, delete_text, of_ends_text, of_base_text, of_related_text, all_text};
+ghost use Rattle.package_tables.specs.Mappings.{mapping_rows, insert_text, delete_text, of_ends_text, of_base_text};
+ghost use Rattle.package_tables.specs.Mappings.{of_related_text, all_text};
 
-use crate::fault::{Fault, settled};
+use crate::fault::{Fault, drop_count};
 use crate::from_row::{FromRow, all_of, first_of, number_at};
 use crate::rows::MappingRow;
 use sheet_types::command::Mapping;
@@ -52,10 +53,11 @@ pub fn insert_pair<S: Alter>(
     related_id: i64,
 ) -> Result<(), Fault>
     ensures same_reference { tx.new.conn.ghost_name ≡ tx.old.conn.ghost_name }
-    ensures wrote { Makes (Adds (pairs mapping) (record { base_id = base_id; related_id = related_id })) (state S.Store tx.old.conn.now) (state S.Store tx.new.conn.now) result }
+    ensures wrote { Makes (Adds (pairs mapping) (record { base_id = base_id; related_id = related_id }))
+        (state S.Store tx.old.conn.now) (state S.Store tx.new.conn.now) result }
     ensures survives { Survives (state S.Store tx.old.conn.now) (state S.Store tx.new.conn.now) (λ _. ⊥) }
 {
-    settled(tx.execute(insert_text(mapping), params![base_id, related_id]))
+    drop_count(tx.execute(insert_text(mapping), params![base_id, related_id]))
 }
 
 /// Text that takes a pair out.
@@ -77,10 +79,11 @@ pub fn delete_pair<S: Alter>(
     related_id: i64,
 ) -> Result<(), Fault>
     ensures same_reference { tx.new.conn.ghost_name ≡ tx.old.conn.ghost_name }
-    ensures wrote { Makes (DropsPair mapping base_id related_id) (state S.Store tx.old.conn.now) (state S.Store tx.new.conn.now) result }
+    ensures wrote { Makes (DropsPair mapping base_id related_id) (state S.Store tx.old.conn.now)
+        (state S.Store tx.new.conn.now) result }
     ensures survives { Survives (state S.Store tx.old.conn.now) (state S.Store tx.new.conn.now) (λ _. ⊥) }
 {
-    settled(tx.execute(delete_text(mapping), params![base_id, related_id]))
+    drop_count(tx.execute(delete_text(mapping), params![base_id, related_id]))
 }
 
 /// Text that asks for the pair of two ends.
@@ -102,7 +105,8 @@ pub fn pair_of_ends<S: Alter>(
     related_id: i64,
 ) -> Result<Option<MappingRow>, Fault>
     requires { Rests (state S.Store conn.old) }
-    ensures { LooksUp (λ t. IsOneOf (λ x. int_eq x.base_id base_id && int_eq x.related_id related_id) (mapping_rows mapping t)) (state S.Store conn.old) (state S.Store conn.new) result }
+    ensures { LooksUp (λ t. IsOneOf (λ x. int_eq x.base_id base_id && int_eq x.related_id related_id)
+        (mapping_rows mapping t)) (state S.Store conn.old) (state S.Store conn.new) result }
 {
     first_of(conn.query_all(of_ends_text(mapping), params![base_id, related_id]))
 }
@@ -125,7 +129,8 @@ pub fn pair_of_base<S: Alter>(
     base_id: i64,
 ) -> Result<Option<MappingRow>, Fault>
     requires { Rests (state S.Store conn.old) }
-    ensures { LooksUp (λ t. IsOneOf (λ x. int_eq x.base_id base_id) (mapping_rows mapping t)) (state S.Store conn.old) (state S.Store conn.new) result }
+    ensures { LooksUp (λ t. IsOneOf (λ x. int_eq x.base_id base_id) (mapping_rows mapping t))
+        (state S.Store conn.old) (state S.Store conn.new) result }
 {
     first_of(conn.query_all(of_base_text(mapping), params![base_id]))
 }
@@ -138,7 +143,8 @@ pub fn pairs_of_base<S: Alter>(
     base_id: i64,
 ) -> Result<Vec<MappingRow>, Fault>
     requires { Rests (state S.Store conn.old) }
-    ensures { LooksUp (λ t found. AreThose (λ x. int_eq x.base_id base_id) (mapping_rows mapping t) found.items) (state S.Store conn.old) (state S.Store conn.new) result }
+    ensures { LooksUp (λ t found. AreThose (λ x. int_eq x.base_id base_id) (mapping_rows mapping t) found.items)
+        (state S.Store conn.old) (state S.Store conn.new) result }
 {
     all_of(
         alloc,
@@ -164,7 +170,8 @@ pub fn pair_of_related<S: Alter>(
     related_id: i64,
 ) -> Result<Option<MappingRow>, Fault>
     requires { Rests (state S.Store conn.old) }
-    ensures { LooksUp (λ t. IsOneOf (λ x. int_eq x.related_id related_id) (mapping_rows mapping t)) (state S.Store conn.old) (state S.Store conn.new) result }
+    ensures { LooksUp (λ t. IsOneOf (λ x. int_eq x.related_id related_id) (mapping_rows mapping t))
+        (state S.Store conn.old) (state S.Store conn.new) result }
 {
     first_of(conn.query_all(of_related_text(mapping), params![related_id]))
 }
@@ -177,7 +184,8 @@ pub fn pairs_of_related<S: Alter>(
     related_id: i64,
 ) -> Result<Vec<MappingRow>, Fault>
     requires { Rests (state S.Store conn.old) }
-    ensures { LooksUp (λ t found. AreThose (λ x. int_eq x.related_id related_id) (mapping_rows mapping t) found.items) (state S.Store conn.old) (state S.Store conn.new) result }
+    ensures { LooksUp (λ t found. AreThose (λ x. int_eq x.related_id related_id) (mapping_rows mapping t)
+        found.items) (state S.Store conn.old) (state S.Store conn.new) result }
 {
     all_of(
         alloc,
@@ -203,7 +211,8 @@ pub fn all_pairs<S: Alter>(
     alloc: Global,
 ) -> Result<Vec<MappingRow>, Fault>
     requires { Rests (state S.Store conn.old) }
-    ensures { LooksUp (λ t found. AreAll (then_cmp (on (λ x. x.base_id) int_cmp) (on (λ x. x.related_id) int_cmp)) (mapping_rows mapping t) found.items) (state S.Store conn.old) (state S.Store conn.new) result }
+    ensures { LooksUp (λ t found. AreAll (then_cmp (on (λ x. x.base_id) int_cmp) (on (λ x. x.related_id) int_cmp))
+        (mapping_rows mapping t) found.items) (state S.Store conn.old) (state S.Store conn.new) result }
 {
     all_of(alloc, conn.query_all(all_text(mapping), &[]))
 }

@@ -9,7 +9,7 @@ ghost use Rattle.package_tables.specs.Calls.{Makes, LooksUp, IsOneOf, AreAll};
 ghost use Rattle.package_tables.specs.Listed.{media};
 ghost use Rattle.package_tables.specs.Changes.{Adds, DropsMedium};
 
-use crate::fault::{Fault, settled};
+use crate::fault::{Fault, drop_count};
 use crate::from_row::{FromRow, all_of, bytes_at, first_of, number_at, text_at};
 use crate::numbers::{has_any, numbers_of};
 use crate::rows::MediaRow;
@@ -41,10 +41,11 @@ pub fn insert_medium<S: Alter>(
     content_type: &str,
 ) -> Result<(), Fault>
     ensures same_reference { tx.new.conn.ghost_name ≡ tx.old.conn.ghost_name }
-    ensures wrote { Makes (Adds media (record { id = id; «data» = «data».now; content_type = content_type.now })) (state S.Store tx.old.conn.now) (state S.Store tx.new.conn.now) result }
+    ensures wrote { Makes (Adds media (record { id = id; «data» = «data».now; content_type = content_type.now }))
+        (state S.Store tx.old.conn.now) (state S.Store tx.new.conn.now) result }
     ensures survives { Survives (state S.Store tx.old.conn.now) (state S.Store tx.new.conn.now) (λ _. ⊥) }
 {
-    settled(tx.execute(
+    drop_count(tx.execute(
         "INSERT INTO sheet_media VALUES (?1, ?2, ?3)",
         params![id, data, content_type],
     ))
@@ -56,13 +57,14 @@ pub fn delete_medium<S: Alter>(tx: &mut Transaction<'_, S>, id: i64) -> Result<(
     ensures wrote { Makes (DropsMedium id) (state S.Store tx.old.conn.now) (state S.Store tx.new.conn.now) result }
     ensures survives { Survives (state S.Store tx.old.conn.now) (state S.Store tx.new.conn.now) (λ _. ⊥) }
 {
-    settled(tx.execute("DELETE FROM sheet_media WHERE id = ?1", params![id]))
+    drop_count(tx.execute("DELETE FROM sheet_media WHERE id = ?1", params![id]))
 }
 
 /// The medium of this number.
 pub fn medium_by_id<S: Alter>(conn: &mut Connection<S>, id: i64) -> Result<Option<MediaRow>, Fault>
     requires { Rests (state S.Store conn.old) }
-    ensures { LooksUp (λ t. IsOneOf (λ x. int_eq x.id id) t.media) (state S.Store conn.old) (state S.Store conn.new) result }
+    ensures { LooksUp (λ t. IsOneOf (λ x. int_eq x.id id) t.media) (state S.Store conn.old) (state S.Store conn.new)
+        result }
 {
     first_of(conn.query_all("SELECT * FROM sheet_media WHERE id = ?1", params![id]))
 }
@@ -70,7 +72,8 @@ pub fn medium_by_id<S: Alter>(conn: &mut Connection<S>, id: i64) -> Result<Optio
 /// All media, by their numbers.
 pub fn all_media<S: Alter>(conn: &mut Connection<S>, alloc: Global) -> Result<Vec<MediaRow>, Fault>
     requires { Rests (state S.Store conn.old) }
-    ensures { LooksUp (λ t found. AreAll (on (λ x. x.id) int_cmp) t.media found.items) (state S.Store conn.old) (state S.Store conn.new) result }
+    ensures { LooksUp (λ t found. AreAll (on (λ x. x.id) int_cmp) t.media found.items) (state S.Store conn.old)
+        (state S.Store conn.new) result }
 {
     all_of(
         alloc,
@@ -78,10 +81,12 @@ pub fn all_media<S: Alter>(conn: &mut Connection<S>, alloc: Global) -> Result<Ve
     )
 }
 
-/// The numbers of all media, in the order of the table. Media have no index, so the engine goes through their rows, one at a time.
+/// The numbers of all media, in the order of the table. Media have no index, so the engine goes
+/// through their rows, one at a time.
 pub fn medium_ids<S: Alter>(conn: &mut Connection<S>, alloc: Global) -> Result<Vec<i64>, Fault>
     requires { Rests (state S.Store conn.old) }
-    ensures { LooksUp (λ t found. found.items ≡ map (λ r. r.id) t.media) (state S.Store conn.old) (state S.Store conn.new) result }
+    ensures { LooksUp (λ t found. found.items ≡ map (λ r. r.id) t.media) (state S.Store conn.old)
+        (state S.Store conn.new) result }
 {
     numbers_of(alloc, conn.query_all("SELECT id FROM sheet_media", &[]))
 }
@@ -89,7 +94,8 @@ pub fn medium_ids<S: Alter>(conn: &mut Connection<S>, alloc: Global) -> Result<V
 /// Whether there is a medium of this number.
 pub fn has_medium<S: Alter>(conn: &mut Connection<S>, id: i64) -> Result<bool, Fault>
     requires { Rests (state S.Store conn.old) }
-    ensures { LooksUp (λ t found. found ≡ list_any (λ r. int_eq r.id id) t.media) (state S.Store conn.old) (state S.Store conn.new) result }
+    ensures { LooksUp (λ t found. found ≡ list_any (λ r. int_eq r.id id) t.media) (state S.Store conn.old)
+        (state S.Store conn.new) result }
 {
     has_any(conn.query_all("SELECT id FROM sheet_media WHERE id = ?1", params![id]))
 }

@@ -8,7 +8,7 @@ ghost use Rattle.package_tables.specs.Calls.{Makes, LooksUp, IsOneOf, AreThose, 
 ghost use Rattle.package_tables.specs.Listed.{moved};
 ghost use Rattle.package_tables.specs.Changes.{Adds};
 
-use crate::fault::{Fault, settled};
+use crate::fault::{Fault, drop_count};
 use crate::from_row::{FromRow, all_of, first_of, number_at, text_at};
 use crate::rows::MovedRow;
 use sqlite::{Alter, Connection, Row, Transaction, params};
@@ -26,10 +26,19 @@ pub fn insert_moved<S: Alter>(
     fingerprint: &str,
 ) -> Result<(), Fault>
     ensures same_reference { tx.new.conn.ghost_name ≡ tx.old.conn.ghost_name }
-    ensures wrote { Makes (Adds moved (record { seq = seq; position = position; kind = kind; base = base.now; other = other.now; size = size; fingerprint = fingerprint.now })) (state S.Store tx.old.conn.now) (state S.Store tx.new.conn.now) result }
+    ensures wrote { Makes (Adds moved (record {
+      seq = seq;
+      position = position;
+      kind = kind;
+      base = base.now;
+      other = other.now;
+      size = size;
+      fingerprint = fingerprint.now;
+    })) (state S.Store tx.old.conn.now)
+        (state S.Store tx.new.conn.now) result }
     ensures survives { Survives (state S.Store tx.old.conn.now) (state S.Store tx.new.conn.now) (λ _. ⊥) }
 {
-    settled(tx.execute(
+    drop_count(tx.execute(
         "INSERT INTO sheet_items VALUES (?1, ?2, ?3, ?4, ?5, ?6, ?7)",
         params![seq, position, kind, base, other, size, fingerprint],
     ))
@@ -63,7 +72,8 @@ pub fn moved_of<S: Alter>(
     seq: i64,
 ) -> Result<Vec<MovedRow>, Fault>
     requires { Rests (state S.Store conn.old) }
-    ensures { LooksUp (λ t found. AreThose (λ x. int_eq x.seq seq) t.moved found.items × Rises (λ x. x.position) found.items) (state S.Store conn.old) (state S.Store conn.new) result }
+    ensures { LooksUp (λ t found. AreThose (λ x. int_eq x.seq seq) t.moved found.items
+        × Rises (λ x. x.position) found.items) (state S.Store conn.old) (state S.Store conn.new) result }
 {
     all_of(
         alloc,
@@ -81,7 +91,8 @@ pub fn moved_at<S: Alter>(
     position: i64,
 ) -> Result<Option<MovedRow>, Fault>
     requires { Rests (state S.Store conn.old) }
-    ensures { LooksUp (λ t. IsOneOf (λ x. int_eq x.seq seq && int_eq x.position position) t.moved) (state S.Store conn.old) (state S.Store conn.new) result }
+    ensures { LooksUp (λ t. IsOneOf (λ x. int_eq x.seq seq && int_eq x.position position) t.moved)
+        (state S.Store conn.old) (state S.Store conn.new) result }
 {
     first_of(conn.query_all(
         "SELECT * FROM sheet_items WHERE seq = ?1 AND position = ?2",
@@ -96,7 +107,8 @@ pub fn moved_of_kind<S: Alter>(
     kind: i64,
 ) -> Result<Option<MovedRow>, Fault>
     requires { Rests (state S.Store conn.old) }
-    ensures { LooksUp (λ t. IsOneOf (λ x. bytes_eq x.base base.now && int_eq x.kind kind) t.moved) (state S.Store conn.old) (state S.Store conn.new) result }
+    ensures { LooksUp (λ t. IsOneOf (λ x. bytes_eq x.base base.now && int_eq x.kind kind) t.moved)
+        (state S.Store conn.old) (state S.Store conn.new) result }
 {
     first_of(conn.query_all(
         "SELECT * FROM sheet_items WHERE base = ?1 AND kind = ?2",
@@ -107,7 +119,8 @@ pub fn moved_of_kind<S: Alter>(
 /// All that receipts moved, by the numbers of the receipts.
 pub fn all_moved<S: Alter>(conn: &mut Connection<S>, alloc: Global) -> Result<Vec<MovedRow>, Fault>
     requires { Rests (state S.Store conn.old) }
-    ensures { LooksUp (λ t found. AreAll (on (λ x. x.seq) int_cmp) t.moved found.items) (state S.Store conn.old) (state S.Store conn.new) result }
+    ensures { LooksUp (λ t found. AreAll (on (λ x. x.seq) int_cmp) t.moved found.items) (state S.Store conn.old)
+        (state S.Store conn.new) result }
 {
     all_of(
         alloc,

@@ -1,5 +1,6 @@
 //! Answers of which numbers alone are wanted: their rows have one column, so that no data comes along.
-ghost use Rattle.std.specs.Prelude.{◌≡◌, ◌≢◌, ℤ, List, map, not, length, ◌==◌, IfOk, IfErr, IsOk, IsOkAnd, IsPermutation};
+ghost use Rattle.std.specs.Prelude.{◌≡◌, ◌≢◌, ℤ, List, map, not, length, ◌==◌, IfOk, IfErr, IsOk};
+ghost use Rattle.std.specs.Prelude.{IsOkAnd, IsPermutation};
 ghost use Rattle.std.specs.List.{AllByRecursion};
 ghost use Rattle.sqlite_trees.specs.Tree.{IsAscending};
 ghost use Rattle.package_tables.specs.Shown.{AreTexts, InSize, AreInSize, number_shown};
@@ -37,7 +38,8 @@ fn in_size(mut numbers: Vec<i64>) -> Vec<i64>
 pub(crate) fn numbers_of(alloc: Global, answer: Result<Vec<Row>, Error>) -> Result<Vec<i64>, Fault>
     ensures numbers { IfOk result (λ numbers. IsOkAnd answer (λ rows. AreInSize rows.items numbers.items)) }
     ensures failed { IfErr answer (λ error. result ≡ Err (fault_of error)) }
-    ensures none { IfOk answer (λ rows. IfErr result (λ fault. fault ≡ StoreFault → AllByRecursion AreTexts rows.items → (numbers : List ℤ) → rows.items ≢ map number_shown numbers)) }
+    ensures none { IfOk answer (λ rows. IfErr result (λ fault. fault ≡ StoreFault
+        → AllByRecursion AreTexts rows.items → (numbers : List ℤ) → rows.items ≢ map number_shown numbers)) }
 {
     let numbers = all_of(alloc, answer)?;
     Ok(in_size(numbers))

@@ -8,7 +8,7 @@ ghost use Rattle.package_tables.specs.Calls.{Makes, LooksUp, IsOneOf, IsLeast, A
 ghost use Rattle.package_tables.specs.Listed.{receipts};
 ghost use Rattle.package_tables.specs.Changes.{Adds};
 
-use crate::fault::{Fault, settled};
+use crate::fault::{Fault, drop_count};
 use crate::from_row::{FromRow, all_of, first_of, number_at, text_at};
 use crate::rows::ReceiptRow;
 use sqlite::{Alter, Connection, Row, Transaction, params};
@@ -30,10 +30,23 @@ pub fn insert_receipt<S: Alter>(
     n_bytes: i64,
 ) -> Result<(), Fault>
     ensures same_reference { tx.new.conn.ghost_name ≡ tx.old.conn.ghost_name }
-    ensures wrote { Makes (Adds receipts (record { seq = seq; request = request.now; at = at.now; line = line.now; source = source.now; target = target.now; n_tiles = n_tiles; n_media = n_media; n_rows = n_rows; n_links = n_links; n_bytes = n_bytes })) (state S.Store tx.old.conn.now) (state S.Store tx.new.conn.now) result }
+    ensures wrote { Makes (Adds receipts (record {
+      seq = seq;
+      request = request.now;
+      at = at.now;
+      line = line.now;
+      source = source.now;
+      target = target.now;
+      n_tiles = n_tiles;
+      n_media = n_media;
+      n_rows = n_rows;
+      n_links = n_links;
+      n_bytes = n_bytes;
+    })) (state S.Store tx.old.conn.now)
+        (state S.Store tx.new.conn.now) result }
     ensures survives { Survives (state S.Store tx.old.conn.now) (state S.Store tx.new.conn.now) (λ _. ⊥) }
 {
-    settled(tx.execute(
+    drop_count(tx.execute(
         "INSERT INTO sheet_receipts VALUES (?1, ?2, ?3, ?4, ?5, ?6, ?7, ?8, ?9, ?10, ?11)",
         params![
             seq, request, at, line, source, target, n_tiles, n_media, n_rows, n_links, n_bytes
@@ -72,7 +85,8 @@ pub fn receipt_by_request<S: Alter>(
     request: &str,
 ) -> Result<Option<ReceiptRow>, Fault>
     requires { Rests (state S.Store conn.old) }
-    ensures { LooksUp (λ t. IsOneOf (λ x. bytes_eq x.request request.now) t.receipts) (state S.Store conn.old) (state S.Store conn.new) result }
+    ensures { LooksUp (λ t. IsOneOf (λ x. bytes_eq x.request request.now) t.receipts) (state S.Store conn.old)
+        (state S.Store conn.new) result }
 {
     first_of(conn.query_all(
         "SELECT * FROM sheet_receipts WHERE request = ?1",
@@ -86,7 +100,8 @@ pub fn receipt_after<S: Alter>(
     seq: i64,
 ) -> Result<Option<ReceiptRow>, Fault>
     requires { Rests (state S.Store conn.old) }
-    ensures { LooksUp (λ t. IsLeast (λ x. x.seq) (filter (λ x. is_gt (int_cmp x.seq seq)) t.receipts)) (state S.Store conn.old) (state S.Store conn.new) result }
+    ensures { LooksUp (λ t. IsLeast (λ x. x.seq) (filter (λ x. is_gt (int_cmp x.seq seq)) t.receipts))
+        (state S.Store conn.old) (state S.Store conn.new) result }
 {
     first_of(conn.query_all(
         "SELECT * FROM sheet_receipts WHERE seq > ?1 ORDER BY seq LIMIT 1",
@@ -101,7 +116,8 @@ pub fn receipt_to_after<S: Alter>(
     seq: i64,
 ) -> Result<Option<ReceiptRow>, Fault>
     requires { Rests (state S.Store conn.old) }
-    ensures { LooksUp (λ t. IsLeast (λ x. x.seq) (filter (λ x. bytes_eq x.target target.now && is_gt (int_cmp x.seq seq)) t.receipts)) (state S.Store conn.old) (state S.Store conn.new) result }
+    ensures { LooksUp (λ t. IsLeast (λ x. x.seq) (filter (λ x. bytes_eq x.target target.now && is_gt
+        (int_cmp x.seq seq)) t.receipts)) (state S.Store conn.old) (state S.Store conn.new) result }
 {
     first_of(conn.query_all(
         "SELECT * FROM sheet_receipts WHERE target = ?1 AND seq > ?2 ORDER BY seq LIMIT 1",
@@ -115,7 +131,8 @@ pub fn all_receipts<S: Alter>(
     alloc: Global,
 ) -> Result<Vec<ReceiptRow>, Fault>
     requires { Rests (state S.Store conn.old) }
-    ensures { LooksUp (λ t found. AreAll (on (λ x. x.seq) int_cmp) t.receipts found.items) (state S.Store conn.old) (state S.Store conn.new) result }
+    ensures { LooksUp (λ t found. AreAll (on (λ x. x.seq) int_cmp) t.receipts found.items) (state S.Store conn.old)
+        (state S.Store conn.new) result }
 {
     all_of(
         alloc,

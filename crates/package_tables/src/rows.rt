@@ -27,7 +27,8 @@ pub struct MediaRow {
     pub content_type: Text,
 }
 
-/// A row of `sheet_rows` (OGC GeoPackage 1.3, 2.4.2, attributes user data tables). Coordinates are thousandths of the frame's unit (profile).
+/// A row of `sheet_rows` (OGC GeoPackage 1.3, 2.4.2, attributes user data tables). Coordinates are
+/// thousandths of the frame's unit (profile).
 #[derive(Drop)]
 pub struct AttributeRow {
     /// Its local number, from 1 to 1,000,000 (profile).
@@ -51,7 +52,8 @@ pub struct MappingRow {
     pub related_id: i64,
 }
 
-/// A row of `sheet_identity`: which lasting identity a row of a user table has (profile). Kinds are 1 tile, 2 medium, 3 row.
+/// A row of `sheet_identity`: which lasting identity a row of a user table has (profile). Kinds are
+/// 1 tile, 2 medium, 3 row.
 #[derive(Drop)]
 pub struct IdentityRow {
     /// The kind of the item, which says of which table the row is.
@@ -89,7 +91,8 @@ pub struct ReceiptRow {
     pub n_bytes: i64,
 }
 
-/// A row of `sheet_items`: one thing that a receipt moved (profile). `other` and `fingerprint` are empty where there is none.
+/// A row of `sheet_items`: one thing that a receipt moved (profile). `other` and `fingerprint` are
+/// empty where there is none.
 #[derive(Drop)]
 pub struct MovedRow {
     /// The number of the receipt.
@@ -144,7 +147,8 @@ pub struct SpatialRefSysRow {
     pub description: Text,
 }
 
-/// A row of `gpkg_contents` (OGC GeoPackage 1.3, 1.1.3, contents). Bounds are thousandths of the frame's unit (profile).
+/// A row of `gpkg_contents` (OGC GeoPackage 1.3, 1.1.3, contents). Bounds are thousandths of the
+/// frame's unit (profile).
 #[derive(Drop)]
 pub struct ContentsRow {
     /// The name of the table.
@@ -169,7 +173,8 @@ pub struct ContentsRow {
     pub srs_id: i64,
 }
 
-/// A row of `gpkg_tile_matrix_set` (OGC GeoPackage 1.3, 2.2.6, tile matrix set). Bounds are thousandths of the frame's unit (profile).
+/// A row of `gpkg_tile_matrix_set` (OGC GeoPackage 1.3, 2.2.6, tile matrix set). Bounds are
+/// thousandths of the frame's unit (profile).
 #[derive(Drop)]
 pub struct TileMatrixSetRow {
     /// The name of the table of tiles.
@@ -186,7 +191,8 @@ pub struct TileMatrixSetRow {
     pub max_y: i64,
 }
 
-/// A row of `gpkg_tile_matrix` (OGC GeoPackage 1.3, 2.2.7, tile matrix). Pixel sizes are thousandths of the frame's unit (profile).
+/// A row of `gpkg_tile_matrix` (OGC GeoPackage 1.3, 2.2.7, tile matrix). Pixel sizes are
+/// thousandths of the frame's unit (profile).
 #[derive(Drop)]
 pub struct TileMatrixRow {
     /// The name of the table of tiles.

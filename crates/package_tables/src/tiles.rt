@@ -9,7 +9,7 @@ ghost use Rattle.package_tables.specs.Calls.{Makes, LooksUp, IsOneOf, AreThose, 
 ghost use Rattle.package_tables.specs.Listed.{tiles};
 ghost use Rattle.package_tables.specs.Changes.{Adds, DropsTile};
 
-use crate::fault::{Fault, settled};
+use crate::fault::{Fault, drop_count};
 use crate::from_row::{FromRow, all_of, bytes_at, first_of, number_at};
 use crate::numbers::{has_any, numbers_of};
 use crate::rows::TileRow;
@@ -45,10 +45,17 @@ pub fn insert_tile<S: Alter>(
     tile_data: &[u8],
 ) -> Result<(), Fault>
     ensures same_reference { tx.new.conn.ghost_name ≡ tx.old.conn.ghost_name }
-    ensures wrote { Makes (Adds tiles (record { id = id; zoom_level = zoom_level; tile_column = tile_column; tile_row = tile_row; tile_data = tile_data.now })) (state S.Store tx.old.conn.now) (state S.Store tx.new.conn.now) result }
+    ensures wrote { Makes (Adds tiles (record {
+      id = id;
+      zoom_level = zoom_level;
+      tile_column = tile_column;
+      tile_row = tile_row;
+      tile_data = tile_data.now;
+    })) (state S.Store tx.old.conn.now)
+        (state S.Store tx.new.conn.now) result }
     ensures survives { Survives (state S.Store tx.old.conn.now) (state S.Store tx.new.conn.now) (λ _. ⊥) }
 {
-    settled(tx.execute(
+    drop_count(tx.execute(
         "INSERT INTO sheet_tiles VALUES (?1, ?2, ?3, ?4, ?5)",
         params![id, zoom_level, tile_column, tile_row, tile_data],
     ))
@@ -60,13 +67,14 @@ pub fn delete_tile<S: Alter>(tx: &mut Transaction<'_, S>, id: i64) -> Result<(),
     ensures wrote { Makes (DropsTile id) (state S.Store tx.old.conn.now) (state S.Store tx.new.conn.now) result }
     ensures survives { Survives (state S.Store tx.old.conn.now) (state S.Store tx.new.conn.now) (λ _. ⊥) }
 {
-    settled(tx.execute("DELETE FROM sheet_tiles WHERE id = ?1", params![id]))
+    drop_count(tx.execute("DELETE FROM sheet_tiles WHERE id = ?1", params![id]))
 }
 
 /// The tile of this number.
 pub fn tile_by_id<S: Alter>(conn: &mut Connection<S>, id: i64) -> Result<Option<TileRow>, Fault>
     requires { Rests (state S.Store conn.old) }
-    ensures { LooksUp (λ t. IsOneOf (λ x. int_eq x.id id) t.tiles) (state S.Store conn.old) (state S.Store conn.new) result }
+    ensures { LooksUp (λ t. IsOneOf (λ x. int_eq x.id id) t.tiles) (state S.Store conn.old) (state S.Store conn.new)
+        result }
 {
     first_of(conn.query_all("SELECT * FROM sheet_tiles WHERE id = ?1", params![id]))
 }
@@ -79,7 +87,8 @@ pub fn tile_at<S: Alter>(
     tile_row: i64,
 ) -> Result<Option<TileRow>, Fault>
     requires { Rests (state S.Store conn.old) }
-    ensures { LooksUp (λ t. IsOneOf (λ x. int_eq x.zoom_level zoom_level && int_eq x.tile_column tile_column && int_eq x.tile_row tile_row) t.tiles) (state S.Store conn.old) (state S.Store conn.new) result }
+    ensures { LooksUp (λ t. IsOneOf (λ x. int_eq x.zoom_level zoom_level && int_eq x.tile_column tile_column &&
+        int_eq x.tile_row tile_row) t.tiles) (state S.Store conn.old) (state S.Store conn.new) result }
 {
     first_of(conn.query_all(
         "SELECT * FROM sheet_tiles WHERE zoom_level = ?1 AND tile_column = ?2 AND tile_row = ?3",
@@ -98,7 +107,9 @@ pub fn tiles_between<S: Alter>(
     last_row: i64,
 ) -> Result<Vec<TileRow>, Fault>
     requires { Rests (state S.Store conn.old) }
-    ensures { LooksUp (λ t found. AreThose (λ x. int_eq x.zoom_level zoom_level && int_le first_column x.tile_column && int_le x.tile_column last_column && int_le first_row x.tile_row && int_le x.tile_row last_row) t.tiles found.items) (state S.Store conn.old) (state S.Store conn.new) result }
+    ensures { LooksUp (λ t found. AreThose (λ x. int_eq x.zoom_level zoom_level && int_le first_column x.tile_column
+        && int_le x.tile_column last_column && int_le first_row x.tile_row && int_le x.tile_row last_row) t.tiles
+        found.items) (state S.Store conn.old) (state S.Store conn.new) result }
 {
     all_of(
         alloc,
@@ -112,7 +123,8 @@ pub fn tiles_between<S: Alter>(
 /// All tiles, by their numbers.
 pub fn all_tiles<S: Alter>(conn: &mut Connection<S>, alloc: Global) -> Result<Vec<TileRow>, Fault>
     requires { Rests (state S.Store conn.old) }
-    ensures { LooksUp (λ t found. AreAll (on (λ x. x.id) int_cmp) t.tiles found.items) (state S.Store conn.old) (state S.Store conn.new) result }
+    ensures { LooksUp (λ t found. AreAll (on (λ x. x.id) int_cmp) t.tiles found.items) (state S.Store conn.old)
+        (state S.Store conn.new) result }
 {
     all_of(
         alloc,
@@ -123,7 +135,8 @@ pub fn all_tiles<S: Alter>(conn: &mut Connection<S>, alloc: Global) -> Result<Ve
 /// The numbers of all tiles, in the order of the table. Only an index is read, so no bytes of a tile are.
 pub fn tile_ids<S: Alter>(conn: &mut Connection<S>, alloc: Global) -> Result<Vec<i64>, Fault>
     requires { Rests (state S.Store conn.old) }
-    ensures { LooksUp (λ t found. found.items ≡ map (λ r. r.id) t.tiles) (state S.Store conn.old) (state S.Store conn.new) result }
+    ensures { LooksUp (λ t found. found.items ≡ map (λ r. r.id) t.tiles) (state S.Store conn.old)
+        (state S.Store conn.new) result }
 {
     numbers_of(alloc, conn.query_all("SELECT id FROM sheet_tiles", &[]))
 }
@@ -131,7 +144,8 @@ pub fn tile_ids<S: Alter>(conn: &mut Connection<S>, alloc: Global) -> Result<Vec
 /// Whether there is a tile of this number.
 pub fn has_tile<S: Alter>(conn: &mut Connection<S>, id: i64) -> Result<bool, Fault>
     requires { Rests (state S.Store conn.old) }
-    ensures { LooksUp (λ t found. found ≡ list_any (λ r. int_eq r.id id) t.tiles) (state S.Store conn.old) (state S.Store conn.new) result }
+    ensures { LooksUp (λ t found. found ≡ list_any (λ r. int_eq r.id id) t.tiles) (state S.Store conn.old)
+        (state S.Store conn.new) result }
 {
     has_any(conn.query_all("SELECT id FROM sheet_tiles WHERE id = ?1", params![id]))
 }
@@ -144,7 +158,8 @@ pub fn has_tile_at<S: Alter>(
     tile_row: i64,
 ) -> Result<bool, Fault>
     requires { Rests (state S.Store conn.old) }
-    ensures { LooksUp (λ t found. found ≡ list_any (λ x. int_eq x.zoom_level zoom_level && int_eq x.tile_column tile_column && int_eq x.tile_row tile_row) t.tiles) (state S.Store conn.old) (state S.Store conn.new) result }
+    ensures { LooksUp (λ t found. found ≡ list_any (λ x. int_eq x.zoom_level zoom_level && int_eq x.tile_column
+        tile_column && int_eq x.tile_row tile_row) t.tiles) (state S.Store conn.old) (state S.Store conn.new) result }
 {
     has_any(conn.query_all(
         "SELECT id FROM sheet_tiles WHERE zoom_level = ?1 AND tile_column = ?2 AND tile_row = ?3",
@@ -163,7 +178,9 @@ pub fn tile_ids_between<S: Alter>(
     last_row: i64,
 ) -> Result<Vec<i64>, Fault>
     requires { Rests (state S.Store conn.old) }
-    ensures { LooksUp (λ t found. AreNumbersOf (λ r. r.id) (λ x. int_eq x.zoom_level zoom_level && int_le first_column x.tile_column && int_le x.tile_column last_column && int_le first_row x.tile_row && int_le x.tile_row last_row) t.tiles found.items) (state S.Store conn.old) (state S.Store conn.new) result }
+    ensures { LooksUp (λ t found. AreNumbersOf (λ r. r.id) (λ x. int_eq x.zoom_level zoom_level && int_le
+        first_column x.tile_column && int_le x.tile_column last_column && int_le first_row x.tile_row && int_le
+        x.tile_row last_row) t.tiles found.items) (state S.Store conn.old) (state S.Store conn.new) result }
 {
     all_of(
         alloc,

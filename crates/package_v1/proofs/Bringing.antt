@@ -1,5 +1,6 @@
 -- The four steps as one: a store of the first version reads as the same package at the second.
-use Rattle.std.proofs.Common.{◌≡◌, ◌⊎◌, inl, inr, ℤ, pos, List, [], ◌∷◌, map, refl, sym, ap, subst, ◌∙◌}
+use Rattle.std.proofs.Common.{◌≡◌, ◌⊎◌, inl, inr, ℤ, pos, List, [], ◌∷◌, map, refl, sym, ap}
+use Rattle.std.proofs.Common.{subst, ◌∙◌}
 use Rattle.sqlite.specs.Tree.{Trees}
 use Rattle.sqlite.specs.Effect.{Database, IsDatabase}
 use Rattle.sqlite.specs.State.{State}
@@ -23,7 +24,8 @@ use Rattle.package_v1.specs.FirstVersion.{with_version, brought, ReadsAtVersionO
 use Rattle.package_v1.specs.Migrating.{MakesThird, IndexesThird, AddsRelation, SetsVersion, Brings}
 
 -- one version is that of one head
-one_head : (heads : List HeadRow) (v : ℤ) → map (λ (h : HeadRow). h.version) heads ≡ v ∷ [] → (head : HeadRow)
+one_head : (heads : List HeadRow) (v : ℤ) → map (λ (h : HeadRow). h.version) heads ≡ v ∷ []
+    → (head : HeadRow)
     × (heads ≡ head ∷ [])
 one_head [] v h = absurd (let e = h in cc)
 one_head (head ∷ []) v h = (head, refl)

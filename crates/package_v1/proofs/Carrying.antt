@@ -24,8 +24,10 @@ use Rattle.package_tables.proofs.Written.{moved_listed}
 
 -- each known table whose name passes is known, at some place, and its rows are the same
 pub record Carries (stays : List ℕ → Bool) (old new : Database) : Type 0 where
-  pub has : (at : ℕ) (u : Table) → stays u.name ≡ true → HasTable old.schema at u → (be : ℕ) × HasTable new.schema be u
-  pub rows : (at : ℕ) (u : Table) → stays u.name ≡ true → HasTable old.schema at u → new.trees u.tree ≡ old.trees u.tree
+  pub has : (at : ℕ) (u : Table) → stays u.name ≡ true → HasTable old.schema at u → (be : ℕ)
+      × HasTable new.schema be u
+  pub rows : (at : ℕ) (u : Table) → stays u.name ≡ true → HasTable old.schema at u
+      → new.trees u.tree ≡ old.trees u.tree
   pub quiet : IsQuiet old.schema → IsQuiet new.schema
 
 -- a table keeps its form and its rows
@@ -34,7 +36,8 @@ pub carried : {R : Type 0} (shape : Shape R) (laws : IsShape shape) (stays : Lis
     → IsFormed shape new × (rows_of shape new ≡ rows_of shape old)
 carried shape laws stays old new it passes formed =
     let p = formed.placed in
-    let named : stays (spelled shape.table p.spelling).name ≡ true = ap stays (laws.named p.spelling.tree) ∙ passes in
+    let named : stays (spelled shape.table p.spelling).name ≡ true =
+    ap stays (laws.named p.spelling.tree) ∙ passes in
     let has = it.has p.at (spelled shape.table p.spelling) named p.has in
     let rows : stored_rows shape new ≡ stored_rows shape old =
     rows_placed shape laws new has.0 p.spelling has.1
@@ -42,8 +45,7 @@ carried shape laws stays old new it passes formed =
     ∙ sym (rows_placed shape laws old p.at p.spelling p.has) in (
       record {
         placed = record { at = has.0; spelling = p.spelling; meant = p.meant; has = has.1 };
-        keyed =
-            subst IsKeyed (sym rows) formed.keyed;
+        keyed = subst IsKeyed (sym rows) formed.keyed;
         stored = subst (AllByRecursion (IsStored shape)) (sym rows)
             formed.stored;
       },
@@ -54,7 +56,8 @@ carried shape laws stays old new it passes formed =
 module _ (stays : List ℕ → Bool) (old new : Database) (it : Carries stays old new)
     (others : (name : List ℕ) → is_other name (codes "rows_tiles") ≡ true → stays name ≡ true)
     (f : AreFormedAt (pos 1) old) where
-  systems : IsFormed spatial_ref_sys_shape new × (rows_of spatial_ref_sys_shape new ≡ rows_of spatial_ref_sys_shape old)
+  systems : IsFormed spatial_ref_sys_shape new × (rows_of spatial_ref_sys_shape new
+      ≡ rows_of spatial_ref_sys_shape old)
   systems = carried spatial_ref_sys_shape systems_listed.laws stays old new it
       (others (spatial_ref_sys_shape.table 0).name refl) f.spatial_ref_sys
 

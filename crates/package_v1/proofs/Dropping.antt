@@ -1,5 +1,6 @@
 -- What `DROP TABLE rows_tiles` makes of a database.
-use Rattle.std.proofs.Common.{◌≡◌, ◌≢◌, ℕ, ◌==◌, List, [], ◌∷◌, Bool, true, false, Option, Some, None, Ok, Err, codes}
+use Rattle.std.proofs.Common.{◌≡◌, ◌≢◌, ℕ, ◌==◌, List, [], ◌∷◌, Bool, true, false, Option}
+use Rattle.std.proofs.Common.{Some, None, Ok, Err, codes}
 use Rattle.std.proofs.Common.{refl, sym, ap, subst, ◌∙◌, arith, MatchBool}
 use Rattle.std.specs.Prelude.{not, is_some, ◌&&◌}
 use Rattle.std.specs.List.{AllByRecursion, list_any}
@@ -45,8 +46,10 @@ drop_is : (p : Parsed) × IsDrop p (codes "rows_tiles")
 unfolding everything
 drop_is = (_, record { parsed = refl; statement = refl; formats = refl; free = refl })
 
-drops_in : (schema : Schema) (p : Parsed) (name : List ℕ) (at : ℕ) → IsDrop p name → view_named schema name ≡ None
-    → table_named schema name ≡ Some at → compiled schema drop_text ≡ Ok (with_command p ([], (DropTable at, None)))
+drops_in : (schema : Schema) (p : Parsed) (name : List ℕ) (at : ℕ) → IsDrop p name
+    → view_named schema name ≡ None
+    → table_named schema name ≡ Some at → compiled schema drop_text
+    ≡ Ok (with_command p ([], (DropTable at, None)))
 unfolding compiled planned meaning timed returning command drop_table
 drops_in schema p name at it free named = rw (it.parsed, it.statement, it.formats, it.free, free, named) refl
 
@@ -56,7 +59,8 @@ refuses_in : (schema : Schema) (p : Parsed) (name : List ℕ) (at : ℕ) → IsD
 unfolding compiled planned meaning timed returning command drop_table
 refuses_in schema p name at it named = rw (it.parsed, it.statement, it.free, named) refl
 
-not_understood : (schema : Schema) → compiled schema drop_text ≡ Err Misuse → understood schema drop_text ≡ Err Misuse
+not_understood : (schema : Schema) → compiled schema drop_text ≡ Err Misuse
+    → understood schema drop_text ≡ Err Misuse
 unfolding understood
 not_understood schema h = rw h refl
 
@@ -64,7 +68,8 @@ not_understood schema h = rw h refl
 
 quiet_references : (name : List ℕ) (refs : List Reference) → AllByRecursion
     (λ (r : Reference). (r.on_delete ≡ NoAction) × (r.on_update ≡ NoAction)) refs
-    → AllByRecursion (λ (r : Reference). (same_name name r.parent && is_some (deed_for Enforced true r)) ≡ false) refs
+    → AllByRecursion (λ (r : Reference). (same_name name r.parent && is_some (deed_for Enforced true r)) ≡ false)
+    refs
 quiet_references name [] h = tt
 quiet_references name (r ∷ refs) h = (rw h.0.0 (and-false (same_name name r.parent)), quiet_references name refs h.1)
 
@@ -94,7 +99,8 @@ not_so A B true e h = absurd (let k = e in cc)
 not_so A B false e h = h
 
 -- a table that does not count has no count
-uncounted_of : (task : Task) (db next : Trees) → task.table.is_counted ≡ false → Uncounts task db (Ok next) → next ≡ db
+uncounted_of : (task : Task) (db next : Trees) → task.table.is_counted ≡ false → Uncounts task db (Ok next)
+    → next ≡ db
 uncounted_of task db next plain h = same_value (rw plain at h)
 
 dropped_of : (old new : Database) (at : ℕ) (t : Table) (tally : Tally) (limit : Option ℕ) (s : State)
@@ -110,8 +116,7 @@ dropped_of old new at t tally limit s has inert plain h =
       limit = limit;
       keys = Enforced;
       schema = old.schema;
-      table =
-          t;
+      table = t;
       params = [];
     }) a.0 b.0 plain b.1 in
     let now : new ≡ d.0 = ap (λ (p : Tally × Database). p.1) (same_value d.2) in
@@ -119,7 +124,8 @@ dropped_of old new at t tally limit s has inert plain h =
     subst (Dropped t old) (sym now) (record {
       schema = kept.0;
       rows =
-          subst (λ (db : Trees). KeepsRows (without_table old.schema t.tree).tables db d.0.trees) (uncounted ∙ emptied)
+          subst (λ (db : Trees). KeepsRows (without_table old.schema t.tree).tables db d.0.trees)
+          (uncounted ∙ emptied)
           kept.1;
     })
 
@@ -129,7 +135,8 @@ unfolding ExecutesIn
 refused old new count h wrong = let e = sym h.1.is ∙ wrong in cc
 
 module _ (old new : State) (at : ℕ) (t : Table) (has : HasTable old.now.schema at t)
-    (named : t.name ≡ codes "rows_tiles") (inert : IsInert old.now.schema) (plain : t.is_counted ≡ false) (count : ℕ)
+    (named : t.name ≡ codes "rows_tiles") (inert : IsInert old.now.schema) (plain : t.is_counted ≡ false)
+    (count : ℕ)
     (h : Executes drop_text [] old new (Ok count)) where
   by_view : (o : Option ℕ) → view_named old.now.schema (codes "rows_tiles") ≡ o → Dropped t old.now new.now
   by_view None none =

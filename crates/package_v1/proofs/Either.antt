@@ -82,8 +82,7 @@ module _ {S : Type 0} (g : Ghosts S) (shuts : Shuts g) (settles : Settles g) (h 
           clean = same.clean;
           shield = same.shield;
           counts = same.counts;
-          limit =
-              same.limit;
+          limit = same.limit;
           closes = same.closes;
           crash = λ clean trees may. inl may;
         };

@@ -1,5 +1,6 @@
 -- A schema to which the table of the third mapping, or its index, comes.
-use Rattle.std.proofs.Common.{◌≡◌, ℕ, ◌+◌, ◌<◌, ◌^◌, nat_le, ◌==◌, List, [], ◌∷◌, length, false, Some, None, refl}
+use Rattle.std.proofs.Common.{◌≡◌, ℕ, ◌+◌, ◌<◌, ◌^◌, nat_le, ◌==◌, List, [], ◌∷◌}
+use Rattle.std.proofs.Common.{length, false, Some, None, refl}
 use Rattle.std.proofs.Common.{sym, ap, subst, ◌∙◌, arith, codes, inl, inr}
 use Rattle.std.specs.Prelude.{find}
 use Rattle.std.specs.List.{AllZip, list_any}
@@ -32,7 +33,8 @@ low_tree : (rows : List Row) (tables : List Table) → AllZip IsTableRow rows ta
 low_tree [] [] zip t has = absurd has
 low_tree [] (u ∷ tables) zip t has = absurd zip
 low_tree (r ∷ rows) [] zip t has = absurd zip
-low_tree (r ∷ rows) (u ∷ tables) zip t (inl same) = subst (λ (v : Table). v.tree < 65536) (sym same) zip.0.described.low
+low_tree (r ∷ rows) (u ∷ tables) zip t (inl same) = subst (λ (v : Table). v.tree < 65536) (sym same)
+    zip.0.described.low
 low_tree (r ∷ rows) (u ∷ tables) zip t (inr later) = low_tree rows tables zip.1 t later
 
 not_great : (n : ℕ) → n < 65536 → nat_le (2 ^ 31) n ≡ false
@@ -63,10 +65,8 @@ module _ (S : Schema) where
   still_quiet quiet = record {
     seq_at = quiet.seq_at;
     seq = quiet.seq;
-    counts =
-        still_there quiet.seq_at (counters quiet.seq) quiet.counts;
-    inert =
-        all-append _ S.tables (third ∷ []) quiet.inert (tt, tt);
+    counts = still_there quiet.seq_at (counters quiet.seq) quiet.counts;
+    inert = all-append _ S.tables (third ∷ []) quiet.inert (tt, tt);
   }
 
   -- the count is there, so none is made
@@ -123,7 +123,6 @@ pub quiet_indexed : (S : Schema) (t : Table) (i : Index) → IsQuiet S → IsQui
 quiet_indexed S t i quiet = record {
   seq_at = quiet.seq_at;
   seq = quiet.seq;
-  counts =
-      still_indexed S t i quiet.seq_at (counters quiet.seq) quiet.counts;
+  counts = still_indexed S t i quiet.seq_at (counters quiet.seq) quiet.counts;
   inert = quiet.inert;
 }

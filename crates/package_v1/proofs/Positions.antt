@@ -1,5 +1,6 @@
 -- Lists to which one element more has come at the end.
-use Rattle.std.proofs.Common.{◌≡◌, ℕ, zero, suc, ◌+◌, List, [], ◌∷◌, ◌++◌, length, Bool, true, false, cond, Some}
+use Rattle.std.proofs.Common.{◌≡◌, ℕ, zero, suc, ◌+◌, List, [], ◌∷◌, ◌++◌, length, Bool, true}
+use Rattle.std.proofs.Common.{false, cond, Some}
 use Rattle.std.proofs.Common.{None, slice_get, refl, ap, ◌∙◌, arith}
 use Rattle.std.specs.Prelude.{find}
 use Rattle.std.specs.List.{position_from, AllByRecursion}
@@ -24,7 +25,8 @@ module _ {X : Type 0} (p : X → Bool) where
   position_last n (x ∷ xs) y h is = one (p x) h (λ none. position_last (n + 1) xs y none is)
     where
       one : (b : Bool) → cond b (Some n) (position_from p (n + 1) xs) ≡ None
-          → (position_from p (n + 1) xs ≡ None → position_from p (n + 1) (xs ++ y ∷ []) ≡ Some (n + 1 + length xs))
+          → (position_from p (n + 1) xs ≡ None → position_from p (n + 1) (xs ++ y ∷ [])
+          ≡ Some (n + 1 + length xs))
           → cond b (Some n) (position_from p (n + 1) (xs ++ y ∷ [])) ≡ Some (n + length (x ∷ xs))
       one true h more = absurd (let e = h in cc)
       one false h more = more h ∙ ap Some (omega arith)

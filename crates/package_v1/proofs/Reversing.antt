@@ -1,5 +1,6 @@
 -- What is taken back of a store, step by step and whole.
-use Rattle.std.proofs.Common.{◌≡◌, ℕ, pos, ◌==◌, List, [], ◌∷◌, map, Bool, true, Ok, codes, refl, sym, ap, subst, ◌∙◌}
+use Rattle.std.proofs.Common.{◌≡◌, ℕ, pos, ◌==◌, List, [], ◌∷◌, map, Bool, true, Ok, codes, refl}
+use Rattle.std.proofs.Common.{sym, ap, subst, ◌∙◌}
 use Rattle.std.specs.Prelude.{not, filter}
 use Rattle.std.specs.Ordering.{int_eq}
 use Rattle.sqlite.specs.Table.{Table}
@@ -45,8 +46,7 @@ delete_text spelling = record {
   parsed = refl;
   statement = refl;
   formats = refl;
-  named =
-      refl;
+  named = refl;
   condition = (_, refl, (_, _, _, _, refl, refl, refl, refl, refl, refl, refl));
   enough = refl;
 }
@@ -63,7 +63,8 @@ not_third name = is_other name (codes "rows_tiles")
 module _ (old new : Database) (at : ℕ) (spelling : Spelling)
     (has : HasTable old.schema at (spelled rows_tiles spelling))
     (it : Dropped (spelled rows_tiles spelling) old new) where
-  stays_at : (be : ℕ) (u : Table) → is_other u.name (codes "rows_tiles") ≡ true → HasTable old.schema be u → (k : ℕ)
+  stays_at : (be : ℕ) (u : Table) → is_other u.name (codes "rows_tiles") ≡ true → HasTable old.schema be u
+      → (k : ℕ)
       × HasTable (without_table old.schema spelling.tree) k u
   stays_at be u other h = still_known old.schema spelling.tree be u
       (apart_in old.schema be at u (spelled rows_tiles spelling) h has other) h
@@ -88,8 +89,7 @@ module _ (old new : Database) (at : ℕ) (spelling : Spelling)
             seq_at = k.0;
             seq = q.seq;
             counts = k.1;
-            inert =
-                all-filter _ (λ t. not (t.tree == spelling.tree)) old.schema.tables q.inert;
+            inert = all-filter _ (λ t. not (t.tree == spelling.tree)) old.schema.tables q.inert;
           }
 
   drops_third : DropsThird old new
@@ -127,21 +127,23 @@ takes old new (one, set, (two, deleted, gone)) f p reads none free =
     let keeps = λ (x : RelationRow). not (int_eq x.id (pos 3)) in
     let said : tables_of two ≡ record (tables_of old) {
       heads = with_version (pos 1) mine ∷ [];
-      relations =
-          first_relations;
+      relations = first_relations;
     } =
     second.1 ∙ ap (λ (t : Tables). record t { relations = filter keeps t.relations }) first.1
     ∙ ap (λ (l : List RelationRow). record (tables_of old) {
       heads = with_version (pos 1) mine ∷ [];
-      relations =
-          filter keeps l;
+      relations = filter keeps l;
     }) says.fixed.relations in
     let now : first_tables_of new ≡ record (first_tables_of old)
     { heads = with_version (pos 1) mine ∷ []; relations = first_relations } =
     third.1 ∙ ap (λ (t : Tables). record t { rows_tiles = [] }) said in
     let back : brought (first_tables_of new) ≡ tables_of old =
     ap brought now
-    ∙ sym (λ i. record (tables_of old) { rows_tiles = none i; relations = says.fixed.relations i; heads = head i }) in
+    ∙ sym (λ i. record (tables_of old) {
+      rows_tiles = none i;
+      relations = says.fixed.relations i;
+      heads = head i;
+    }) in
     record {
       formed = third.0;
       free = free;
@@ -152,7 +154,8 @@ takes old new (one, set, (two, deleted, gone)) f p reads none free =
       };
     }
 
-pub takes_steps : {old a b new : State} {r : Done} → Steps {X = Unit {0}} {E = Fault} (λ _. SetsVersion (pos 1)) old a
+pub takes_steps : {old a b new : State} {r : Done} → Steps {X = Unit {0}} {E = Fault} (λ _. SetsVersion (pos 1))
+    old a
     done → Steps {X = Unit {0}} {E = Fault} (λ _. OnTables DropsThirdRelation) a b done
     → Steps {X = Unit {0}} {E = Fault} (λ _. DropsThird) b new r
     → Steps {X = Unit {0}} {E = Fault} (λ _. TakesBack) old new r

@@ -26,8 +26,7 @@ table_made = (
     name = refl;
     free = refl;
     defined = refl;
-    fits =
-        refl;
+    fits = refl;
     whole = refl;
   },
 )
@@ -46,8 +45,7 @@ index_made spelling = (
     statement = refl;
     formats = refl;
     table = refl;
-    table_free =
-        refl;
+    table_free = refl;
     name = refl;
     free = refl;
     defined = refl;
@@ -56,7 +54,8 @@ index_made spelling = (
 )
 
 abbrev pub version_terms : List Term
-version_terms = col 1 0 ∷ col 1 0 ∷ lit Null ∷ col 0 0 ∷ col 1 3 ∷ col 1 4 ∷ col 1 5 ∷ col 1 6 ∷ col 1 7 ∷ []
+version_terms = col 1 0 ∷ col 1 0 ∷ lit Null ∷ col 0 0 ∷ col 1 3 ∷ col 1 4 ∷ col 1 5 ∷ col 1 6
+    ∷ col 1 7 ∷ []
 
 pub version_text : (spelling : Spelling) → IsUpdate (codes "UPDATE sheet_package SET version = ?1")
     (spelled sheet_package spelling) always 0 version_terms
@@ -68,16 +67,14 @@ version_text spelling = record {
   where' = _;
   place = _;
   parsed = refl;
-  statement =
-      refl;
+  statement = refl;
   formats = refl;
   named = refl;
   given = refl;
   placed = refl;
   projected = refl;
   condition = refl;
-  enough =
-      refl;
+  enough = refl;
 }
 
 pub version_plan : (spelling : Spelling) → IsPlannedUpdate (spelled sheet_package spelling) always version_terms

@@ -1,5 +1,6 @@
 -- The table of the third mapping comes, and then its index.
-use Rattle.std.proofs.Common.{◌≡◌, ℕ, pos, [], ◌∷◌, ◌++◌, map, length, true, Ok, codes, refl, sym, ap, subst, ◌∙◌}
+use Rattle.std.proofs.Common.{◌≡◌, ℕ, pos, [], ◌∷◌, ◌++◌, map, length, true, Ok, codes, refl, sym}
+use Rattle.std.proofs.Common.{ap, subst, ◌∙◌}
 use Rattle.std.specs.List.{AllByRecursion}
 use Rattle.sqlite.specs.Table.{Table}
 use Rattle.sqlite.specs.Schema.{Schema}
@@ -54,7 +55,8 @@ third_carries old new made = record {
 }
 
 third_formed : (old new : Database) → Created (rows_tiles 0) old new → IsDatabase new
-    → IsFree old.schema (codes "rows_tiles") → IsFormed rows_tiles_shape new × (rows_of rows_tiles_shape new ≡ [])
+    → IsFree old.schema (codes "rows_tiles") → IsFormed rows_tiles_shape new
+    × (rows_of rows_tiles_shape new ≡ [])
 third_formed old new made sound free =
     let listed = subst (λ (s : Schema). HasTable s (length old.schema.tables) (rows_tiles (next_tree old.schema)))
     (sym made.schema)
@@ -84,7 +86,8 @@ has_it old new made sound formed free =
           (index_still_free old.schema free.index);
     }
 
-pub third_made : (old new : State) (count : ℕ) → Executes table_text [] old new (Ok count) → MakesThird old.now new.now
+pub third_made : (old new : State) (count : ℕ) → Executes table_text [] old new (Ok count)
+    → MakesThird old.now new.now
 third_made old new count h formed free =
     let made = makes old new table_text table_made.0 table_made.1 (rows_tiles 0) count table_made.2 free.table h in
     let known = (understood_is old.now.schema table_text _ (creates_in old.now.schema table_text table_made.0

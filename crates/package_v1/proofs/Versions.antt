@@ -1,5 +1,6 @@
 -- The one head gets a version.
-use Rattle.std.proofs.Common.{◌≡◌, ℕ, ℤ, List, [], ◌∷◌, map, length, true, Ok, codes, refl, sym, ap, subst, ◌∙◌, arith}
+use Rattle.std.proofs.Common.{◌≡◌, ℕ, ℤ, List, [], ◌∷◌, map, length, true, Ok, codes, refl, sym, ap}
+use Rattle.std.proofs.Common.{subst, ◌∙◌, arith}
 use Rattle.std.specs.List.{AllByRecursion}
 use Rattle.sqlite.specs.Order.{Row}
 use Rattle.sqlite.specs.Tree.{rowid}
@@ -87,7 +88,8 @@ versions version old new updates formed head is =
       did.spares.schema,
     )
 
-pub version_set : (version : ℤ) (old new : State) (count : ℕ) → Executes text (Int version ∷ []) old new (Ok count)
+pub version_set : (version : ℤ) (old new : State) (count : ℕ)
+    → Executes text (Int version ∷ []) old new (Ok count)
     → SetsVersion version old.now new.now
 version_set version old new count h formed head is =
     let p = formed.heads.placed in

@@ -1,25 +1,14 @@
 //! The statements of a migration, each a step of its transaction.
-ghost use Rattle.std.specs.Prelude.{◌≡◌, IsOk, MatchResult};
+ghost use Rattle.std.specs.Prelude.{◌≡◌};
 ghost use Rattle.sqlite.specs.Held.{state};
 ghost use Rattle.store_sql.specs.Transactions.{Steps};
 ghost use Rattle.package_tables.specs.Calls.{OnTables};
-ghost use Rattle.package_tables.specs.Faults.{fault_of};
 ghost use Rattle.package_v1.specs.FirstVersion.{third_relation};
 ghost use Rattle.package_v1.specs.Migrating.{MakesThird, IndexesThird, AddsRelation, SetsVersion};
 ghost use Rattle.package_v1.specs.TakingBack.{DropsThirdRelation, DropsThird};
 
-use package_tables::fault::Fault;
+use package_tables::fault::{Fault, drop_count};
 use sqlite::{Alter, Error, Transaction, params};
-
-/// What a write answers, its count of rows dropped.
-fn drop_count(outcome: Result<usize, Error>) -> Result<(), Fault>
-    ensures { MatchResult outcome (λ _. IsOk result) (λ error. result ≡ Err (fault_of error)) }
-{
-    match outcome {
-        Ok(_) => Ok(()),
-        Err(error) => Err(Fault::from(error)),
-    }
-}
 
 /// Makes the table of the third mapping (OGC 18-000, user-defined mapping tables), whose name is free.
 pub(crate) fn make_third_table<S: Alter>(tx: &mut Transaction<'_, S>) -> Result<(), Fault>
@@ -54,11 +43,9 @@ fn insert_relation<S: Alter>(
     ensures steps { Steps (λ _. AddsRelation (record {
       id = id;
       base_table_name = base.now;
-      base_primary_column =
-          base_column.now;
+      base_primary_column = base_column.now;
       related_table_name = related.now;
-      related_primary_column =
-          related_column.now;
+      related_primary_column = related_column.now;
       relation_name = name.now;
       mapping_table_name = mapping.now;
     }))

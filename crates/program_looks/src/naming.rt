@@ -8,16 +8,16 @@ use std::alloc::AllocError;
 use std::io;
 use uuid::Uuid;
 
-/// The package that a word names by its first digits. What comes
-/// nearest to a name that is none is told on standard error.
+/// The package that a word names by its first digits. What comes nearest to a name that is none is
+/// told on standard error.
 fn named_package(rt: &HostRuntime, folder: &str, word: &str) -> Result<Uuid, Ending> {
     let (named, hint) = package_for(rt, folder, word, &mut io::writer(rt));
     print_hint(rt, &hint);
     named
 }
 
-/// The package of a command that takes a whole UUID, in the words
-/// that it was given in, or in full where these are its first digits.
+/// The package of a command that takes a whole UUID, in the words that it was given in, or in full
+/// where these are its first digits.
 pub(crate) fn package_given(
     rt: &HostRuntime,
     given: &ArgMatches<'_>,

@@ -18,8 +18,8 @@ fn loan_paper(loan: &str) -> Result<Paper, Ending> {
     }
 }
 
-/// What is asked of the register, by the word for a loan. Of a
-/// folder that does not open, the page says why, whatever was asked.
+/// What is asked of the register, by the word for a loan. Of a folder that does not open, the page
+/// says why, whatever was asked.
 fn paper_of(
     rt: &HostRuntime,
     name: &str,
@@ -53,8 +53,7 @@ fn write_paper(rt: &HostRuntime, name: &str, given: &ArgMatches<'_>, word: &str)
 }
 
 /// Writes a page or a drawing, where the command asks for one, and answers how that ended. A word
-/// may name a loan, whose
-/// page is asked for.
+/// may name a loan, whose page is asked for.
 pub fn print_paper(
     rt: &HostRuntime,
     name: &str,

@@ -39,8 +39,7 @@ pub fn output_failed(rt: &HostRuntime) -> u8 {
 }
 
 /// Prints the two lines of an ending and what is known beside them, and answers its status. Where
-/// standard output fails,
-/// that is the ending.
+/// standard output fails, that is the ending.
 pub fn tell_lines(
     rt: &HostRuntime,
     output: &str,

@@ -1,5 +1,5 @@
-//! An item is dropped: the identities of the requests are new,
-//! and their moment is that of the clock, unless it is given.
+//! An item is dropped: the identities of the requests are new, and their moment is that of the
+//! clock, unless it is given.
 use clap::ArgMatches;
 use command_folder::endings::Ending;
 use command_naming::drops::Dropping;

@@ -45,8 +45,7 @@ fn outcome_of(rt: &HostRuntime, given: &ArgMatches<'_>, reader: &mut Input<'_>) 
 }
 
 /// Carries out in memory the list that a reader has, by the words of `rehearse`, and answers how it
-/// ended. How far it is,
-/// and of a desk, standard error is told.
+/// ended. How far it is, and of a desk, standard error is told.
 pub fn rehearse(rt: &HostRuntime, given: &ArgMatches<'_>, reader: &mut Input<'_>) -> Ending {
     Ending::Usual(outcome_of(rt, given, reader))
 }

@@ -1,5 +1,6 @@
 -- One request, and what a crash leaves after it.
-use Rattle.std.specs.Prelude.{◌≡◌, ℕ, ◌↔◌, Bool, true, false, List, [], ◌++◌, map, refl, Ok, Err, IsTrue}
+use Rattle.std.specs.Prelude.{◌≡◌, ℕ, ◌↔◌, Bool, true, false, List, [], ◌++◌, map, refl, Ok, Err}
+use Rattle.std.specs.Prelude.{IsTrue}
 use Rattle.std.proofs.Common.{sym, subst, ◌∙◌, inl, inr}
 use Rattle.std.proofs.lemmas.List.{append-nil}
 use Rattle.std.proofs.lemmas.List.Sorted.{IsPermutation-refl}
@@ -32,7 +33,11 @@ receipt_makes : (w : World) (q : Request) (receipt : Receipt) (next : World) →
 receipt_makes w q receipt next step =
     elim step [
       | inl done ↦ done.1
-      | inr fault ↦ absurd (elim fault.0 [ inl memory ↦ (let e = memory in cc) | inr store ↦ (let e = store in cc) ])
+      | inr fault ↦ absurd (elim fault.0 [
+        | inl memory ↦ (let e = memory in cc)
+        | inr store
+            ↦ (let e = store in cc)
+      ])
     ]
 
 -- a request leaves the frame of its world
@@ -53,7 +58,8 @@ not_a_fault receipt fault = elim fault [ inl memory ↦ (let e = memory in cc) |
 module _ {S : Type 0} (g : Ghosts S) (law : LeftAsItStands g) (q : Request) (old new : Seen S)
     (is_held : IsHeld g new) where
   -- a world that can be used leaves the packages of the world that its members leave
-  whole : (w : World) → EachLeaves g (λ m. m.conn) (LeftAs w.frame) new.members w.packages → new.has_failed ≡ false
+  whole : (w : World) → EachLeaves g (λ m. m.conn) (LeftAs w.frame) new.members w.packages
+      → new.has_failed ≡ false
       → (contents : List Trees) → MayBeLeft g (held g new) contents → AreOf w contents
   whole w each usable contents may =
       let bare : MayBeLeft g (map (λ (m : Member S). m.conn) new.members) contents =
@@ -69,7 +75,8 @@ module _ {S : Type 0} (g : Ghosts S) (law : LeftAsItStands g) (q : Request) (old
       }
 
   left_by : (reply : Reply) (failed : Bool) → new.has_failed ≡ failed → LeavesNoTrace g old reply new
-      → (¬ IsFault reply → new.has_failed ≡ old.has_failed) → (is_fault : Bool) → IsTrue is_fault ↔ IsFault reply
+      → (¬ IsFault reply → new.has_failed ≡ old.has_failed) → (is_fault : Bool)
+      → IsTrue is_fault ↔ IsFault reply
       → (step : IsStep g q old reply new) → AreClean g (held g new) → AreClean g step.gone → (w : World)
       → StandsFor g old w → AllOpen g old.members → old.has_failed ≡ false → (contents : List Trees)
       → MayBeLeft g (held g new) contents → AreLeft w q reply failed contents
@@ -101,7 +108,8 @@ module _ {S : Type 0} (g : Ghosts S) (law : LeftAsItStands g) {H : Type 0} (Aske
     (is_held : IsHeld g new) where
   pub asks : {Fails : H → ℕ} (reply : Reply) → IsStepWith g Asked Taken Fails q old reply new before after
       → LeavesNoTrace g old reply new
-      → (¬ IsFault reply → new.has_failed ≡ old.has_failed) → (is_fault : Bool) → IsTrue is_fault ↔ IsFault reply
+      → (¬ IsFault reply → new.has_failed ≡ old.has_failed) → (is_fault : Bool)
+      → IsTrue is_fault ↔ IsFault reply
       → Asks g Asked Taken q old new before after reply
   asks reply it no_trace usable is_fault faults =
       let shelf = given_by_step g Asked Taken q old reply new before after it in

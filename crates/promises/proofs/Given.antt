@@ -55,15 +55,21 @@ module _ {S : Type 0} (Other : S → Type 0) where
   both_among (x ∷ xs) (a ∷ all) ys more (inr there) two =
       inr (there.0, both_among (x ∷ xs) all ys more there.1 two)
 
-  among_weaker : (More : S → Type 0) → ((x : S) → Other x → More x) → (xs all : List S) → StandAmong Other xs all
+  among_weaker : (More : S → Type 0) → ((x : S) → Other x → More x) → (xs all : List S)
+      → StandAmong Other xs all
       → StandAmong More xs all
   among_weaker More so [] [] it = tt
   among_weaker More so [] (a ∷ all) it = (so a it.0, among_weaker More so [] all it.1)
   among_weaker More so (x ∷ xs) [] it = absurd it
   among_weaker More so (x ∷ xs) (a ∷ all) (inl here) = inl (here.0, among_weaker More so xs all here.1)
-  among_weaker More so (x ∷ xs) (a ∷ all) (inr there) = inr (so a there.0, among_weaker More so (x ∷ xs) all there.1)
+  among_weaker More so (x ∷ xs) (a ∷ all) (inr there) = inr (
+    so a there.0,
+    among_weaker More so (x ∷ xs) all
+        there.1,
+  )
 
-module _ {S : Type 0} {H : Type 0} (Asked : List ℕ → H → H → Type 0) (Taken : List ℕ → S → H → H → Type 0) where
+module _ {S : Type 0} {H : Type 0} (Asked : List ℕ → H → H → Type 0)
+    (Taken : List ℕ → S → H → H → Type 0) where
   -- by a list of one request
   pub given_one : (q : Request) (s t : H) (stores : List S) → IsGivenBy Asked Taken q s t stores
       → IsGivenByEach Asked Taken (q ∷ []) s t stores
@@ -92,7 +98,8 @@ module _ {S : Type 0} {H : Type 0} (Asked : List ℕ → H → H → Type 0) (Ta
   given_behind archive xs ys s t u first later one two =
       (one.0, one.1, given_then xs ys one.0 t u first later one.2 two)
 
-  module _ (record_of : H → List S) (asked : (uuid : List ℕ) (s t : H) → Asked uuid s t → record_of t ≡ record_of s)
+  module _ (record_of : H → List S) (asked : (uuid : List ℕ) (s t : H) → Asked uuid s t
+      → record_of t ≡ record_of s)
       (taken : (uuid : List ℕ) (store : S) (s t : H) → Taken uuid store s t
       → record_of t ≡ record_of s ++ store ∷ []) where
     abbrev Recorded : List Request → H → H → List S → Type 0 → Type 0
@@ -106,7 +113,8 @@ module _ {S : Type 0} {H : Type 0} (Asked : List ℕ → H → H → Type 0) (Ta
         → Recorded (q ∷ []) s t stores (child_asked q.command ≡ None)
     recorded_by q s t [] used = asked_for (child_asked q.command) refl used
       where
-        returned : (child : List ℕ) (mid : H) → child_asked q.command ≡ Some child → record_of mid ≡ record_of s
+        returned : (child : List ℕ) (mid : H) → child_asked q.command ≡ Some child
+            → record_of mid ≡ record_of s
             → MayReturn Taken child mid t → Recorded (q ∷ []) s t [] (Some child ≡ None)
         returned child mid is same (inl none) =
             ([], ap record_of none ∙ same ∙ sym (append-nil (record_of s)), tt, λ n. refl)
@@ -174,7 +182,8 @@ module _ {S : Type 0} (g : Ghosts S) where
   -- no clean store was in doubt before
   clean_before : (conn : Held S) (store : S) → IsQuiet g.view g.faults g.recovers g.is_shielded conn.store store
       → Cleanly store → HasCleanDisk (state g conn)
-  clean_before conn store quiet clean = le-zero (subst (λ n. doubt (g.view conn.store).is_clean ≤ n) clean quiet.clean)
+  clean_before conn store quiet clean = le-zero (subst (λ n. doubt (g.view conn.store).is_clean ≤ n) clean
+      quiet.clean)
 
   pub left_stores : (xs ys : List S) → HaveCleanDisks g (xs ++ ys) → HaveCleanDisks g xs
   left_stores xs ys clean = All-left Cleanly xs ys clean
@@ -207,7 +216,8 @@ module _ {S : Type 0} (g : Ghosts S) where
 
     -- of one step
     pub given_by_step : {Fails : H → ℕ} (q : Request) (old : Seen S) (reply : Reply) (new : Seen S) (s t : H)
-        (it : IsStepWith g Asked Taken Fails q old reply new s t) → GivenFor (IsGivenBy Asked Taken q) s t it.step.gone
+        (it : IsStepWith g Asked Taken Fails q old reply new s t)
+        → GivenFor (IsGivenBy Asked Taken q) s t it.step.gone
     given_by_step q old reply new s t it =
         given_by_uses old.members q (IsNewTo g old new) (IsHomeBy g q old new it.step.gone) it.step.gone s t
         (λ uuid home. home.0) it.uses

@@ -26,7 +26,8 @@ abbrev Holds : List ℕ → World → Found → Type 0
 Holds p w found = option_map (λ held. (held.0.items, held.1.items)) found ≡ holdings_answer w p
 
 module _ {S : Type 0} (g : Ghosts S) where
-  pub looks : {E : Type 0} (p : List ℕ) (old new : Seen S) (told : Told) (r : Result Found E) → r ≡ Ok told.holdings
+  pub looks : {E : Type 0} (p : List ℕ) (old new : Seen S) (told : Told) (r : Result Found E)
+      → r ≡ Ok told.holdings
       → TellsOf g (Holds p) old new r → IsRead g old new
       → ((w : World) → StandsFor g new w → told.sums ≡ sums_of w p)
       → ((w : World) → StandsFor g new w → map sight_of told.packages.items ≡ package_sights w)
@@ -43,7 +44,8 @@ module _ {S : Type 0} (g : Ghosts S) where
   }
 
 module _ {S : Type 0} (g : Ghosts S) {H : Type 0} (Asked : List ℕ → H → H → Type 0)
-    (Taken : List ℕ → S → H → H → Type 0) (archive : List ℕ) (frame : Frame) (requests : List Request) (p : List ℕ)
+    (Taken : List ℕ → S → H → H → Type 0) (archive : List ℕ) (frame : Frame) (requests : List Request)
+    (p : List ℕ)
     (before after : H) (was : Begun S) (new : Seen S) (told : Told)
     (is : IsBegun g Asked Taken archive frame requests before after was) (looked : Looks g p was.world new told)
   where

@@ -31,7 +31,8 @@ module _ {S : Type 0} (g : Ghosts S) {H : Type 0} (Asked : List ℕ → H → H 
   pub stops_whole : (archive : List ℕ) (frame : Frame) (before : List Request) (q : Request) (was : Begun S)
       (new : Seen S) (last : Reply) (s t u : H) → HaveTypes before → HasTypes q.command → IsBegun g Asked Taken
       archive frame before s t was → Asks g Asked Taken q was.world new t u last
-      → StopsWhole g Asked Taken archive frame before q s u (record { world = new; replies = was.replies; last = last })
+      → StopsWhole g Asked Taken archive frame before q s u (record
+      { world = new; replies = was.replies; last = last })
   stops_whole archive frame before q was new last s t u types_before types is asked = record {
     stores = is.stores ++ asked.stores;
     given = given_behind Asked Taken archive before (q ∷ []) s t u is.stores asked.stores is.given

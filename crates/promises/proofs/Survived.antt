@@ -1,5 +1,6 @@
 -- A stop, the opening of what it left, and the list again from the stopped request on.
-use Rattle.std.specs.Prelude.{◌≡◌, ◌⊎◌, ℕ, true, false, Bool, List, [], ◌∷◌, refl, Some, Ok, Err, slice_get}
+use Rattle.std.specs.Prelude.{◌≡◌, ◌⊎◌, ℕ, true, false, Bool, List, [], ◌∷◌, refl, Some, Ok, Err}
+use Rattle.std.specs.Prelude.{slice_get}
 use Rattle.std.proofs.Common.{subst, inl, inr}
 use Rattle.sqlite.specs.Held.{Held}
 use Rattle.sqlite.specs.Store.{Ghosts}
@@ -29,7 +30,8 @@ one_of w q (Err why) false contents left = inl left
 one_of w q (Err why) true contents left = left
 
 module _ {S : Type 0} (g : Ghosts S) {H : Type 0} (Asked : List ℕ → H → H → Type 0)
-    (Taken : List ℕ → S → H → H → Type 0) (archive : List ℕ) (frame : Frame) (before : List Request) (q : Request)
+    (Taken : List ℕ → S → H → H → Type 0) (archive : List ℕ) (frame : Frame) (before : List Request)
+    (q : Request)
     (others : List Request) (stores : List (Held S)) (resumed : Resumed S) (u v : H)
     (types_before : HaveTypes before) (types : HasTypes q.command)
     (opens : OpensAgain g Asked Taken stores (q ∷ others) u v resumed) where

@@ -62,8 +62,7 @@ module _ {S : Type 0} (g : Ghosts S) {H : Type 0} (Asked : List ℕ → H → H 
                     between = between;
                     last = last.0;
                     run = last.1;
-                    next =
-                        next.0;
+                    next = next.0;
                     again = next.1;
                     stands = next.2;
                   },

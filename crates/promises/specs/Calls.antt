@@ -1,5 +1,6 @@
 -- What the calls of which a promise is made come to, each by itself. Profile.
-use Rattle.std.specs.Prelude.{◌≡◌, ◌⊎◌, ℕ, true, false, Bool, List, [], ◌∷◌, ◌++◌, map, option_map, Ok, Err}
+use Rattle.std.specs.Prelude.{◌≡◌, ◌⊎◌, ℕ, true, false, Bool, List, [], ◌∷◌, ◌++◌, map}
+use Rattle.std.specs.Prelude.{option_map, Ok, Err}
 use Rattle.std.specs.List.{AllByRecursion}
 use Rattle.sqlite.specs.Store.{Ghosts}
 use Rattle.sqlite.specs.Tree.{Trees}
@@ -66,7 +67,8 @@ module _ {S : Type 0} (g : Ghosts S) where
   pub record Looks (p : List ℕ) (old new : Seen S) (told : Told) : Type 0 where
     pub strays : new.strays ≡ old.strays
     pub clean : AllClean g new.members → AllClean g old.members
-    pub answers : AllClean g new.members → (w : World) → StandsFor g old w → StandsFor g new w × IsToldOf w p told
+    pub answers : AllClean g new.members → (w : World) → StandsFor g old w → StandsFor g new w
+        × IsToldOf w p told
 
   -- a request, others, and the request again, each as the one-world machine has it
   pub record RunsTwice (w : World) (q : Request) (others : List Request) (replies : Replies) (new : Seen S) :
@@ -102,5 +104,6 @@ module _ {S : Type 0} (g : Ghosts S) where
       pub step : AllClean g new.members → HaveCleanDisks g stores → (w : World) → StandsFor g old w →
           (next : World) × Step w q reply next × StandsFor g new next
       pub left : AreClean g (held g new) → HaveCleanDisks g stores → (w : World) → StandsFor g old w →
-          AllOpen g old.members → old.has_failed ≡ false → (contents : List Trees) → MayBeLeft g (held g new) contents →
+          AllOpen g old.members → old.has_failed ≡ false → (contents : List Trees)
+          → MayBeLeft g (held g new) contents →
           AreLeft w q reply new.has_failed contents

@@ -18,7 +18,8 @@ StandAmong Other (store ∷ stores) (one ∷ all) = ((store ≡ one) × StandAmo
     ⊎ (Other one × StandAmong Other (store ∷ stores) all)
 
 -- Each shelf says what it is to be asked for a package's store between two states, and to be given one back.
-module _ {S : Type 0} {H : Type 0} (Asked : List ℕ → H → H → Type 0) (Taken : List ℕ → S → H → H → Type 0) where
+module _ {S : Type 0} {H : Type 0} (Asked : List ℕ → H → H → Type 0)
+    (Taken : List ℕ → S → H → H → Type 0) where
   -- These stores a shelf was given that left a world in the turn of a request: none, and it was asked for none but that
   -- of the package which a split asks to be made, and given none but that, as that package's; or one, as that of the
   -- package which a merge takes home, and it was asked for none. No other store leaves a world.
@@ -41,7 +42,8 @@ module _ {S : Type 0} {H : Type 0} (Asked : List ℕ → H → H → Type 0) (Ta
   -- It was given back as the store of the child that one of these requests asks for.
   abbrev pub IsReturned : List Request → S → Type 0
   IsReturned [] store = ⊥
-  IsReturned (q ∷ qs) store = ((child : List ℕ) × (child_asked q.command ≡ Some child) × (before : H) × (after : H)
+  IsReturned (q ∷ qs) store = ((child : List ℕ) × (child_asked q.command ≡ Some child) × (before : H)
+      × (after : H)
       × Taken child store before after) ⊎ IsReturned qs store
 
   -- The stores that it was given stand in whatever record it keeps of them, and all others there were given back as
@@ -58,7 +60,8 @@ module _ {S : Type 0} {H : Type 0} (Asked : List ℕ → H → H → Type 0) (Ta
   -- Where no request takes a package home none left a world.
   abbrev pub IsGivenNone : Type 0
   IsGivenNone = (qs : List Request) (before after : H) (stores : List S)
-      → AllByRecursion (λ q. child_returned q.command ≡ None) qs → IsGivenByEach qs before after stores → stores ≡ []
+      → AllByRecursion (λ q. child_returned q.command ≡ None) qs → IsGivenByEach qs before after stores
+      → stores ≡ []
 
 module _ {S : Type 0} (g : Ghosts S) where
   -- the disk of each has given back what was written

@@ -34,7 +34,8 @@ module _ {S : Type 0} (g : Ghosts S) where
 
   -- What a crash left of a world opens as that world, with whatever strays beside it, and the machine goes on from
   -- there. The stores that were not of the world are in hand too: they were read.
-  abbrev pub OpensAgain : {H : Type 0} → (List ℕ → H → H → Type 0) → (List ℕ → S → H → H → Type 0) → List (Held S)
+  abbrev pub OpensAgain : {H : Type 0} → (List ℕ → H → H → Type 0)
+      → (List ℕ → S → H → H → Type 0) → List (Held S)
       → List Request → H → H → Resumed S → Type 0
   OpensAgain Asked Taken stores requests before after resumed =
       (w : World) (contents : List Trees) (again : List (Held S)) → IsKeptWorld w →

@@ -39,9 +39,11 @@ module _ {S : Type 0} (g : Ghosts S) {H : Type 0} (Asked : List ℕ → H → H 
 
   -- 3. Once, for good. A request that got a receipt gets the same one after whatever requests, unless memory or a store
   -- gives out, and it acted once: the world is that of a list in which it stands once.
-  abbrev pub OnceForGood : List ℕ → Frame → List Request → Request → List Request → H → H → Repeated S → Type 0
+  abbrev pub OnceForGood : List ℕ → Frame → List Request → Request → List Request → H → H → Repeated S
+      → Type 0
   OnceForGood archive frame first q others before after repeated =
-      WhereClean g (IsGivenFromNew Asked Taken archive (first ++ q ∷ (others ++ q ∷ [])) before after) repeated.world (
+      WhereClean g (IsGivenFromNew Asked Taken archive (first ++ q ∷ (others ++ q ∷ [])) before after)
+      repeated.world (
       (receipt : Receipt) → repeated.replies.first ≡ Ok receipt →
       ((repeated.replies.again ≡ Ok receipt) ⊎ IsFault repeated.replies.again)
       × ((next : World) × ComesTo (new_world archive frame) (first ++ q ∷ others) next

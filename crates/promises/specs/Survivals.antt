@@ -29,7 +29,8 @@ module _ {S : Type 0} (g : Ghosts S) where
   module _ {H : Type 0} (Asked : List ℕ → H → H → Type 0) (Taken : List ℕ → S → H → H → Type 0) where
     -- The list was sent again from the request on that was stopped. That one got the reply which it would have got,
     -- unless memory or a store gave out; and it acted once: the world is that of a list in which it stands once.
-    abbrev pub GoesOn : List ℕ → Frame → List Request → Request → List Request → World → H → H → Resumed S → Type 0
+    abbrev pub GoesOn : List ℕ → Frame → List Request → Request → List Request → World → H → H
+        → Resumed S → Type 0
     GoesOn archive frame first q others w before after resumed =
         WhereClean g (IsGivenByEach Asked Taken (q ∷ others) before after) resumed.world (
         AreClean g resumed.strays.items → BeginsWith (outcome w q).0 resumed.replies.items
@@ -38,7 +39,8 @@ module _ {S : Type 0} (g : Ghosts S) where
 
     -- A stop is survived. Where no request before told a fault, whatever a crash left after a request is opened, with
     -- whatever strays beside it, and the list goes on from that request as if nothing had stopped.
-    abbrev pub SurvivesStop : List ℕ → Frame → List Request → List Request → List (Held S) → H → H → H → H
+    abbrev pub SurvivesStop : List ℕ → Frame → List Request → List Request → List (Held S) → H → H → H
+        → H
         → Survived S → Type 0
     SurvivesStop archive frame first [] stores before stop again after survived = Unit {0}
     SurvivesStop archive frame first (q ∷ others) stores before stop again after survived =

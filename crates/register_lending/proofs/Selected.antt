@@ -1,5 +1,6 @@
 -- What a selection names of a package is its cut, whatever the order of the names.
-use Rattle.std.specs.Prelude.{◌≡◌, ℕ, Bool, true, false, cond, not, ◌||◌, ◌&&◌, ◌⊎◌, ◌==◌, List, [], ◌∷◌, ◌++◌, map}
+use Rattle.std.specs.Prelude.{◌≡◌, ℕ, Bool, true, false, cond, not, ◌||◌, ◌&&◌, ◌⊎◌, ◌==◌}
+use Rattle.std.specs.Prelude.{List, [], ◌∷◌, ◌++◌, map}
 use Rattle.std.specs.Prelude.{filter, Option, Some, None, refl, bytes_eq, Contains}
 use Rattle.std.proofs.Common.{inl, inr, sym, ap, subst, ◌∙◌}
 use Rattle.std.proofs.lemmas.Bool.{true≢false, and_right}
@@ -41,7 +42,8 @@ one_of {X} key x y [] d i j e = absurd i
 one_of {X} key x y (z ∷ zs) d i j e = elim i [
   | inl here ↦ elim j [
     | inl there ↦ sym here ∙ there
-    | inr later ↦ absurd (true≢false (sym (subst (λ w. bytes_eq (key w) (key y) ≡ true) (sym here) e) ∙ apart y later))
+    | inr later ↦ absurd (true≢false (sym (subst (λ w. bytes_eq (key w) (key y) ≡ true) (sym here) e)
+        ∙ apart y later))
   ]
   | inr late ↦ elim j [
     | inl there ↦ absurd (true≢false (sym (subst (λ w. bytes_eq (key w) (key x) ≡ true) (sym there)
@@ -58,7 +60,8 @@ one_of {X} key x y (z ∷ zs) d i j e = elim i [
         in_map w (v ∷ vs) k = elim k [ inl is ↦ inl (ap key is) | inr more ↦ inr (in_map w vs more) ]
 
 -- keys that strictly rise differ
-distinct_keys : {X : Type 0} (key : X → List ℕ) (xs : List X) → IsArranged key xs → IsDistinct bytes_eq (map key xs)
+distinct_keys : {X : Type 0} (key : X → List ℕ) (xs : List X) → IsArranged key xs
+    → IsDistinct bytes_eq (map key xs)
 unfolding IsDistinct
 distinct_keys key [] h = tt
 distinct_keys key (x ∷ xs) h = (
@@ -173,7 +176,8 @@ module _ (c : Cut) (s : Selection) (f : Frame) (p : Package) (db : Database) (is
       inside : (z : Item) → In z p.items → In z (map (λ n. n.item) reads.says.numbered)
       inside z k = in_arranged item_key (map (λ n. n.item) reads.says.numbered) z (subst (In z) reads.says.items k)
 
-      map_both : (ns : List Numbered) → map (λ n. n.item.identity) ns ≡ map (λ z. z.identity) (map (λ n. n.item) ns)
+      map_both : (ns : List Numbered) → map (λ n. n.item.identity) ns
+          ≡ map (λ z. z.identity) (map (λ n. n.item) ns)
       map_both [] = refl
       map_both (n ∷ ns) = ap (λ l. n.item.identity ∷ l) (map_both ns)
 
@@ -231,13 +235,15 @@ module _ (c : Cut) (s : Selection) (f : Frame) (p : Package) (db : Database) (is
   found_there i k =
       let it = found (λ x. bytes_eq x.identity i.identity) p.items
       (any_in (λ x. bytes_eq x.identity i.identity) i p.items k (bytes_eq_itself i.identity)) in
-      let at = All-found (λ x. In x p.items) (λ x. bytes_eq x.identity i.identity) it.0 p.items it.1 (In-all p.items) in
+      let at = All-found (λ x. In x p.items) (λ x. bytes_eq x.identity i.identity) it.0 p.items it.1
+      (In-all p.items) in
       it.1 ∙ ap Some (one_item it.0 i at.0 k at.1)
 
   found_named : (id : List ℕ) (i : Item) → item_of p id ≡ Some i → i.identity ≡ id
   found_named id i e = (bytes_eq-Decides i.identity id).0 (found_passes (λ x. bytes_eq x.identity id) i p.items e)
 
-  own_items : (xs : List Item) → AllByRecursion (λ i. In i p.items) xs → filter_map (item_of p) (identities xs) ≡ xs
+  own_items : (xs : List Item) → AllByRecursion (λ i. In i p.items) xs
+      → filter_map (item_of p) (identities xs) ≡ xs
   own_items [] there = refl
   own_items (x ∷ xs) there = ap (λ o. cons_option o (filter_map (item_of p) (identities xs))) (found_there x there.0)
       ∙ ap (λ l. x ∷ l) (own_items xs there.1)
@@ -261,13 +267,15 @@ module _ (c : Cut) (s : Selection) (f : Frame) (p : Package) (db : Database) (is
       (sym (ap (item_of p) (sym them.0.2) ∙ found_there them.0.0 (in_package them.0.0 them.0.1)))
       (All-In P them.0.0 c.items all them.0.1, each_found P ids them.1 all)
 
-  found_names : (ids : List (List ℕ)) → AllByRecursion (λ id. (i : Item) × In i c.items × (i.identity ≡ id)) ids
+  found_names : (ids : List (List ℕ)) → AllByRecursion (λ id. (i : Item) × In i c.items × (i.identity ≡ id))
+      ids
       → identities (filter_map (item_of p) ids) ≡ ids
   found_names [] them = refl
   found_names (id ∷ ids) them =
       ap (λ o. identities (cons_option o (filter_map (item_of p) ids)))
       (ap (item_of p) (sym them.0.2) ∙ found_there them.0.0 (in_package them.0.0 them.0.1))
-      ∙ ap (λ k. k ∷ identities (filter_map (item_of p) ids)) them.0.2 ∙ ap (λ l. id ∷ l) (found_names ids them.1)
+      ∙ ap (λ k. k ∷ identities (filter_map (item_of p) ids)) them.0.2
+      ∙ ap (λ l. id ∷ l) (found_names ids them.1)
 
   distinct_links : IsDistinct bytes_eq (map link_key s.links.items)
   distinct_links = subst (λ l. IsDistinct bytes_eq (map link_key l)) (sym is.links)
@@ -364,9 +372,11 @@ module _ (c : Cut) (s : Selection) (f : Frame) (p : Package) (db : Database) (is
 
 -- names that are sorted, as a split selects them
 pub sorted_selection : (c : Cut) (s : Selection) → IsDistinct bytes_eq (identities c.items)
-    → s.identities.items ≡ arranged (λ id. id) (identities c.items) → s.links.items ≡ c.links → IsSelectionOf c s
+    → s.identities.items ≡ arranged (λ id. id) (identities c.items) → s.links.items ≡ c.links
+    → IsSelectionOf c s
 sorted_selection c s distinct sorted links = record {
-  identities = ap (arranged (λ id. id)) sorted ∙ arranged_itself (λ id. id) (arranged (λ id. id) (identities c.items))
+  identities = ap (arranged (λ id. id)) sorted ∙ arranged_itself (λ id. id)
+      (arranged (λ id. id) (identities c.items))
       (distinct_order (identities c.items) distinct);
   links = links;
 }

@@ -25,7 +25,8 @@ use Rattle.register_lending.specs.declared.turn_fault.TurnFault.TheVariants.{Bef
 -- ---- a child is filled
 
 pub filled_then : {E F : Type 0} (s : Selection) (at : List ℕ) (source : State) (db : Database) {old mid new : State}
-    {x : Unit {0}} {q : Result (Unit {0}) F} → Steps {E = E} (λ _. FromClean source (CarriesOver s db)) old mid (Ok x)
+    {x : Unit {0}} {q : Result (Unit {0}) F} → Steps {E = E} (λ _. FromClean source (CarriesOver s db)) old mid
+    (Ok x)
     → Steps (λ _. Dates at) mid new q
     → Steps (λ _. FromClean source (Fills s at db)) old new q
 filled_then s at source db first next =
@@ -63,7 +64,8 @@ lent_then r s first next =
 -- a source that was read once is read again
 pub brought_then : {E F : Type 0} (s : Selection) (source then_source last_source : State) {old mid new : State}
     {x : Unit {0}} {q : Result (Unit {0}) F}
-    → Stays source then_source → (HasCleanDisk then_source → IsTrue then_source.is_open) → Stays then_source last_source
+    → Stays source then_source → (HasCleanDisk then_source → IsTrue then_source.is_open)
+    → Stays then_source last_source
     → Steps {E = E} (λ _. FromClean then_source (CarriesOver s source.now)) old mid (Ok x)
     → Steps (λ _. FromClean last_source (BringsHome then_source.now)) mid new q
     → Steps (λ _. FromClean last_source (BringsBoth s source.now)) old new q

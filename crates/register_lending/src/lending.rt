@@ -29,7 +29,8 @@ fn fill_inside<S: Alter>(
     requires { Rests (state S.Store source.old) }
     ensures same_reference { tx.new.conn.ghost_name ≡ tx.old.conn.ghost_name }
     ensures source { Stays (state S.Store source.old) (state S.Store source.new) }
-    ensures opens { HasCleanDisk (state S.Store source.new) → OnOk result (IsTrue (state S.Store source.new).is_open) }
+    ensures opens { HasCleanDisk (state S.Store source.new) → OnOk result
+        (IsTrue (state S.Store source.new).is_open) }
     ensures steps { Steps (λ _. FromClean (state S.Store source.new)
         (Fills selection.now at.now (state S.Store source.old).now)) (state S.Store tx.old.conn.now)
         (state S.Store tx.new.conn.now) result }
@@ -48,7 +49,8 @@ pub fn fill<S: Alter>(
     requires source { Rests (state S.Store source.old) }
     requires child { Rests (state S.Store conn.old) }
     ensures source { Stays (state S.Store source.old) (state S.Store source.new) }
-    ensures opens { HasCleanDisk (state S.Store source.new) → OnOk result (IsTrue (state S.Store source.new).is_open) }
+    ensures opens { HasCleanDisk (state S.Store source.new) → OnOk result
+        (IsTrue (state S.Store source.new).is_open) }
     ensures turns { Turns (λ _. FromClean (state S.Store source.new)
         (Fills selection.now at.now (state S.Store source.old).now)) (state S.Store conn.old) (state S.Store conn.new)
         result }

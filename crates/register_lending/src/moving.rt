@@ -50,7 +50,8 @@ pub(crate) fn carry_over<S: Alter>(
     requires { Rests (state S.Store source.old) }
     ensures same_reference { tx.new.conn.ghost_name ≡ tx.old.conn.ghost_name }
     ensures source { Stays (state S.Store source.old) (state S.Store source.new) }
-    ensures opens { HasCleanDisk (state S.Store source.new) → OnOk result (IsTrue (state S.Store source.new).is_open) }
+    ensures opens { HasCleanDisk (state S.Store source.new) → OnOk result
+        (IsTrue (state S.Store source.new).is_open) }
     ensures steps { Steps (λ _. FromClean (state S.Store source.new)
         (CarriesOver selection.now (state S.Store source.old).now)) (state S.Store tx.old.conn.now)
         (state S.Store tx.new.conn.now) result }

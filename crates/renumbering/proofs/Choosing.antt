@@ -1,6 +1,8 @@
 -- The free keys below a bound, gathered from the least up.
-use Rattle.std.proofs.Common.{◌≡◌, ℕ, ℤ, pos, ◌≤◌, ◌<◌, ◌≤ℤ◌, ◌<ℤ◌, ◌+ℤ◌, List, [], ◌∷◌, ◌++◌, Bool, true, false}
-use Rattle.std.proofs.Common.{◌||◌, ◌⊎◌, inl, inr, ⊎_elim, refl, sym, ap, ◌∙◌, subst, arith, length, FitsSigned, w64}
+use Rattle.std.proofs.Common.{◌≡◌, ℕ, ℤ, pos, ◌≤◌, ◌<◌, ◌≤ℤ◌, ◌<ℤ◌, ◌+ℤ◌}
+use Rattle.std.proofs.Common.{List, [], ◌∷◌, ◌++◌, Bool, true, false}
+use Rattle.std.proofs.Common.{◌||◌, ◌⊎◌, inl, inr, ⊎_elim, refl, sym, ap, ◌∙◌, subst, arith, length}
+use Rattle.std.proofs.Common.{FitsSigned, w64}
 use Rattle.std.proofs.Common.{to_z, of_z, to_z-of_z}
 use Rattle.std.proofs.lemmas.Bool.{true≢false, and_parts, and_from, false_from_ne_true}
 use Rattle.std.proofs.lemmas.Cmp.{int_eq_equiv}
@@ -57,7 +59,8 @@ least_more used keys k it most unused = record {
       (λ y less. omega (arith, ints)) keys it.below) (omega (arith, ints));
   free = record {
     distinct = IsDistinct-push int_eq_equiv keys k it.free.distinct
-        (none_any (int_eq k) keys (All-weaker (λ y. y <ℤ k) (λ y. int_eq k y ≡ false) (λ y less. other_key k y less)
+        (none_any (int_eq k) keys (All-weaker (λ y. y <ℤ k) (λ y. int_eq k y ≡ false)
+        (λ y less. other_key k y less)
         keys it.below));
     free = All-snoc (IsFree used) keys k it.free.free (
       and_from (int_le (pos 1) k) (int_le k (pos 1000000))
@@ -79,15 +82,18 @@ least_same used keys k it is_used = record {
   below = All-weaker (λ y. y <ℤ k) (λ y. y <ℤ (k +ℤ pos 1)) (λ y less. omega (arith, ints)) keys it.below;
   free = it.free;
   all = λ q free less. ⊎_elim (λ low. it.all q free low) (λ here. absurd
-      (true≢false (sym is_used ∙ ap (λ x. list_any (int_eq x) used) (sym here) ∙ free.1))) (below_or_same q k less);
+      (true≢false (sym is_used ∙ ap (λ x. list_any (int_eq x) used) (sym here) ∙ free.1)))
+      (below_or_same q k less);
 }
 
 -- the next key, as it is counted
-pub next_key : (k : ℤ) → pos 1 ≤ℤ k → int_le k (pos 1000000) ≡ true → k +ℤ pos 1 ≡ to_z w64 (of_z w64 (k +ℤ pos 1))
+pub next_key : (k : ℤ) → pos 1 ≤ℤ k → int_le k (pos 1000000) ≡ true
+    → k +ℤ pos 1 ≡ to_z w64 (of_z w64 (k +ℤ pos 1))
 next_key k low high = let fits : FitsSigned w64 (k +ℤ pos 1) = omega (arith, ints) in sym (to_z-of_z fits)
 
 -- an element of free keys is free
-one_is_free : (used keys : List ℤ) (q : ℤ) → AllByRecursion (IsFree used) keys → list_any (int_eq q) keys ≡ true
+one_is_free : (used keys : List ℤ) (q : ℤ) → AllByRecursion (IsFree used) keys
+    → list_any (int_eq q) keys ≡ true
     → IsFree used q
 one_is_free used keys q free there = let at = any_at (int_eq q) keys there in subst (IsFree used)
     (sym ((signed_Decides q at.0).0 at.2)) (All-In (IsFree used) at.0 keys free at.1)

@@ -1,5 +1,6 @@
 -- Old keys that rise and the new key of each, as pairs.
-use Rattle.std.proofs.Common.{◌≡◌, ℕ, suc, zero, ℤ, ◌<◌, List, [], ◌∷◌, length, get_or, Some, None, zip, true, false}
+use Rattle.std.proofs.Common.{◌≡◌, ℕ, suc, zero, ℤ, ◌<◌, List, [], ◌∷◌, length, get_or, Some}
+use Rattle.std.proofs.Common.{None, zip, true, false}
 use Rattle.std.proofs.Common.{Bool, cond, ◌||◌, refl, sym, ap, ◌∙◌, subst, arith, IsSome, IsTrue, ◌↔◌}
 use Rattle.std.specs.Option.{is_some}
 use Rattle.std.proofs.lemmas.Bool.{or_parts}
@@ -27,7 +28,8 @@ pub key_at : (ks vs : List ℤ) (i : ℕ) (key d : ℤ) → IsStrictlySortedBy i
     → i < length ks → get_or ks i d ≡ key → new_key (zip ks vs) key ≡ Some (get_or vs i d)
 key_at [] vs i key d rises same within is = let no : ⊥ = omega arith in absurd no
 key_at (k ∷ ks) [] i key d rises same within is = let no : ⊥ = omega (arith, same) in absurd no
-key_at (k ∷ ks) (v ∷ vs) zero key d rises same within is = ap (λ b. cond b (Some v) (lookup (int_eq key) (zip ks vs)))
+key_at (k ∷ ks) (v ∷ vs) zero key d rises same within is = ap
+    (λ b. cond b (Some v) (lookup (int_eq key) (zip ks vs)))
     ((signed_Decides key k).1 (sym is))
 key_at (k ∷ ks) (v ∷ vs) (suc i) key d rises same within is =
     let first : zero < suc i = omega arith in
@@ -69,7 +71,8 @@ too_many old used olds rises holds few keys free = (
 )
 
 -- whether a key is held
-held : (ks vs : List ℤ) (key : ℤ) → length vs ≡ length ks → list_any (int_eq key) ks ≡ is_some (new_key (zip ks vs) key)
+held : (ks vs : List ℤ) (key : ℤ) → length vs ≡ length ks → list_any (int_eq key) ks
+    ≡ is_some (new_key (zip ks vs) key)
 held [] vs key same = refl
 held (k ∷ ks) [] key same = cc
 held (k ∷ ks) (v ∷ vs) key same =
@@ -79,6 +82,11 @@ held (k ∷ ks) (v ∷ vs) key same =
       | false ↦ held ks vs key cc
     ]
 
-pub holds_is : (ks vs : List ℤ) (key : ℤ) (there : Bool) → length vs ≡ length ks → there ≡ list_any (int_eq key) ks
+pub holds_is : (ks vs : List ℤ) (key : ℤ) (there : Bool) → length vs ≡ length ks
+    → there ≡ list_any (int_eq key) ks
     → IsTrue there ↔ IsSome (new_key (zip ks vs) key)
-holds_is ks vs key there same is = (λ h. sym (held ks vs key same) ∙ sym is ∙ h, λ h. is ∙ held ks vs key same ∙ h)
+holds_is ks vs key there same is = (
+  λ h. sym (held ks vs key same) ∙ sym is ∙ h,
+  λ h. is ∙ held ks vs key same
+      ∙ h,
+)

@@ -1,6 +1,8 @@
 -- Keys that rise, and what a search finds among them.
-use Rattle.std.proofs.Common.{◌≡◌, ℕ, ℤ, ◌<◌, ◌+◌, List, length, get_or, Result, Ok, Err, false, [], ◌∷◌, true, Bool}
-use Rattle.std.proofs.Common.{cond, refl, sym, ap, ◌∙◌, subst, arith, ⊎_elim, ◌≤◌, IsPermutation, is_ok, ◌||◌}
+use Rattle.std.proofs.Common.{◌≡◌, ℕ, ℤ, ◌<◌, ◌+◌, List, length, get_or, Result, Ok, Err, false, []}
+use Rattle.std.proofs.Common.{◌∷◌, true, Bool}
+use Rattle.std.proofs.Common.{cond, refl, sym, ap, ◌∙◌, subst, arith, ⊎_elim, ◌≤◌, IsPermutation, is_ok}
+use Rattle.std.proofs.Common.{◌||◌}
 use Rattle.std.specs.Prelude.{MatchResult}
 use Rattle.std.specs.List.{list_any, dedup, dedup_from}
 use Rattle.std.specs.List.Sorted.{IsSorted, IsStrictlySortedBy, IsBinarySearchResult, IsSearchInRange}
@@ -27,9 +29,11 @@ greater_is_other : (x y : ℤ) → int_cmp y x ≡ Greater → int_eq x y ≡ fa
 greater_is_other x y e = ap is_eq (int_cmp_total.antisymm x y) ∙ ap (λ o. is_eq (ordering_reverse o)) e
 
 -- a search answers the place of the key, and else the key is not there
-pub searched : (xs : List ℤ) (x : ℤ) (r : Result ℕ ℕ) → IsStrictlySortedBy int_cmp xs → IsSearchInRange r (length xs)
+pub searched : (xs : List ℤ) (x : ℤ) (r : Result ℕ ℕ) → IsStrictlySortedBy int_cmp xs
+    → IsSearchInRange r (length xs)
     → IsBinarySearchResult (λ y. int_cmp y x) xs r
-    → MatchResult r (λ i. (i < length xs) × ((d : ℤ) → get_or xs i d ≡ x)) (λ _. list_any (int_eq x) xs ≡ false)
+    → MatchResult r (λ i. (i < length xs) × ((d : ℤ) → get_or xs i d ≡ x))
+    (λ _. list_any (int_eq x) xs ≡ false)
 searched xs x (Ok i) rises range found = (range, λ d. int_ranked (get_or xs i d) x Equal (sym (found d)))
 searched xs x (Err i) rises range found =
     let parted = found (searchable_from_sorted int_cmp_total (λ k. k) xs x (ordered xs rises)) in
@@ -68,7 +72,8 @@ same_keys keys copy sorted once same moved is key = ap (list_any (int_eq key)) i
 
 -- whether a key is there, by a search
 pub among_is : (xs : List ℤ) (x key : ℤ) (r : Result ℕ ℕ) (there : Bool) → x ≡ key → there ≡ is_ok r
-    → MatchResult r (λ i. (i < length xs) × ((d : ℤ) → get_or xs i d ≡ x)) (λ _. list_any (int_eq x) xs ≡ false)
+    → MatchResult r (λ i. (i < length xs) × ((d : ℤ) → get_or xs i d ≡ x))
+    (λ _. list_any (int_eq x) xs ≡ false)
     → there ≡ list_any (int_eq key) xs
 among_is xs x key (Ok i) there same is found = is ∙ sym (list_any_at (int_eq key) xs i key found.0
     (ap (int_eq key) (found.1 key ∙ same) ∙ (signed_Decides key key).1 refl))

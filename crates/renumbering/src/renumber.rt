@@ -1,5 +1,6 @@
 //! A renumbering of the keys of one kind: each old key has a new one, which is free in the package that it comes to.
-ghost use Rattle.std.specs.Prelude.{◌≡◌, ◌⊎◌, ℤ, List, length, IfOk, IfErr, IsSome, IsTrue, ◌↔◌, zip};
+ghost use Rattle.std.specs.Prelude.{◌≡◌, ◌⊎◌, ℤ, List, length, IfOk, IfErr, IsSome, IsTrue, ◌↔◌};
+ghost use Rattle.std.specs.Prelude.{zip};
 ghost use Rattle.std.specs.List.Sorted.{IsStrictlySortedBy};
 ghost use Rattle.std.specs.Ordering.{int_cmp};
 ghost use Rattle.renumbering.specs.Renumbering.{new_key, IsRenumbering, HasTooMany};
@@ -24,7 +25,8 @@ impl Model for Renumber {
 
     ghost view = { λ r. zip r.olds.items r.news.items };
 
-    ghost invariant = { λ r. IsStrictlySortedBy int_cmp r.olds.items × (length r.news.items ≡ length r.olds.items) };
+    ghost invariant = { λ r. IsStrictlySortedBy int_cmp r.olds.items
+        × (length r.news.items ≡ length r.olds.items) };
 }
 
 impl Renumber {

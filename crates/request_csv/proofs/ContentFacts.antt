@@ -16,8 +16,12 @@ NoMedium fields = (content_type bytes : List ℕ) → ¬ IsContent fields (Media
 abbrev pub NoRow : List (List ℕ) → Type 0
 NoRow fields = (x y code : ℤ) (label : List ℕ) → ¬ IsContent fields (Row x y code label)
 
-pub no_content : (fields : List (List ℕ)) (word : List ℕ) → IsTextAt fields 6 word → (word ≡ kind_word TileItem → NoTile fields) → (word ≡ kind_word MediaItem → NoMedium fields)
+pub no_content : (fields : List (List ℕ)) (word : List ℕ) → IsTextAt fields 6 word
+    → (word ≡ kind_word TileItem → NoTile fields) → (word ≡ kind_word MediaItem → NoMedium fields)
     → (word ≡ kind_word RowItem → NoRow fields) → (content : Content) → ¬ IsContent fields content
-no_content fields word there tile medium row (Tile zoom column line bytes) is = tile (some_once _ _ _ there is.0) zoom column line bytes is
-no_content fields word there tile medium row (Media content_type bytes) is = medium (some_once _ _ _ there is.0) content_type bytes is
-no_content fields word there tile medium row (Row x y code label) is = row (some_once _ _ _ there is.0) x y code label is
+no_content fields word there tile medium row (Tile zoom column line bytes) is =
+    tile (some_once _ _ _ there is.0) zoom column line bytes is
+no_content fields word there tile medium row (Media content_type bytes) is =
+    medium (some_once _ _ _ there is.0) content_type bytes is
+no_content fields word there tile medium row (Row x y code label) is =
+    row (some_once _ _ _ there is.0) x y code label is

@@ -11,6 +11,7 @@ pub none_then : {X P Q : Type 0} (found : Option X) → (P → Q) → IfNone fou
 none_then None then none = then none
 none_then (Some x) then none = tt
 
-pub ok_none_then : {X E P Q : Type 0} (found : Result (Option X) E) → (P → Q) → IfOk found (λ o. IfNone o P) → IfOk found (λ o. IfNone o Q)
+pub ok_none_then : {X E P Q : Type 0} (found : Result (Option X) E) → (P → Q) → IfOk found (λ o. IfNone o P)
+    → IfOk found (λ o. IfNone o Q)
 ok_none_then (Ok o) then none = none_then o then none
 ok_none_then (Err e) then none = tt

@@ -23,18 +23,24 @@ ok_once : {A E : Type 0} (r : Result A E) (x y : A) → r ≡ Ok x → r ≡ Ok 
 ok_once (Ok z) x y e f = cc
 ok_once (Err z) x y e f = cc
 
-one_number : (fields : List (List ℕ)) (column : ℕ) (y z : ℤ) → IsNumberAt fields column y → IsNumberAt fields column z → y ≡ z
-one_number fields column y z one other = signed_decimal_injective y z one.0.sfits other.0.sfits (some_once _ _ _ one.1 other.1)
+one_number : (fields : List (List ℕ)) (column : ℕ) (y z : ℤ) → IsNumberAt fields column y
+    → IsNumberAt fields column z → y ≡ z
+one_number fields column y z one other = signed_decimal_injective y z one.0.sfits other.0.sfits
+    (some_once _ _ _ one.1 other.1)
 
-one_hex : (fields : List (List ℕ)) (column : ℕ) (x y : List ℕ) → IsHexAt fields column x → IsHexAt fields column y → x ≡ y
+one_hex : (fields : List (List ℕ)) (column : ℕ) (x y : List ℕ) → IsHexAt fields column x
+    → IsHexAt fields column y → x ≡ y
 one_hex fields column x y one other =
     let same = some_once _ one.text other.text one.there other.there in
     ok_once (decode_of one.text) x y one.digits (rw same other.digits)
 
-one_mapping : (fields : List (List ℕ)) (m n : Mapping) → IsTextAt fields 6 (mapping_word m) → IsTextAt fields 6 (mapping_word n) → m ≡ n
-one_mapping fields m n one other = some_same (sym (mapping_back m) ∙ ap mapping_in (some_once _ _ _ one other) ∙ mapping_back n)
+one_mapping : (fields : List (List ℕ)) (m n : Mapping) → IsTextAt fields 6 (mapping_word m)
+    → IsTextAt fields 6 (mapping_word n) → m ≡ n
+one_mapping fields m n one other = some_same (sym (mapping_back m) ∙ ap mapping_in (some_once _ _ _ one other)
+    ∙ mapping_back n)
 
-one_mode : (fields : List (List ℕ)) (m n : Mode) → IsTextAt fields 6 (mode_word m) → IsTextAt fields 6 (mode_word n) → m ≡ n
+one_mode : (fields : List (List ℕ)) (m n : Mode) → IsTextAt fields 6 (mode_word m)
+    → IsTextAt fields 6 (mode_word n) → m ≡ n
 one_mode fields Strict Strict one other = refl
 one_mode fields Follow Follow one other = refl
 one_mode fields Strict Follow one other = absurd (clash _ _ _ one other refl)
@@ -51,10 +57,23 @@ one_rect fields r s one other =
 
 same_content : (fields : List (List ℕ)) (c d : Content) → IsContent fields c → IsContent fields d → c ≡ d
 same_content fields (Tile z c r x) (Tile z' c' r' x') one other =
-    rw (one_number fields 7 z z' one.1.0 other.1.0, one_number fields 8 c c' one.1.1 other.1.1, one_number fields 9 r r' one.1.2 other.1.2, one_hex fields 17 x x' one.1.3 other.1.3) refl
-same_content fields (Media t x) (Media t' x') one other = rw (some_once _ t t' one.1.0 other.1.0, one_hex fields 17 x x' one.1.1 other.1.1) refl
+    rw (
+      one_number fields 7 z z' one.1.0 other.1.0,
+      one_number fields 8 c c' one.1.1 other.1.1,
+      one_number fields 9 r
+          r' one.1.2 other.1.2,
+      one_hex fields 17 x x' one.1.3 other.1.3,
+    ) refl
+same_content fields (Media t x) (Media t' x') one other = rw
+    (some_once _ t t' one.1.0 other.1.0, one_hex fields 17 x x' one.1.1 other.1.1) refl
 same_content fields (Row x y k l) (Row x' y' k' l') one other =
-    rw (one_number fields 12 x x' one.1.0 other.1.0, one_number fields 13 y y' one.1.1 other.1.1, one_number fields 14 k k' one.1.2 other.1.2, some_once _ l l' one.1.3 other.1.3) refl
+    rw (
+      one_number fields 12 x x' one.1.0 other.1.0,
+      one_number fields 13 y y' one.1.1 other.1.1,
+      one_number fields 14
+          k k' one.1.2 other.1.2,
+      some_once _ l l' one.1.3 other.1.3,
+    ) refl
 same_content fields (Tile z c r x) (Media t' x') one other = absurd (clash _ _ _ one.0 other.0 refl)
 same_content fields (Tile z c r x) (Row x' y' k' l') one other = absurd (clash _ _ _ one.0 other.0 refl)
 same_content fields (Media t x) (Tile z' c' r' x') one other = absurd (clash _ _ _ one.0 other.0 refl)
@@ -63,15 +82,45 @@ same_content fields (Row x y k l) (Tile z' c' r' x') one other = absurd (clash _
 same_content fields (Row x y k l) (Media t' x') one other = absurd (clash _ _ _ one.0 other.0 refl)
 
 same_command : (fields : List (List ℕ)) (c d : Command) → IsCommand fields c → IsCommand fields d → c ≡ d
-same_command fields (Add p i c) (Add p' i' c') one other = rw (some_once _ p p' one.1.0 other.1.0, some_once _ i i' one.1.1 other.1.1, same_content fields c c' one.1.2 other.1.2) refl
-same_command fields (Delete p i) (Delete p' i') one other = rw (some_once _ p p' one.1.0 other.1.0, some_once _ i i' one.1.1 other.1.1) refl
+same_command fields (Add p i c) (Add p' i' c') one other = rw (
+  some_once _ p p' one.1.0 other.1.0,
+  some_once _ i i' one.1.1 other.1.1,
+  same_content fields c c' one.1.2
+      other.1.2,
+) refl
+same_command fields (Delete p i) (Delete p' i') one other = rw
+    (some_once _ p p' one.1.0 other.1.0, some_once _ i i' one.1.1 other.1.1) refl
 same_command fields (Link p m b r) (Link p' m' b' r') one other =
-    rw (some_once _ p p' one.1.0 other.1.0, one_mapping fields m m' one.1.1 other.1.1, some_once _ b b' one.1.2 other.1.2, some_once _ r r' one.1.3 other.1.3) refl
+    rw (
+      some_once _ p p' one.1.0 other.1.0,
+      one_mapping fields m m' one.1.1 other.1.1,
+      some_once _ b b' one.1.2
+          other.1.2,
+      some_once _ r r' one.1.3 other.1.3,
+    ) refl
 same_command fields (Unlink p m b r) (Unlink p' m' b' r') one other =
-    rw (some_once _ p p' one.1.0 other.1.0, one_mapping fields m m' one.1.1 other.1.1, some_once _ b b' one.1.2 other.1.2, some_once _ r r' one.1.3 other.1.3) refl
+    rw (
+      some_once _ p p' one.1.0 other.1.0,
+      one_mapping fields m m' one.1.1 other.1.1,
+      some_once _ b b' one.1.2
+          other.1.2,
+      some_once _ r r' one.1.3 other.1.3,
+    ) refl
 same_command fields (Split p k m r) (Split p' k' m' r') one other =
-    rw (some_once _ p p' one.1.0 other.1.0, some_once _ k k' one.1.1 other.1.1, one_mode fields m m' one.1.2 other.1.2, one_rect fields r r' one.1.3 other.1.3) refl
-same_command fields (Merge k p n) (Merge k' p' n') one other = rw (some_once _ k k' one.1.0 other.1.0, some_once _ p p' one.1.1 other.1.1, one_number fields 15 n n' one.1.2 other.1.2) refl
+    rw (
+      some_once _ p p' one.1.0 other.1.0,
+      some_once _ k k' one.1.1 other.1.1,
+      one_mode fields m m' one.1.2
+          other.1.2,
+      one_rect fields r r' one.1.3 other.1.3,
+    ) refl
+same_command fields (Merge k p n) (Merge k' p' n') one other =
+    rw (
+      some_once _ k k' one.1.0 other.1.0,
+      some_once _ p p' one.1.1 other.1.1,
+      one_number fields 15 n n' one.1.2
+          other.1.2,
+    ) refl
 same_command fields (Add p i c) (Delete p' i') one other = absurd (clash _ _ _ one.0 other.0 refl)
 same_command fields (Add p i c) (Link p' m' b' r') one other = absurd (clash _ _ _ one.0 other.0 refl)
 same_command fields (Add p i c) (Unlink p' m' b' r') one other = absurd (clash _ _ _ one.0 other.0 refl)

@@ -1,5 +1,6 @@
 -- Words that a column has, as those of some command or some content.
-use Rattle.std.proofs.Common.{◌≡◌, ℕ, pos, List, [], Bool, true, IsTrue, Option, Some, None, IfSome, IfNone, is_some}
+use Rattle.std.proofs.Common.{◌≡◌, ℕ, pos, List, [], Bool, true, IsTrue, Option, Some, None, IfSome, IfNone}
+use Rattle.std.proofs.Common.{is_some}
 use Rattle.sheet_types.specs.Texts.{kind_of, kind_word}
 use Rattle.sheet_types.specs.declared.command.Command.{Command}
 use Rattle.sheet_types.specs.declared.command.Command.TheVariants.{Add, Delete, Link, Unlink, Split, Merge}
@@ -25,12 +26,19 @@ abbrev pub an_unlink : Command
 an_unlink = Unlink [] TilesMedia [] []
 
 abbrev pub a_split : Command
-a_split = Split [] [] Strict (record { zoom = pos 0; column = pos 0; last_column = pos 0; row = pos 0; last_row = pos 0 })
+a_split = Split [] [] Strict (record {
+  zoom = pos 0;
+  column = pos 0;
+  last_column = pos 0;
+  row = pos 0;
+  last_row = pos 0;
+})
 
 abbrev pub a_merge : Command
 a_merge = Merge [] [] (pos 0)
 
-pub met_by : (fields : List (List ℕ)) (column : ℕ) (command : Command) → IsTextAt fields column (command_word command)
+pub met_by : (fields : List (List ℕ)) (column : ℕ) (command : Command)
+    → IsTextAt fields column (command_word command)
     → (IsTrue true → MeetsAt fields column CommandWord) × (MeetsAt fields column CommandWord → IsTrue true)
 met_by fields column command there = (λ yes. (command, there), λ met. search)
 
@@ -44,12 +52,14 @@ a_medium = Media [] []
 abbrev pub a_row : Content
 a_row = Row (pos 0) (pos 0) (pos 0) []
 
-pub met_by_kind : (fields : List (List ℕ)) (column : ℕ) (content : Content) → IsTextAt fields column (kind_word (kind_of content))
+pub met_by_kind : (fields : List (List ℕ)) (column : ℕ) (content : Content)
+    → IsTextAt fields column (kind_word (kind_of content))
     → (IsTrue true → MeetsAt fields column KindWord) × (MeetsAt fields column KindWord → IsTrue true)
 met_by_kind fields column content there = (λ yes. (content, there), λ met. search)
 
 -- something is there just where it was found
-pub found_there : {X Y : Type 0} (view : X → Y) (Is : Y → Type 0) (found : Option X) (met : Bool) → met ≡ is_some found → IfSome found (λ x. Is (view x)) → IfNone found ((y : Y) → ¬ Is y)
+pub found_there : {X Y : Type 0} (view : X → Y) (Is : Y → Type 0) (found : Option X) (met : Bool)
+    → met ≡ is_some found → IfSome found (λ x. Is (view x)) → IfNone found ((y : Y) → ¬ Is y)
     → (IsTrue met → (y : Y) × Is y) × ((y : Y) × Is y → IsTrue met)
 found_there view Is (Some x) met told some none = (λ yes. (view x, some), λ there. search)
 found_there view Is None met told some none = (λ yes. absurd (cc), λ there. absurd (none there.0 there.1))

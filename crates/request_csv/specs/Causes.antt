@@ -1,4 +1,5 @@
--- Why a text is no list of requests: the first record that is none, and its first column that is not what it has to be (profile).
+-- Why a text is no list of requests: the first record that is none, and its first column that is not what it has to
+-- be (profile).
 use Rattle.std.specs.Prelude.{◌≡◌, ◌≢◌, ◌⊎◌, ◌+◌, ℕ, List, [], ◌∷◌, length}
 use Rattle.csv.specs.Records.{AllText}
 use Rattle.sheet_types.specs.declared.command.Request.{Request}

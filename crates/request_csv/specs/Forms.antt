@@ -1,4 +1,5 @@
--- What each column of a record has to be, by the words of its command and its kind, and the first column that is not (profile).
+-- What each column of a record has to be, by the words of its command and its kind, and the first column that is not
+-- (profile).
 use Rattle.std.specs.Prelude.{◌≡◌, ◌⊎◌, ℕ, ℤ, suc, List, [], ◌∷◌, ⊤, codes, get_or}
 use Rattle.sheet_types.specs.Texts.{kind_of, kind_word, mapping_word, mode_word}
 use Rattle.sheet_types.specs.declared.command.Command.{Command}
@@ -9,7 +10,8 @@ use Rattle.sheet_types.specs.declared.command.Request.{Request}
 use Rattle.sheet_types.specs.declared.receipt.MovedKind.TheVariants.{TileItem, MediaItem, RowItem}
 use Rattle.request_csv.specs.Requests.{IsHexAt, IsNumberAt, IsRequest, IsTextAt, IsUuidAt, command_word, header}
 use Rattle.request_csv.specs.declared.forms.Want.{Want}
-use Rattle.request_csv.specs.declared.forms.Want.TheVariants.{ItsName, Anything, Identity, Number, Hexadecimal, Nothing, CommandWord, KindWord, MappingWord, ModeWord}
+use Rattle.request_csv.specs.declared.forms.Want.TheVariants.{ItsName, Anything, Identity, Number, Hexadecimal}
+use Rattle.request_csv.specs.declared.forms.Want.TheVariants.{Nothing, CommandWord, KindWord, MappingWord, ModeWord}
 use Rattle.request_csv.specs.declared.forms.Form.{Form}
 use Rattle.request_csv.specs.declared.forms.Form.TheVariants as form
 use Rattle.request_csv.specs.declared.forms.ColumnFault.{ColumnFault}
@@ -57,20 +59,27 @@ IsForm fields form.Unknown = ¬ MeetsAt fields 2 CommandWord
 
 -- what the columns have to be from `package` on, by what is asked for
 abbrev pub wants_of : Form → List Want
-wants_of form.Tile = Identity ∷ Identity ∷ Nothing ∷ KindWord ∷ Number ∷ Number ∷ Number ∷ Nothing ∷ Nothing
+wants_of form.Tile = Identity ∷ Identity ∷ Nothing ∷ KindWord ∷ Number ∷ Number ∷ Number ∷ Nothing
+    ∷ Nothing
     ∷ Nothing ∷ Nothing ∷ Nothing ∷ Nothing ∷ Nothing ∷ Hexadecimal ∷ []
-wants_of form.Medium = Identity ∷ Identity ∷ Nothing ∷ KindWord ∷ Nothing ∷ Nothing ∷ Nothing ∷ Nothing ∷ Nothing
+wants_of form.Medium = Identity ∷ Identity ∷ Nothing ∷ KindWord ∷ Nothing ∷ Nothing ∷ Nothing ∷ Nothing
+    ∷ Nothing
     ∷ Nothing ∷ Nothing ∷ Nothing ∷ Nothing ∷ Anything ∷ Hexadecimal ∷ []
-wants_of form.Row = Identity ∷ Identity ∷ Nothing ∷ KindWord ∷ Nothing ∷ Nothing ∷ Nothing ∷ Nothing ∷ Nothing
+wants_of form.Row = Identity ∷ Identity ∷ Nothing ∷ KindWord ∷ Nothing ∷ Nothing ∷ Nothing ∷ Nothing
+    ∷ Nothing
     ∷ Number ∷ Number ∷ Number ∷ Nothing ∷ Anything ∷ Nothing ∷ []
 wants_of form.Addition = Identity ∷ Identity ∷ Nothing ∷ KindWord ∷ []
-wants_of form.Deletion = Identity ∷ Identity ∷ Nothing ∷ Nothing ∷ Nothing ∷ Nothing ∷ Nothing ∷ Nothing ∷ Nothing
+wants_of form.Deletion = Identity ∷ Identity ∷ Nothing ∷ Nothing ∷ Nothing ∷ Nothing ∷ Nothing ∷ Nothing
+    ∷ Nothing
     ∷ Nothing ∷ Nothing ∷ Nothing ∷ Nothing ∷ Nothing ∷ Nothing ∷ []
-wants_of form.Link = Identity ∷ Identity ∷ Identity ∷ MappingWord ∷ Nothing ∷ Nothing ∷ Nothing ∷ Nothing ∷ Nothing
+wants_of form.Link = Identity ∷ Identity ∷ Identity ∷ MappingWord ∷ Nothing ∷ Nothing ∷ Nothing
+    ∷ Nothing ∷ Nothing
     ∷ Nothing ∷ Nothing ∷ Nothing ∷ Nothing ∷ Nothing ∷ Nothing ∷ []
-wants_of form.Split = Identity ∷ Nothing ∷ Identity ∷ ModeWord ∷ Number ∷ Number ∷ Number ∷ Number ∷ Number
+wants_of form.Split = Identity ∷ Nothing ∷ Identity ∷ ModeWord ∷ Number ∷ Number ∷ Number ∷ Number
+    ∷ Number
     ∷ Nothing ∷ Nothing ∷ Nothing ∷ Nothing ∷ Nothing ∷ Nothing ∷ []
-wants_of form.Merge = Identity ∷ Nothing ∷ Identity ∷ Nothing ∷ Nothing ∷ Nothing ∷ Nothing ∷ Nothing ∷ Nothing
+wants_of form.Merge = Identity ∷ Nothing ∷ Identity ∷ Nothing ∷ Nothing ∷ Nothing ∷ Nothing ∷ Nothing
+    ∷ Nothing
     ∷ Nothing ∷ Nothing ∷ Nothing ∷ Number ∷ Nothing ∷ Nothing ∷ []
 wants_of form.Unknown = []
 

@@ -11,12 +11,15 @@ HasOneList = (text : List ℕ) (one other : List Request) → IsList text one �
 
 -- a text that is a list meets no fault
 abbrev pub ListHasNoFault : Type 0
-ListHasNoFault = (text : List ℕ) (requests : List Request) (fault : ReadFault) → IsList text requests → ¬ MeetsFirst text fault
+ListHasNoFault = (text : List ℕ) (requests : List Request) (fault : ReadFault) → IsList text requests
+    → ¬ MeetsFirst text fault
 
 -- one fault is the first
 abbrev pub OneIsFirst : Type 0
-OneIsFirst = (text : List ℕ) (one other : ReadFault) → MeetsFirst text one → MeetsFirst text other → one ≡ other
+OneIsFirst = (text : List ℕ) (one other : ReadFault) → MeetsFirst text one → MeetsFirst text other
+    → one ≡ other
 
 -- a text that is a list begins as one with the first of its requests, and with no others
 abbrev pub ListGoesOn : Type 0
-ListGoesOn = (text : List ℕ) (requests some : List Request) → IsList text requests → IsBegun text some → (rest : List Request) × (requests ≡ some ++ rest)
+ListGoesOn = (text : List ℕ) (requests some : List Request) → IsList text requests → IsBegun text some
+    → (rest : List Request) × (requests ≡ some ++ rest)

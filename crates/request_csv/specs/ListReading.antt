@@ -1,6 +1,7 @@
 -- Where a reader of a list stands, and what it has read of it. Profile.
 use Rattle.std.specs.Prelude.{◌≡◌, ◌⊎◌, ◌<◌, ℕ, List, Option, Some, IfSome, length}
-use Rattle.csv.specs.Reading.{Reached, Ready, default_config, owned_rows_left, owned_rows_reader, reader_config, reader_state, reader_trim, source_of, strip_bom}
+use Rattle.csv.specs.Reading.{Reached, Ready, default_config, owned_rows_left, owned_rows_reader, reader_config}
+use Rattle.csv.specs.Reading.{reader_state, reader_trim, source_of, strip_bom}
 use Rattle.csv.specs.declared.parser.State.TheVariants as st
 use Rattle.csv.specs.declared.reader.Trim.TheVariants as trim
 use Rattle.sheet_types.specs.declared.command.Request.{Request}
@@ -19,7 +20,8 @@ IsBegun text requests = (rows : List (List (List ℕ))) × AreFirstRecords text 
 
 -- there is a list of so many requests, and where the text is known it is that one
 abbrev pub IsListOfSo : ℕ → Option (List ℕ) → Type 0
-IsListOfSo count text = (requests : List Request) × (length requests ≡ count) × IfSome text (λ t. IsList t requests)
+IsListOfSo count text = (requests : List Request) × (length requests ≡ count)
+    × IfSome text (λ t. IsList t requests)
 
 module _ {R : Type 0} (rem : R → Option (List ℕ)) where
   -- the first records of a text are a list of these requests, and a reader of records stands behind them

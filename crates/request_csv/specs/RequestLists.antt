@@ -1,4 +1,5 @@
--- Which text is a list of which requests, and which fault of a text is met first (profile, over RFC 4180 as `csv` reads it).
+-- Which text is a list of which requests, and which fault of a text is met first (profile, over RFC 4180 as `csv`
+-- reads it).
 use Rattle.std.specs.Prelude.{◌≡◌, ◌≢◌, ◌⊎◌, ◌+◌, ℕ, List, [], ◌∷◌, length}
 use Rattle.std.specs.List.{AllZip}
 use Rattle.csv.specs.Reading.{AreRecords, Reached, default_config, strip_bom}
@@ -55,7 +56,8 @@ IsFaultOfEnd rows ending.Memory fault = ⊥
 
 -- these are the first records of a text
 abbrev pub AreFirstRecords : List ℕ → List (List (List ℕ)) → Type 0
-AreFirstRecords text rows = (state : State) × (rest : List ℕ) × Reached default_config st.StartRecord (strip_bom text) rows state rest
+AreFirstRecords text rows = (state : State) × (rest : List ℕ)
+    × Reached default_config st.StartRecord (strip_bom text) rows state rest
 
 -- these are all the records of a text
 abbrev pub AreAllRecords : List ℕ → List (List (List ℕ)) → Type 0

@@ -18,8 +18,10 @@ use Rattle.sheet_types.specs.declared.frame.Rect.{Rect}
 
 -- the names of the columns, in their order
 abbrev pub header : List (List ℕ)
-header = codes "request" ∷ codes "at" ∷ codes "command" ∷ codes "package" ∷ codes "identity" ∷ codes "other" ∷ codes "kind" ∷ codes "zoom" ∷ codes "column"
-    ∷ codes "row" ∷ codes "last_column" ∷ codes "last_row" ∷ codes "x" ∷ codes "y" ∷ codes "code" ∷ codes "ticket" ∷ codes "text" ∷ codes "data" ∷ []
+header = codes "request" ∷ codes "at" ∷ codes "command" ∷ codes "package" ∷ codes "identity" ∷ codes "other"
+    ∷ codes "kind" ∷ codes "zoom" ∷ codes "column"
+    ∷ codes "row" ∷ codes "last_column" ∷ codes "last_row" ∷ codes "x" ∷ codes "y" ∷ codes "code"
+    ∷ codes "ticket" ∷ codes "text" ∷ codes "data" ∷ []
 
 -- the field of this column is this text
 abbrev pub IsTextAt : List (List ℕ) → ℕ → List ℕ → Type 0
@@ -45,11 +47,13 @@ AreEmpty fields columns = All (λ column. IsTextAt fields column []) columns
 
 -- the fields of a content beside its kind, and that those of other contents are empty
 abbrev pub HasContent : List (List ℕ) → Content → Type 0
-HasContent fields (Tile zoom column row bytes) = IsNumberAt fields 7 zoom × IsNumberAt fields 8 column × IsNumberAt fields 9 row × IsHexAt fields 17 bytes
+HasContent fields (Tile zoom column row bytes) = IsNumberAt fields 7 zoom × IsNumberAt fields 8 column
+    × IsNumberAt fields 9 row × IsHexAt fields 17 bytes
     × AreEmpty fields (10 ∷ 11 ∷ 12 ∷ 13 ∷ 14 ∷ 16 ∷ [])
 HasContent fields (Media content_type bytes) = IsTextAt fields 16 content_type × IsHexAt fields 17 bytes
     × AreEmpty fields (7 ∷ 8 ∷ 9 ∷ 10 ∷ 11 ∷ 12 ∷ 13 ∷ 14 ∷ [])
-HasContent fields (Row x y code label) = IsNumberAt fields 12 x × IsNumberAt fields 13 y × IsNumberAt fields 14 code × IsTextAt fields 16 label
+HasContent fields (Row x y code label) = IsNumberAt fields 12 x × IsNumberAt fields 13 y × IsNumberAt fields 14 code
+    × IsTextAt fields 16 label
     × AreEmpty fields (7 ∷ 8 ∷ 9 ∷ 10 ∷ 11 ∷ 17 ∷ [])
 
 -- a record that adds this content
@@ -58,7 +62,8 @@ IsContent fields content = IsTextAt fields 6 (kind_word (kind_of content)) × Ha
 
 -- the fields of a link and of an unlink alike, and that those which they don't use are empty
 abbrev pub NamesLink : List (List ℕ) → List ℕ → Relation → Type 0
-NamesLink fields holder link = IsUuidAt fields 3 holder × IsTextAt fields 6 (mapping_word link.mapping) × IsUuidAt fields 4 link.base × IsUuidAt fields 5 link.other
+NamesLink fields holder link = IsUuidAt fields 3 holder × IsTextAt fields 6 (mapping_word link.mapping)
+    × IsUuidAt fields 4 link.base × IsUuidAt fields 5 link.other
     × AreEmpty fields (7 ∷ 8 ∷ 9 ∷ 10 ∷ 11 ∷ 12 ∷ 13 ∷ 14 ∷ 15 ∷ 16 ∷ 17 ∷ [])
 
 -- the fields of a rectangle
@@ -77,15 +82,18 @@ command_word (Merge child into ticket) = codes "merge"
 
 -- the fields of a command beside its word, and that those which it doesn't use are empty
 abbrev pub HasCommand : List (List ℕ) → Command → Type 0
-HasCommand fields (Add target identity content) = IsUuidAt fields 3 target × IsUuidAt fields 4 identity × IsContent fields content
+HasCommand fields (Add target identity content) = IsUuidAt fields 3 target × IsUuidAt fields 4 identity
+    × IsContent fields content
     × AreEmpty fields (5 ∷ 15 ∷ [])
 HasCommand fields (Delete source identity) = IsUuidAt fields 3 source × IsUuidAt fields 4 identity
     × AreEmpty fields (5 ∷ 6 ∷ 7 ∷ 8 ∷ 9 ∷ 10 ∷ 11 ∷ 12 ∷ 13 ∷ 14 ∷ 15 ∷ 16 ∷ 17 ∷ [])
 HasCommand fields (Link target mapping base other) = NamesLink fields target (relation mapping base other)
 HasCommand fields (Unlink source mapping base other) = NamesLink fields source (relation mapping base other)
-HasCommand fields (Split source child mode rect) = IsUuidAt fields 3 source × IsUuidAt fields 5 child × IsTextAt fields 6 (mode_word mode)
+HasCommand fields (Split source child mode rect) = IsUuidAt fields 3 source × IsUuidAt fields 5 child
+    × IsTextAt fields 6 (mode_word mode)
     × HasRect fields rect × AreEmpty fields (4 ∷ 12 ∷ 13 ∷ 14 ∷ 15 ∷ 16 ∷ 17 ∷ [])
-HasCommand fields (Merge child into ticket) = IsUuidAt fields 3 child × IsUuidAt fields 5 into × IsNumberAt fields 15 ticket
+HasCommand fields (Merge child into ticket) = IsUuidAt fields 3 child × IsUuidAt fields 5 into
+    × IsNumberAt fields 15 ticket
     × AreEmpty fields (4 ∷ 6 ∷ 7 ∷ 8 ∷ 9 ∷ 10 ∷ 11 ∷ 12 ∷ 13 ∷ 14 ∷ 16 ∷ 17 ∷ [])
 
 -- a record that asks for this command

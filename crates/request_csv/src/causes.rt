@@ -4,7 +4,8 @@ ghost use Rattle.std.specs.List.{AllZip};
 ghost use Rattle.std.specs.Vec.Iter.{into_iter_items};
 ghost use Rattle.csv.specs.Records.{fields_of};
 ghost use Rattle.sheet_types.specs.declared.command.Request.{Request};
-ghost use Rattle.request_csv.specs.Causes.{CauseIsMetFirst, IsCause, IsCauseFrom, IsCauseOf, IsHeaderFault, IsRecordFault, read_fault};
+ghost use Rattle.request_csv.specs.Causes.{CauseIsMetFirst, IsCause, IsCauseFrom, IsCauseOf, IsHeaderFault};
+ghost use Rattle.request_csv.specs.Causes.{IsRecordFault, read_fault};
 ghost use Rattle.request_csv.specs.RequestLists.{AreList, Asks, IsList};
 ghost use Rattle.request_csv.specs.Requests.{header};
 
@@ -91,7 +92,8 @@ fn header_fault(alloc: Global, row: ByteRecord) -> Result<Option<RecordFault>, O
 /// Why the records after the header are no requests; nothing where all are.
 fn cause_in(alloc: Global, rows: IntoIter<ByteRecord>) -> Result<Option<ListFault>, OutOfMemory>
     ensures some { IfOk result (λ found. IfSome found (IsCauseFrom 1 (map fields_of (into_iter_items rows)))) }
-    ensures none { IfOk result (λ found. IfNone found ((requests : List Request) × AllZip Asks (map fields_of (into_iter_items rows)) requests)) }
+    ensures none { IfOk result (λ found. IfNone found ((requests : List Request)
+        × AllZip Asks (map fields_of (into_iter_items rows)) requests)) }
 {
     let mut so_far: u64 = 0;
     for row in rows {
@@ -110,7 +112,8 @@ fn cause_in(alloc: Global, rows: IntoIter<ByteRecord>) -> Result<Option<ListFaul
 /// Why these records are no list; nothing where they are one.
 fn cause_of_records(alloc: Global, rows: Vec<ByteRecord>) -> Result<Option<ListFault>, OutOfMemory>
     ensures some { IfOk result (λ found. IfSome found (IsCauseOf (map fields_of rows.items))) }
-    ensures none { IfOk result (λ found. IfNone found ((requests : List Request) × AreList (map fields_of rows.items) requests)) }
+    ensures none { IfOk result (λ found. IfNone found ((requests : List Request)
+        × AreList (map fields_of rows.items) requests)) }
 {
     let mut rest = rows.into_iter();
     let Some(first) = rest.next() else {
@@ -122,7 +125,8 @@ fn cause_of_records(alloc: Global, rows: Vec<ByteRecord>) -> Result<Option<ListF
     cause_in(alloc, rest)
 }
 
-/// Why a text is no list of requests: the first record that is none, and the first of its columns that is not what it has to be; nothing where the text is a list.
+/// Why a text is no list of requests: the first record that is none, and the first of its columns
+/// that is not what it has to be; nothing where the text is a list.
 ///
 /// It is asked after the fact, of a text of which `read_requests` told a fault (`read_fault`). It reads the text anew.
 ///

@@ -29,7 +29,8 @@ const NOT_OF_ROW: [usize; 6] = [7, 8, 9, 10, 11, 17];
 fn tile_of(alloc: Global, row: &StringRecord) -> Result<Option<Content>, OutOfMemory>
     requires kind { IsTextAt (fields_of row.now) 6 (kind_word TileItem) }
     ensures some { IfOk result (λ found. IfSome found (λ tile. IsContent (fields_of row.now) tile)) }
-    ensures none { IfOk result (λ found. IfNone found ((zoom column line : ℤ) (bytes : List ℕ) → ¬ IsContent (fields_of row.now) (content.Tile zoom column line bytes))) }
+    ensures none { IfOk result (λ found. IfNone found ((zoom column line : ℤ) (bytes : List ℕ)
+        → ¬ IsContent (fields_of row.now) (content.Tile zoom column line bytes))) }
 {
     if !are_empty(row, &NOT_OF_TILE) {
         return Ok(None);
@@ -59,7 +60,8 @@ fn tile_of(alloc: Global, row: &StringRecord) -> Result<Option<Content>, OutOfMe
 fn media_of(alloc: Global, row: &StringRecord) -> Result<Option<Content>, OutOfMemory>
     requires kind { IsTextAt (fields_of row.now) 6 (kind_word MediaItem) }
     ensures some { IfOk result (λ found. IfSome found (λ medium. IsContent (fields_of row.now) medium)) }
-    ensures none { IfOk result (λ found. IfNone found ((content_type bytes : List ℕ) → ¬ IsContent (fields_of row.now) (content.Media content_type bytes))) }
+    ensures none { IfOk result (λ found. IfNone found ((content_type bytes : List ℕ)
+        → ¬ IsContent (fields_of row.now) (content.Media content_type bytes))) }
 {
     if !are_empty(row, &NOT_OF_MEDIA) {
         return Ok(None);
@@ -81,7 +83,8 @@ fn media_of(alloc: Global, row: &StringRecord) -> Result<Option<Content>, OutOfM
 fn row_of(alloc: Global, row: &StringRecord) -> Result<Option<Content>, OutOfMemory>
     requires kind { IsTextAt (fields_of row.now) 6 (kind_word RowItem) }
     ensures some { IfOk result (λ found. IfSome found (λ added. IsContent (fields_of row.now) added)) }
-    ensures none { IfOk result (λ found. IfNone found ((x y code : ℤ) (label : List ℕ) → ¬ IsContent (fields_of row.now) (content.Row x y code label))) }
+    ensures none { IfOk result (λ found. IfNone found ((x y code : ℤ) (label : List ℕ)
+        → ¬ IsContent (fields_of row.now) (content.Row x y code label))) }
 {
     if !are_empty(row, &NOT_OF_ROW) {
         return Ok(None);
@@ -104,7 +107,8 @@ fn row_of(alloc: Global, row: &StringRecord) -> Result<Option<Content>, OutOfMem
 /// The content that a record adds, by its kind.
 pub fn content_of(alloc: Global, row: &StringRecord) -> Result<Option<Content>, OutOfMemory>
     ensures some { IfOk result (λ found. IfSome found (λ content. IsContent (fields_of row.now) content)) }
-    ensures none { IfOk result (λ found. IfNone found ((content : Content) → ¬ IsContent (fields_of row.now) content)) }
+    ensures none { IfOk result (λ found. IfNone found ((content : Content)
+        → ¬ IsContent (fields_of row.now) content)) }
 {
     let Some(kind) = kind_at(row, KIND) else {
         return Ok(None);

@@ -2,7 +2,8 @@
 ghost use Rattle.std.specs.Prelude.{◌≡◌, ◌↔◌, ℕ, List, IfOk, IfSome, IfNone, IsTrue};
 ghost use Rattle.csv.specs.Records.{fields_of};
 ghost use Rattle.sheet_types.specs.declared.command.Request.{Request};
-ghost use Rattle.request_csv.specs.Forms.{FaultAsksNothing, IsColumnAtFault, IsFirstUnmet, IsForm, MeetFrom, MeetsAt, column_name, columns_of, header_wants};
+ghost use Rattle.request_csv.specs.Forms.{FaultAsksNothing, IsColumnAtFault, IsFirstUnmet, IsForm, MeetFrom, MeetsAt};
+ghost use Rattle.request_csv.specs.Forms.{column_name, columns_of, header_wants};
 ghost use Rattle.request_csv.specs.Requests.{IsRequest, IsTextAt};
 ghost use Rattle.request_csv.specs.declared.forms.Want.TheVariants as want;
 ghost use Rattle.std.specs.Prelude.{[], codes, get_or, length, map};

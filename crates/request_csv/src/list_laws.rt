@@ -1,4 +1,6 @@
-//! Laws of request lists, each the contract of a function that does nothing. With them the clauses of `read_requests` are exact: over a reader that tells its bytes, a list is answered by its requests, and a text with a fault by that fault, or else by Read or Memory.
+//! Laws of request lists, each the contract of a function that does nothing. With them the clauses
+//! of `read_requests` are exact: over a reader that tells its bytes, a list is answered by its
+//! requests, and a text with a fault by that fault, or else by Read or Memory.
 ghost use Rattle.request_csv.specs.ListLaws.{HasOneList, ListGoesOn, ListHasNoFault, OneIsFirst};
 
 /// A text is a list of one list of requests at most.

@@ -1,10 +1,12 @@
 //! A request list as a whole: its header, its requests, and the fault that is met first.
-ghost use Rattle.std.specs.Prelude.{◌≡◌, ◌≢◌, ◌⊎◌, ◌↔◌, [], ◌∷◌, map, IsTrue, IfOk, IfErr, IfSome};
+ghost use Rattle.std.specs.Prelude.{◌≡◌, ◌≢◌, ◌⊎◌, ◌↔◌, [], ◌∷◌, map, IsTrue, IfOk};
+ghost use Rattle.std.specs.Prelude.{IfErr, IfSome};
 ghost use Rattle.std.specs.List.{AllZip};
 ghost use Rattle.std.specs.Vec.Iter.{into_iter_items};
 ghost use Rattle.csv.specs.Records.{fields_of};
 ghost use Rattle.request_csv.specs.Requests.{header};
-ghost use Rattle.request_csv.specs.RequestLists.{AreList, Asks, IsFaultFrom, IsFaultOf, IsFaultOfEnd, IsList, MeetsFirst};
+ghost use Rattle.request_csv.specs.RequestLists.{AreList, Asks, IsFaultFrom, IsFaultOf, IsFaultOfEnd, IsList};
+ghost use Rattle.request_csv.specs.RequestLists.{MeetsFirst};
 ghost use Rattle.request_csv.specs.declared.records.Ending.TheVariants as ending;
 ghost use Rattle.request_csv.specs.declared.lists.ReadFault.TheVariants as fault;
 
@@ -93,7 +95,8 @@ pub(crate) fn request_in(alloc: Global, number: u64, row: ByteRecord) -> Result<
     let Ok(text) = StringRecord::from_byte_record(row) else {
         return Err(ReadFault::Read);
     };
-    // `request_of` looks again, and finds no request: only here is a record of another length told from one that asks nothing.
+    // `request_of` looks again, and finds no request: only here is a record of another length told
+    // from one that asks nothing.
     if text.len() != COUNT {
         return Err(ReadFault::Read);
     }
@@ -123,7 +126,8 @@ pub(crate) fn check_header(row: ByteRecord) -> Result<(), ReadFault>
 /// The requests that the records after the header are.
 fn requests_in(alloc: Global, rows: IntoIter<ByteRecord>) -> Result<Vec<Request>, ReadFault>
     ensures asks { IfOk result (λ requests. AllZip Asks (map fields_of (into_iter_items rows)) requests.items) }
-    ensures fault { IfErr result (λ met. (met ≡ fault.Memory) ⊎ IsFaultFrom 1 (map fields_of (into_iter_items rows)) met) }
+    ensures fault { IfErr result (λ met. (met ≡ fault.Memory)
+        ⊎ IsFaultFrom 1 (map fields_of (into_iter_items rows)) met) }
 {
     let mut requests = Vec::new(alloc);
     for row in rows {
@@ -136,14 +140,18 @@ fn requests_in(alloc: Global, rows: IntoIter<ByteRecord>) -> Result<Vec<Request>
     Ok(requests)
 }
 
-/// The requests of a list, of its records and how they ended. A fault of the records comes before one of their end: Header where there is no record at all, Read where the reader failed after records that have no fault.
+/// The requests of a list, of its records and how they ended. A fault of the records comes before
+/// one of their end: Header where there is no record at all, Read where the reader failed after
+/// records that have no fault.
 pub(crate) fn requests_of(
     alloc: Global,
     rows: Vec<ByteRecord>,
     ended: Ending,
 ) -> Result<Vec<Request>, ReadFault>
-    ensures list { IfOk result (λ requests. (ended ≡ ending.End) × AreList (map fields_of rows.items) requests.items) }
-    ensures fault { IfErr result (λ met. (met ≡ fault.Memory) ⊎ IsFaultOf (map fields_of rows.items) met ⊎ IsFaultOfEnd (map fields_of rows.items) ended met) }
+    ensures list { IfOk result (λ requests. (ended ≡ ending.End)
+        × AreList (map fields_of rows.items) requests.items) }
+    ensures fault { IfErr result (λ met. (met ≡ fault.Memory) ⊎ IsFaultOf (map fields_of rows.items) met
+        ⊎ IsFaultOfEnd (map fields_of rows.items) ended met) }
 {
     let mut rest = rows.into_iter();
     let Some(first) = rest.next() else {
@@ -173,14 +181,20 @@ fn ending_of<R: ListSource>(ended: Ending) -> Ending
     ended
 }
 
-/// The requests of a list: a record of the names of the columns, and after it one record for each request. Everything is read and judged before any request is answered. A byte order mark at the start and blank lines are passed over; CR, LF and CR LF end records (RFC 4180, section 2, and beyond it as `csv` reads). A reader that fails is Read, unless a record before it is a fault. Of a text in memory Read is told of nothing but a record that cannot be read.
+/// The requests of a list: a record of the names of the columns, and after it one record for each
+/// request. Everything is read and judged before any request is answered. A byte order mark at the
+/// start and blank lines are passed over; CR, LF and CR LF end records (RFC 4180, section 2, and
+/// beyond it as `csv` reads). A reader that fails is Read, unless a record before it is a fault. Of
+/// a text in memory Read is told of nothing but a record that cannot be read.
 pub fn read_requests<R: ListSource + Drop>(
     alloc: Global,
     reader: R,
 ) -> Result<Vec<Request>, ReadFault>
     ensures list { IfOk result (λ requests. IfSome (R.remaining reader) (λ text. IsList text requests.items)) }
-    ensures fault { IfErr result (λ met. (met ≡ fault.Read) ⊎ (met ≡ fault.Memory) ⊎ IfSome (R.remaining reader) (λ text. MeetsFirst text met)) }
-    ensures cause { R.never_fails → IfErr result (λ met. (met ≡ fault.Memory) ⊎ IfSome (R.remaining reader) (λ text. MeetsFirst text met)) }
+    ensures fault { IfErr result (λ met. (met ≡ fault.Read) ⊎ (met ≡ fault.Memory)
+        ⊎ IfSome (R.remaining reader) (λ text. MeetsFirst text met)) }
+    ensures cause { R.never_fails → IfErr result (λ met. (met ≡ fault.Memory)
+        ⊎ IfSome (R.remaining reader) (λ text. MeetsFirst text met)) }
 {
     let (rows, ended) = read_records(alloc, reader);
     requests_of(alloc, rows, ending_of::<R>(ended))

@@ -1,5 +1,6 @@
 //! A reader of a list that gives one request after the other, and holds one record at a time.
-ghost use Rattle.std.specs.Prelude.{◌≡◌, ◌⊎◌, ◌++◌, ◌∷◌, [], ℕ, List, Option, length, IfOk, IfErr, IfSome, IfNone};
+ghost use Rattle.std.specs.Prelude.{◌≡◌, ◌⊎◌, ◌++◌, ◌∷◌, [], ℕ, List, Option, length, IfOk};
+ghost use Rattle.std.specs.Prelude.{IfErr, IfSome, IfNone};
 ghost use Rattle.sheet_types.specs.declared.command.Request.{Request};
 ghost use Rattle.request_csv.specs.RequestLists.{IsList, MeetsFirst};
 ghost use Rattle.request_csv.specs.ListReading.{IsListOfSo, IsOfReader, Stands};
@@ -63,7 +64,8 @@ impl<R: ListSource + Drop> ListReader<R> {
     ///
     /// The fault of its record, or of the reader.
     pub fn next_request(&mut self, alloc: Global) -> Result<Option<Request>, ReadFault>
-        ensures more { IfOk result (λ found. IfSome found (λ request. (text : Option (List ℕ)) (before : List Request)
+        ensures more { IfOk result (λ found. IfSome found (λ request. (text : Option (List ℕ))
+            (before : List Request)
             → Stands R.remaining text self.old before
             → Stands R.remaining text self.new (before ++ request ∷ []))) }
         ensures end { IfOk result (λ found. IfNone found ((text : Option (List ℕ)) (before : List Request)

@@ -21,11 +21,13 @@ pub enum Ending {
     Memory,
 }
 
-/// The records of a reader as far as it gave them, of any lengths and bytes. A byte order mark at the start is passed over, blank lines too; CR, LF and CR LF end records.
+/// The records of a reader as far as it gave them, of any lengths and bytes. A byte order mark at
+/// the start is passed over, blank lines too; CR, LF and CR LF end records.
 pub fn read_records<R: Read + Drop>(alloc: Global, reader: R) -> (Vec<ByteRecord>, Ending)
     ensures front { IfSome (R.remaining reader) (λ xs. (s : State) × (ys : List ℕ)
         × Reached default_config st.StartRecord (strip_bom xs) (map fields_of result.0.items) s ys) }
-    ensures whole { result.1 ≡ ending.End → IfSome (R.remaining reader) (λ xs. AreRecords default_config st.StartRecord (strip_bom xs) (map fields_of result.0.items)) }
+    ensures whole { result.1 ≡ ending.End → IfSome (R.remaining reader)
+        (λ xs. AreRecords default_config st.StartRecord (strip_bom xs) (map fields_of result.0.items)) }
 {
     let source = ReaderBuilder::new()
         .has_headers(false)

@@ -28,7 +28,8 @@ const NOT_OF_LINK: [usize; 11] = [7, 8, 9, 10, 11, 12, 13, 14, 15, 16, 17];
 /// The package and the link that a record names.
 fn named_link(row: &StringRecord) -> Option<(Uuid, Relation)>
     ensures some { IfSome result (λ named. NamesLink (fields_of row.now) named.0 named.1) }
-    ensures none { IfNone result ((holder : List ℕ) (link : Relation) → ¬ NamesLink (fields_of row.now) holder link) }
+    ensures none { IfNone result ((holder : List ℕ) (link : Relation)
+        → ¬ NamesLink (fields_of row.now) holder link) }
 {
     if !are_empty(row, &NOT_OF_LINK) {
         return None;
@@ -44,7 +45,8 @@ fn named_link(row: &StringRecord) -> Option<(Uuid, Relation)>
 fn link_of(row: &StringRecord) -> Option<Command>
     requires word { IsTextAt (fields_of row.now) 2 (codes "link") }
     ensures some { IfSome result (λ found. IsCommand (fields_of row.now) found) }
-    ensures none { IfNone result ((target base other : List ℕ) (mapping : Mapping) → ¬ IsCommand (fields_of row.now) (command.Link target mapping base other)) }
+    ensures none { IfNone result ((target base other : List ℕ) (mapping : Mapping)
+        → ¬ IsCommand (fields_of row.now) (command.Link target mapping base other)) }
 {
     let (package, link) = named_link(row)?;
     Some(Command::Link {
@@ -59,7 +61,8 @@ fn link_of(row: &StringRecord) -> Option<Command>
 fn unlink_of(row: &StringRecord) -> Option<Command>
     requires word { IsTextAt (fields_of row.now) 2 (codes "unlink") }
     ensures some { IfSome result (λ found. IsCommand (fields_of row.now) found) }
-    ensures none { IfNone result ((source base other : List ℕ) (mapping : Mapping) → ¬ IsCommand (fields_of row.now) (command.Unlink source mapping base other)) }
+    ensures none { IfNone result ((source base other : List ℕ) (mapping : Mapping)
+        → ¬ IsCommand (fields_of row.now) (command.Unlink source mapping base other)) }
 {
     let (package, link) = named_link(row)?;
     Some(Command::Unlink {
@@ -74,7 +77,8 @@ fn unlink_of(row: &StringRecord) -> Option<Command>
 fn delete_of(row: &StringRecord) -> Option<Command>
     requires word { IsTextAt (fields_of row.now) 2 (codes "delete") }
     ensures some { IfSome result (λ found. IsCommand (fields_of row.now) found) }
-    ensures none { IfNone result ((source identity : List ℕ) → ¬ IsCommand (fields_of row.now) (command.Delete source identity)) }
+    ensures none { IfNone result ((source identity : List ℕ)
+        → ¬ IsCommand (fields_of row.now) (command.Delete source identity)) }
 {
     if !are_empty(row, &NOT_OF_DELETE) {
         return None;
@@ -91,7 +95,8 @@ const NOT_OF_ADD: [usize; 2] = [5, 15];
 fn add_of(alloc: Global, row: &StringRecord) -> Result<Option<Command>, OutOfMemory>
     requires word { IsTextAt (fields_of row.now) 2 (codes "add") }
     ensures some { IfOk result (λ found. IfSome found (λ addition. IsCommand (fields_of row.now) addition)) }
-    ensures none { IfOk result (λ found. IfNone found ((target identity : List ℕ) (content : Content) → ¬ IsCommand (fields_of row.now) (command.Add target identity content))) }
+    ensures none { IfOk result (λ found. IfNone found ((target identity : List ℕ) (content : Content)
+        → ¬ IsCommand (fields_of row.now) (command.Add target identity content))) }
 {
     if !are_empty(row, &NOT_OF_ADD) {
         return Ok(None);
@@ -134,7 +139,8 @@ pub fn command_of(alloc: Global, row: &StringRecord) -> Result<Option<Command>, 
 /// The request that a record is.
 pub fn request_of(alloc: Global, row: &StringRecord) -> Result<Option<Request>, OutOfMemory>
     ensures some { IfOk result (λ found. IfSome found (λ request. IsRequest (fields_of row.now) request)) }
-    ensures none { IfOk result (λ found. IfNone found ((request : Request) → ¬ IsRequest (fields_of row.now) request)) }
+    ensures none { IfOk result (λ found. IfNone found ((request : Request)
+        → ¬ IsRequest (fields_of row.now) request)) }
 {
     if row.len() != COUNT {
         return Ok(None);

@@ -1,5 +1,6 @@
 -- A list that is the same at both readings is carried out as one that is held.
-use Rattle.std.proofs.Common.{◌≡◌, ◌∙◌, ◌⊎◌, ◌-◌, ◌≤◌, ◌++◌, ◌∷◌, [], ℕ, zero, suc, List, Option, Some, None, Result}
+use Rattle.std.proofs.Common.{◌≡◌, ◌∙◌, ◌⊎◌, ◌-◌, ◌≤◌, ◌++◌, ◌∷◌, [], ℕ, zero}
+use Rattle.std.proofs.Common.{suc, List, Option, Some, None, Result}
 use Rattle.std.proofs.Common.{Ok, Err, IfSome, take, length, length-append, append-nil, ap, refl, sym, subst, inl}
 use Rattle.std.proofs.Common.{inr, arith}
 use Rattle.std.proofs.Math.Logic.{⊎_elim}
@@ -49,7 +50,8 @@ before_more requests rest (x ∷ xs) le =
 -- the list of which some requests are the first
 whole : (text : Option (List ℕ)) (all requests : List Request) → IfSome text (λ t. IsList t all)
     → IfSome text (λ t. IsBegun t requests)
-    → (list : List Request) × IfSome text (λ t. IsList t list) × ((rest : List Request) × (list ≡ requests ++ rest))
+    → (list : List Request) × IfSome text (λ t. IsList t list)
+    × ((rest : List Request) × (list ≡ requests ++ rest))
 whole None all requests list begun = (requests, tt, ([], sym (append-nil requests)))
 whole (Some t) all requests list begun = (all, list, list_goes_on t all requests list begun)
 
@@ -109,7 +111,8 @@ first_within n requests list rest long same =
     omega (arith, long, grown, length-append requests rest)
 
 module _ {S : Type 0} (g : Ghosts S) where
-  module _ (requests rest : List Request) (old new : Seen S) (failed fails : ℕ) (before after : Option (List ℕ)) where
+  module _ (requests rest : List Request) (old new : Seen S) (failed fails : ℕ)
+      (before after : Option (List ℕ)) where
     stopped_more : (n : ℕ) (fault : Fault) → IsImported g requests old new failed fails before after
         (Err (Stopped n fault))
         → IsImported g (requests ++ rest) old new failed fails before after (Err (Stopped n fault))
@@ -175,7 +178,8 @@ module _ {S : Type 0} (g : Ghosts S) where
         → Once text (Err (Import (Unread why)))
     unread_went text why it = absurd it.2.2.written
 
-    stopped_stayed : (text : Option (List ℕ)) (n : ℕ) (fault : Fault) → Stayed text (Err (Import (Stopped n fault)))
+    stopped_stayed : (text : Option (List ℕ)) (n : ℕ) (fault : Fault)
+        → Stayed text (Err (Import (Stopped n fault)))
         → Once text (Err (Import (Stopped n fault)))
     stopped_stayed text n fault it = cc it.1
 
@@ -209,12 +213,14 @@ module _ {S : Type 0} (g : Ghosts S) where
           (unwritten_more requests rest old new failed fails before after it),
     )
 
-    unwritten_went : (text : Option (List ℕ)) → Went text (Err (Import Unwritten)) → Once text (Err (Import Unwritten))
+    unwritten_went : (text : Option (List ℕ)) → Went text (Err (Import Unwritten))
+        → Once text (Err (Import Unwritten))
     unwritten_went text it =
         let w = whole text it.1.0 it.2.0 it.1.2 it.2.1.1 in
         unwritten_whole text it.2.0 w.0 w.2.0 w.1 w.2.1 it.2.2
 
-    changed_stayed : (text : Option (List ℕ)) (n : ℕ) → Stayed text (Err (Changed n)) → Once text (Err (Changed n))
+    changed_stayed : (text : Option (List ℕ)) (n : ℕ) → Stayed text (Err (Changed n))
+        → Once text (Err (Changed n))
     changed_stayed text n it = cc it.1
 
     changed_went : (text : Option (List ℕ)) (n : ℕ) → Went text (Err (Changed n)) → Once text (Err (Changed n))
@@ -226,7 +232,8 @@ module _ {S : Type 0} (g : Ghosts S) where
 
     broken_whole : (text : Option (List ℕ)) (n : ℕ) (fault : ReadFault) (requests list rest : List Request)
         → IfSome text (λ t. (fault ≡ Memory) ⊎ (fault ≡ Read)) → IfSome text (λ t. IsList t list)
-        → n ≤ length list → take n list ≡ requests → Came requests (Ok tt) → Once text (Err (Broken n fault))
+        → n ≤ length list → take n list ≡ requests → Came requests (Ok tt)
+        → Once text (Err (Broken n fault))
     broken_whole text n fault requests list rest why is le first it =
         (why, (list, is, le, subst (λ qs. Came qs (Ok tt)) (sym first) it))
 

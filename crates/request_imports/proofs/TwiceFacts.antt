@@ -1,5 +1,6 @@
 -- An import of a list that is read twice, request by request.
-use Rattle.std.proofs.Common.{◌≡◌, ◌∙◌, ◌⊎◌, ◌+◌, ◌<◌, ◌≤◌, ◌++◌, ◌∷◌, [], ℕ, List, Option, Some, None, Result, Ok}
+use Rattle.std.proofs.Common.{◌≡◌, ◌∙◌, ◌⊎◌, ◌+◌, ◌<◌, ◌≤◌, ◌++◌, ◌∷◌, []}
+use Rattle.std.proofs.Common.{ℕ, List, Option, Some, None, Result, Ok}
 use Rattle.std.proofs.Common.{Err, IfErr, IfSome, take, length, length-append, append-nil, get_or, ap, refl, sym}
 use Rattle.std.proofs.Common.{subst, inl, inr, arith}
 use Rattle.std.specs.Io.KnownBytes.{Appends}
@@ -59,10 +60,13 @@ counted_all count done why (inl e) = subst (λ w. IsCountTwice count done (Err w
 counted_all count done why (inr (met, e)) = subst (λ w. IsCountTwice count done (Err w)) (sym e) refl
 
 -- a second reading that met a fault
-pub ends_broken : {Q : Type 0} (rem : Q → Option (List ℕ)) (NeverFails : Type 0) (list : ListReader Q) (met : ReadFault)
-    → IsOfReader NeverFails met ⊎ ((text : Option (List ℕ)) (before : List Request) → Stands rem text list before
+pub ends_broken : {Q : Type 0} (rem : Q → Option (List ℕ)) (NeverFails : Type 0) (list : ListReader Q)
+    (met : ReadFault)
+    → IsOfReader NeverFails met ⊎ ((text : Option (List ℕ)) (before : List Request)
+    → Stands rem text list before
     → IfSome text (λ t. MeetsFirst t met))
-    → (count done : ℕ) (text : Option (List ℕ)) (before : List Request) → done ≤ count → length before ≡ done
+    → (count done : ℕ) (text : Option (List ℕ)) (before : List Request) → done ≤ count
+    → length before ≡ done
     → Stands rem text list before → Ends text count before (Err (Broken done met))
 ends_broken rem NeverFails list met (inl (inl want)) count done text before le long stands =
     (long, le, stands_begun rem text list before stands, inl want)
@@ -79,7 +83,8 @@ ends_short count done None before few long list = (long, tt)
 ends_short count done (Some t) before few long list = (long, inl (omega (arith, few, long), list))
 
 -- and one that had more
-pub ends_long : (done : ℕ) (text : Option (List ℕ)) (before : List Request) (more : Request) → length before ≡ done
+pub ends_long : (done : ℕ) (text : Option (List ℕ)) (before : List Request) (more : Request)
+    → length before ≡ done
     → IfSome text (λ t. IsBegun t before) → IfSome text (λ t. IsBegun t (before ++ more ∷ []))
     → Ends text done before (Err (Changed done))
 ends_long done None before more long begun on = (long, tt)
@@ -103,7 +108,8 @@ end_begun (Some t) count requests (Err (Changed n)) ends = other_begun t count r
 end_begun (Some t) count requests (Err (Broken n fault)) ends = ends.2
 
 -- what was told where a reading broke off
-pub told_broken : (count done : ℕ) (why : TwiceFault) (before after : Option (List (ℕ × ℕ))) → BreaksAt done why
+pub told_broken : (count done : ℕ) (why : TwiceFault) (before after : Option (List (ℕ × ℕ)))
+    → BreaksAt done why
     → Tells before after (counts count done)
     → AreToldTwice count before after (Err why)
 told_broken count done why before after breaks told = (done, counted_all count done why breaks, told)
@@ -128,7 +134,8 @@ unread_again NeverFails text fault (inl (inr failed)) = inl failed.0
 unread_again NeverFails text fault (inr met) = inr (inr met)
 
 module _ {S : Type 0} (g : Ghosts S) where
-  module _ (requests : List Request) (n : ℕ) (old new : Seen S) (failed fails : ℕ) (before after : Option (List ℕ))
+  module _ (requests : List Request) (n : ℕ) (old new : Seen S) (failed fails : ℕ)
+      (before after : Option (List ℕ))
       (counted : length requests ≡ n) (it : SoFar g requests n old new failed fails before after) where
     -- the same of a list that has a request more
     longer : (request : Request) → SoFar g (requests ++ request ∷ []) n old new failed fails before after
@@ -143,7 +150,8 @@ module _ {S : Type 0} (g : Ghosts S) where
       where
         same : take n requests ≡ take n (requests ++ request ∷ [])
         same = ap (λ k. take k requests) (sym counted) ∙ take_all requests
-            ∙ sym (ap (λ k. take k (requests ++ request ∷ [])) (sym counted) ∙ take-append_seam requests (request ∷ []))
+            ∙ sym (ap (λ k. take k (requests ++ request ∷ [])) (sym counted)
+            ∙ take-append_seam requests (request ∷ []))
 
     -- all of them were carried out
     all_done : (x : Unit {0}) → IsReported g requests old new failed fails before after (Ok x)
@@ -157,7 +165,8 @@ module _ {S : Type 0} (g : Ghosts S) where
   module _ {Q H : Type 0} (rem : Q → Option (List ℕ)) (Asks : List ℕ → H → H → Type 0)
       (Takes : List ℕ → S → H → H → Type 0) where
     -- n requests were read, carried out and reported
-    pub record ReadSoFar (n : ℕ) (list list' : ListReader Q) (old new : Seen S) (shelf shelf' : H) (failed fails : ℕ)
+    pub record ReadSoFar (n : ℕ) (list list' : ListReader Q) (old new : Seen S) (shelf shelf' : H)
+        (failed fails : ℕ)
         (before after : Option (List ℕ)) : Type 0 where
       pub begun : List Request
       pub counted : length begun ≡ n
@@ -166,7 +175,8 @@ module _ {S : Type 0} (g : Ghosts S) where
       pub uses : IsUsedForEach Asks Takes begun shelf shelf'
 
     -- what a loop over a second reading owes
-    abbrev pub ReportsRead : ℕ → ListReader Q → Seen S → Seen S → H → H → ℕ → ℕ → Option (List ℕ) → Option (List ℕ)
+    abbrev pub ReportsRead : ℕ → ListReader Q → Seen S → Seen S → H → H → ℕ → ℕ
+        → Option (List ℕ) → Option (List ℕ)
         → Result (Unit {0}) TwiceFault → Type 0
     ReportsRead count list old new shelf shelf' failed fails before after r = (requests : List Request)
         × ((text : Option (List ℕ)) → Stands rem text list [] → Ends text count requests r)

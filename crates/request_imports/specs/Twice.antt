@@ -1,5 +1,6 @@
 -- What an import makes of a world, and what it writes, where the list is read twice in place of being held. Profile.
-use Rattle.std.specs.Prelude.{◌≡◌, ◌⊎◌, ◌≤◌, ◌<◌, ℕ, List, [], ◌∷◌, ◌++◌, Option, Result, Ok, Err, IfSome, length, take}
+use Rattle.std.specs.Prelude.{◌≡◌, ◌⊎◌, ◌≤◌, ◌<◌, ℕ, List, [], ◌∷◌, ◌++◌, Option}
+use Rattle.std.specs.Prelude.{Result, Ok, Err, IfSome, length, take}
 use Rattle.sqlite.specs.Store.{Ghosts}
 use Rattle.sheet_types.specs.declared.command.Request.{Request}
 use Rattle.world.specs.Asked.{IsUsedForEach}
@@ -27,7 +28,8 @@ as_import (Err (Broken n fault)) = Ok tt
 -- are so many
 abbrev pub IsOther : ℕ → List Request → List ℕ → Type 0
 IsOther count requests text = ((length requests < count) × IsList text requests)
-    ⊎ ((length requests ≡ count) × IsBegun text requests × ((more : Request) × IsBegun text (requests ++ more ∷ [])))
+    ⊎ ((length requests ≡ count) × IsBegun text requests × ((more : Request)
+    × IsBegun text (requests ++ more ∷ [])))
 
 -- what the end of a second reading tells of its text, where the first had so many requests, and these were carried out
 abbrev pub Ends : Option (List ℕ) → ℕ → List Request → Result (Unit {0}) TwiceFault → Type 0
@@ -49,7 +51,8 @@ IsCountTwice all n (Err (Import fault)) = IsCount all n (Err fault)
 IsCountTwice all n (Err (Changed k)) = n ≡ k
 IsCountTwice all n (Err (Broken k fault)) = n ≡ k
 
-abbrev pub AreToldTwice : ℕ → Option (List (ℕ × ℕ)) → Option (List (ℕ × ℕ)) → Result (Unit {0}) TwiceFault → Type 0
+abbrev pub AreToldTwice : ℕ → Option (List (ℕ × ℕ)) → Option (List (ℕ × ℕ))
+    → Result (Unit {0}) TwiceFault → Type 0
 AreToldTwice all before after r = (n : ℕ) × IsCountTwice all n r × Tells before after (counts all n)
 
 -- a list was not read, at the first reading or at its header at the second
@@ -64,7 +67,8 @@ IsToldTwice text before after r = (WasUnread r × Tells before after [])
 
 -- The shelf was used for the requests that were carried out, in turn, and for nothing else; by a list that was not
 -- read it was not used.
-abbrev pub UsesTwice : {S H : Type 0} → (List ℕ → H → H → Type 0) → (List ℕ → S → H → H → Type 0) → Option (List ℕ)
+abbrev pub UsesTwice : {S H : Type 0} → (List ℕ → H → H → Type 0)
+    → (List ℕ → S → H → H → Type 0) → Option (List ℕ)
     → H → H
     → Result (Unit {0}) TwiceFault → Type 0
 UsesTwice Asks Takes again before after r = (WasUnread r × (after ≡ before))
@@ -74,10 +78,12 @@ UsesTwice Asks Takes again before after r = (WasUnread r × (after ≡ before))
 module _ {S : Type 0} (g : Ghosts S) where
   -- Of a first and a second text: where either is not read, nothing is carried out and nothing is written. Else the
   -- first is a list of so many requests, and these are the requests at the start of the second text that were read.
-  abbrev pub ImportsTwice : {W : Type 0} → Option (List ℕ) → Option (List ℕ) → Seen S → Seen S → ℕ → ℕ → W → W
+  abbrev pub ImportsTwice : {W : Type 0} → Option (List ℕ) → Option (List ℕ) → Seen S → Seen S → ℕ
+      → ℕ → W → W
       → Option (List ℕ) → Option (List ℕ) → Result (Unit {0}) TwiceFault → Type 0
   ImportsTwice text again old new failed fails writer writer' before after r =
-      ((fault : ReadFault) × (r ≡ Err (Import (Unread fault))) × (IsWhyUnread text fault ⊎ IsWhyUnread again fault)
+      ((fault : ReadFault) × (r ≡ Err (Import (Unread fault)))
+      × (IsWhyUnread text fault ⊎ IsWhyUnread again fault)
       × (new ≡ old) × (fails ≡ failed) × (writer' ≡ writer))
       ⊎ ((count : ℕ) × IsListOfSo count text × ((requests : List Request) × Ends again count requests r
       × IsImported g requests old new failed fails before after (as_import r)))
@@ -85,7 +91,8 @@ module _ {S : Type 0} (g : Ghosts S) where
   -- What an import makes of a list that is the same at both readings: what one of a list that is held makes, or the
   -- second reading broke off, by a reader that failed or by want of memory, and so many of its first requests were
   -- carried out.
-  abbrev pub ImportsOnce : {W : Type 0} → Option (List ℕ) → Seen S → Seen S → ℕ → ℕ → W → W → Option (List ℕ)
+  abbrev pub ImportsOnce : {W : Type 0} → Option (List ℕ) → Seen S → Seen S → ℕ → ℕ → W → W
+      → Option (List ℕ)
       → Option (List ℕ)
       → Result (Unit {0}) TwiceFault → Type 0
   ImportsOnce text old new failed fails writer writer' before after (Ok x) =

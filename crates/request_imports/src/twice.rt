@@ -1,5 +1,6 @@
 //! A request list that is read twice in place of being held: once to judge it, and once to carry it out.
-ghost use Rattle.std.specs.Prelude.{◌≡◌, ◌<◌, ◌≤◌, ◌++◌, ◌∷◌, [], ℕ, List, Option, IfOk, IfErr, length};
+ghost use Rattle.std.specs.Prelude.{◌≡◌, ◌<◌, ◌≤◌, ◌++◌, ◌∷◌, [], ℕ, List, Option, IfOk};
+ghost use Rattle.std.specs.Prelude.{IfErr, length};
 ghost use Rattle.std.specs.String.{string_capacity};
 ghost use Rattle.sheet_types.specs.declared.command.Request.{Request};
 ghost use Rattle.world.specs.Asked.{IsUsedForEach};
@@ -66,7 +67,8 @@ fn request_after<Q: ListSource + Drop>(
     ensures request { IfOk result (λ request. (text : Option (List ℕ)) (before : List Request)
         → Stands Q.remaining text list.old before → Stands Q.remaining text list.new (before ++ request ∷ [])) }
     ensures breaks { IfErr result (BreaksAt done) }
-    ensures fault { IfErr result (λ why. (count : ℕ) (text : Option (List ℕ)) (before : List Request) → done < count
+    ensures fault { IfErr result (λ why. (count : ℕ) (text : Option (List ℕ)) (before : List Request)
+        → done < count
         → length before ≡ done → Stands Q.remaining text list.old before → Ends text count before (Err why)) }
 {
     match list.next_request(alloc) {

@@ -30,8 +30,10 @@ abbrev pub NoMerge : Data → Type 0
 NoMerge d = (child into : List ℕ) (ticket : ℤ) → ¬ IsCommand d (Merge child into ticket)
 
 -- what an object with this word asks for
-pub no_command : (d : Data) (word : List ℕ) → IsTextAt d (codes "command") word → (word ≡ codes "add" → NoAddition d)
-    → (word ≡ codes "delete" → NoDeletion d) → (word ≡ codes "link" → NoLink d) → (word ≡ codes "unlink" → NoUnlink d)
+pub no_command : (d : Data) (word : List ℕ) → IsTextAt d (codes "command") word
+    → (word ≡ codes "add" → NoAddition d)
+    → (word ≡ codes "delete" → NoDeletion d) → (word ≡ codes "link" → NoLink d)
+    → (word ≡ codes "unlink" → NoUnlink d)
     → (word ≡ codes "split" → NoSplit d) → (word ≡ codes "merge" → NoMerge d)
     → (asked : Command) → ¬ IsCommand d asked
 no_command d word there add delete link unlink split merge (Add target identity content) is =

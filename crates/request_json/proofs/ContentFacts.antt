@@ -18,7 +18,8 @@ NoMedium d = (content_type bytes : List ℕ) → ¬ IsContent d (Media content_t
 abbrev pub NoRow : Data → Type 0
 NoRow d = (x y code : ℤ) (label : List ℕ) → ¬ IsContent d (Row x y code label)
 
-pub no_content : (d : Data) (word : List ℕ) → IsTextAt d (codes "kind") word → (word ≡ kind_word TileItem → NoTile d)
+pub no_content : (d : Data) (word : List ℕ) → IsTextAt d (codes "kind") word
+    → (word ≡ kind_word TileItem → NoTile d)
     → (word ≡ kind_word MediaItem → NoMedium d)
     → (word ≡ kind_word RowItem → NoRow d) → (content : Content) → ¬ IsContent d content
 no_content d word there tile medium row (Tile zoom column line bytes) is =

@@ -1,5 +1,6 @@
 -- The names of an object's members are the keys of its map.
-use Rattle.std.specs.Prelude.{◌≡◌, ◌≢◌, ◌↔◌, ◌⊎◌, ◌<◌, ◌+◌, ℕ, zero, suc, List, [], ◌∷◌, map, length, Any, All}
+use Rattle.std.specs.Prelude.{◌≡◌, ◌≢◌, ◌↔◌, ◌⊎◌, ◌<◌, ◌+◌, ℕ, zero, suc, List, []}
+use Rattle.std.specs.Prelude.{◌∷◌, map, length, Any, All}
 use Rattle.std.specs.Prelude.{Option, Some, None, String, string_bytes, true, false, bytes_eq, slice_index_or}
 use Rattle.std.specs.declared.alloc.Global.{Global}
 use Rattle.std.proofs.Common.{arith, inl, inr, refl, sym, ap, ◌∙◌}
@@ -33,7 +34,8 @@ is_any (known ∷ names) name (inl same) = (0, known, omega arith, refl, same)
 is_any (known ∷ names) name (inr more) = let (k, x, within, there, same) =
     is_any names name more in (suc k, x, omega arith, there, same)
 
-pub one_of : {P : Type 0} (names : List (Bor (List ℕ))) (name : List ℕ) → P ↔ Any (λ known. known.now ≡ name) names
+pub one_of : {P : Type 0} (names : List (Bor (List ℕ))) (name : List ℕ)
+    → P ↔ Any (λ known. known.now ≡ name) names
     → P ↔ IsOneOf (map (λ known. known.now) names) name
 one_of names name told = (λ p. any_is names name (told.0 p), λ is. told.1 (is_any names name is))
 
@@ -61,7 +63,8 @@ found_in_keys Known (m ∷ ms) each name there =
           each) name here
       | Equal ↦ λ e here. rw (same_key name (string_bytes m.0) e)
           (All-head (λ key. Known (string_bytes key)) m.0 (map (λ e. e.0) ms) each)
-      | Greater ↦ λ e here. found_in_keys Known ms (All-tail (λ key. Known (string_bytes key)) m.0 (map (λ e. e.0) ms)
+      | Greater ↦ λ e here. found_in_keys Known ms (All-tail (λ key. Known (string_bytes key)) m.0
+          (map (λ e. e.0) ms)
           each) name here
     ] refl there
 
@@ -75,7 +78,8 @@ key_found : (ms : List (String Global × Value)) (k : ℕ) (d : String Global) �
     → get_member (string_bytes (slice_index_or (map (λ m. m.0) ms) k d)) (members_view ms) ≢ None
 key_found [] k d within = absurd (omega arith)
 key_found (m ∷ ms) zero d within = rw (itself (string_bytes m.0)) (λ e. cc)
-key_found (m ∷ ms) (suc k) d within = found (string_bytes (slice_index_or (map (λ m. m.0) ms) k d)) (string_bytes m.0)
+key_found (m ∷ ms) (suc k) d within = found (string_bytes (slice_index_or (map (λ m. m.0) ms) k d))
+    (string_bytes m.0)
     (view m.1) (get_member (string_bytes (slice_index_or (map (λ m. m.0) ms) k d)) (members_view ms))
     (key_found ms k d (omega arith))
 
@@ -86,7 +90,8 @@ keys_are Known ms each k d within = each (string_bytes (slice_index_or (map (λ 
     (key_found ms k d within)
 
 -- a member of a value is one of its object
-member_of : (d : Data) (ms : Members) → Some ms ≡ as_object d → (name : List ℕ) → get name d ≡ get_member name ms
+member_of : (d : Data) (ms : Members) → Some ms ≡ as_object d → (name : List ℕ)
+    → get name d ≡ get_member name ms
 member_of null ms e name = cc
 member_of (boolean b) ms e name = cc
 member_of (number n) ms e name = cc
@@ -100,5 +105,6 @@ pub no_other : {P : Type 0} (d : Data) (ms : List (String Global × Value)) (nam
 no_other d ms names is told =
     let of = member_of d (members_view ms) is in (
       λ p name there. found_in_keys (IsOneOf names) ms (told.0 p) name (λ none. there (of name ∙ none)),
-      λ only. told.1 (keys_are (IsOneOf names) ms (λ name there. only name (λ none. there (sym (of name) ∙ none)))),
+      λ only. told.1 (keys_are (IsOneOf names) ms (λ name there. only name
+          (λ none. there (sym (of name) ∙ none)))),
     )

@@ -40,7 +40,8 @@ one_mapping d RowsMedia RowsTiles one other = absurd (clash _ _ _ one other refl
 one_mapping d RowsTiles TilesMedia one other = absurd (clash _ _ _ one other refl)
 one_mapping d RowsTiles RowsMedia one other = absurd (clash _ _ _ one other refl)
 
-one_mode : (d : Data) (m n : Mode) → IsTextAt d (codes "kind") (mode_word m) → IsTextAt d (codes "kind") (mode_word n)
+one_mode : (d : Data) (m n : Mode) → IsTextAt d (codes "kind") (mode_word m)
+    → IsTextAt d (codes "kind") (mode_word n)
     → m ≡ n
 one_mode d Strict Strict one other = refl
 one_mode d Follow Follow one other = refl

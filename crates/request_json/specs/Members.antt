@@ -1,5 +1,6 @@
 -- What the members of a JSON object are (RFC 8259, as `serde_json` reads it). Profile.
-use Rattle.std.specs.Prelude.{◌≡◌, ◌≢◌, ℕ, ℤ, List, Option, Some, None, Ok, ◌⊎◌, [], ◌∷◌, option_and_then, IsUtf8}
+use Rattle.std.specs.Prelude.{◌≡◌, ◌≢◌, ℕ, ℤ, List, Option, Some, None, Ok, ◌⊎◌, [], ◌∷◌}
+use Rattle.std.specs.Prelude.{option_and_then, IsUtf8}
 use Rattle.uuid.specs.Text.{parsed_hyphenated}
 use Rattle.hex.specs.Hex.{decode_of}
 use Rattle.serde_json.specs.Data.{Data}

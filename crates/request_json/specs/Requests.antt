@@ -28,8 +28,10 @@ abbrev pub member_names : Command → List (List ℕ)
 member_names (Add target identity content) = and_of_all (content_names content)
 member_names (Delete source identity) = and_of_all (codes "identity" ∷ [])
 member_names (Link target mapping base other) = and_of_all (codes "identity" ∷ codes "kind" ∷ codes "other" ∷ [])
-member_names (Unlink source mapping base other) = and_of_all (codes "identity" ∷ codes "kind" ∷ codes "other" ∷ [])
-member_names (Split source child mode rect) = and_of_all (codes "other" ∷ codes "kind" ∷ codes "zoom" ∷ codes "column"
+member_names (Unlink source mapping base other) = and_of_all
+    (codes "identity" ∷ codes "kind" ∷ codes "other" ∷ [])
+member_names (Split source child mode rect) = and_of_all (codes "other" ∷ codes "kind" ∷ codes "zoom"
+    ∷ codes "column"
     ∷ codes "last_column" ∷ codes "row" ∷ codes "last_row" ∷ [])
 member_names (Merge child into ticket) = and_of_all (codes "other" ∷ codes "ticket" ∷ [])
 
@@ -97,4 +99,5 @@ IsRequestText text r = (d : Data) × JsonIs text d × IsRequest d r
 
 -- a text is one request at most
 abbrev pub IsOneRequest : Type 0
-IsOneRequest = (text : List ℕ) (one other : Request) → IsRequestText text one → IsRequestText text other → one ≡ other
+IsOneRequest = (text : List ℕ) (one other : Request) → IsRequestText text one → IsRequestText text other
+    → one ≡ other

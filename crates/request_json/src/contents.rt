@@ -86,7 +86,8 @@ fn row_of(alloc: Global, value: &Value) -> Result<Option<Content>, OutOfMemory>
 /// The content that an object adds, by its kind.
 pub fn content_of(alloc: Global, value: &Value) -> Result<Option<Content>, OutOfMemory>
     ensures some { IfOk result (λ found. IfSome found (λ content. IsContent (view value.now) content)) }
-    ensures none { IfOk result (λ found. IfNone found ((content : Content) → ¬ IsContent (view value.now) content)) }
+    ensures none { IfOk result (λ found. IfNone found ((content : Content)
+        → ¬ IsContent (view value.now) content)) }
 {
     match kind_at(value, "kind") {
         Some(MovedKind::TileItem) => tile_of(alloc, value),

@@ -1,5 +1,6 @@
 //! The members of one JSON object, name by name.
-ghost use Rattle.std.specs.Prelude.{◌≡◌, ◌↔◌, All, Any, IfOk, IfSome, IfNone, IsTrue, List, map, option_map, ℕ};
+ghost use Rattle.std.specs.Prelude.{◌≡◌, ◌↔◌, All, Any, IfOk, IfSome, IfNone, IsTrue, List, map};
+ghost use Rattle.std.specs.Prelude.{option_map, ℕ};
 ghost use Rattle.std.specs.Prelude.{string_bytes};
 ghost use Rattle.std.specs.Option.{option_and_then};
 ghost use Rattle.std.specs.BTreeMap.{keys};
@@ -49,7 +50,8 @@ pub fn uuid_at(value: &Value, name: &str) -> Option<Uuid>
 /// The bytes of the member of this name, in hexadecimal with an even number of digits in either case.
 pub fn hex_at(alloc: Global, value: &Value, name: &str) -> Result<Option<Bytes>, OutOfMemory>
     ensures some { IfOk result (λ found. IfSome found (λ bytes. IsHexAt (view value.now) name.now bytes)) }
-    ensures none { IfOk result (λ found. IfNone found ((bytes : List ℕ) → ¬ IsHexAt (view value.now) name.now bytes)) }
+    ensures none { IfOk result (λ found. IfNone found ((bytes : List ℕ)
+        → ¬ IsHexAt (view value.now) name.now bytes)) }
 {
     let Some(text) = str_at(value, name) else {
         return Ok(None);
@@ -64,7 +66,8 @@ pub fn hex_at(alloc: Global, value: &Value, name: &str) -> Result<Option<Bytes>,
 /// The text of the member of this name, copied.
 pub fn text_at(alloc: Global, value: &Value, name: &str) -> Result<Option<Text>, OutOfMemory>
     ensures some { IfOk result (λ found. IfSome found (λ text. IsTextAt (view value.now) name.now text)) }
-    ensures none { IfOk result (λ found. IfNone found ((text : List ℕ) → ¬ IsTextAt (view value.now) name.now text)) }
+    ensures none { IfOk result (λ found. IfNone found ((text : List ℕ)
+        → ¬ IsTextAt (view value.now) name.now text)) }
 {
     match str_at(value, name) {
         Some(text) => Ok(Some(Text::from_string(text.to_string(alloc)?))),
@@ -86,7 +89,8 @@ pub fn kind_at(value: &Value, name: &str) -> Option<MovedKind>
 /// The mapping table that it is the word of.
 pub fn mapping_at(value: &Value, name: &str) -> Option<Mapping>
     ensures some { IfSome result (λ mapping. IsTextAt (view value.now) name.now (mapping_word mapping)) }
-    ensures none { IfNone result ((mapping : Mapping) → ¬ IsTextAt (view value.now) name.now (mapping_word mapping)) }
+    ensures none { IfNone result ((mapping : Mapping) → ¬ IsTextAt (view value.now) name.now
+        (mapping_word mapping)) }
 {
     match str_at(value, name) {
         Some(text) => read_mapping(text),

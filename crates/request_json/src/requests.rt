@@ -1,5 +1,6 @@
 //! Which request a JSON text is.
-ghost use Rattle.std.specs.Prelude.{◌≡◌, ◌↔◌, ℕ, ℤ, List, IfOk, IfSome, IfNone, IsTrue, MatchOption, codes};
+ghost use Rattle.std.specs.Prelude.{◌≡◌, ◌↔◌, ℕ, ℤ, List, IfOk, IfSome, IfNone, IsTrue, MatchOption};
+ghost use Rattle.std.specs.Prelude.{codes};
 ghost use Rattle.serde_json.specs.Data.{Data};
 ghost use Rattle.serde_json.specs.View.{view};
 ghost use Rattle.request_json.specs.Members.{HasNoOther, IsTextAt, JsonIs};
@@ -244,7 +245,8 @@ fn has_no_more_than(value: &Value, command: &Command) -> bool
 /// The request that a JSON value is.
 fn request_of(alloc: Global, value: &Value) -> Result<Option<Request>, OutOfMemory>
     ensures some { IfOk result (λ found. IfSome found (λ request. IsRequest (view value.now) request)) }
-    ensures none { IfOk result (λ found. IfNone found ((request : Request) → ¬ IsRequest (view value.now) request)) }
+    ensures none { IfOk result (λ found. IfNone found ((request : Request)
+        → ¬ IsRequest (view value.now) request)) }
 {
     let Some(id) = uuid_at(value, "request") else {
         return Ok(None);

@@ -103,7 +103,8 @@ module _ (fields : List (List ℕ)) where
       let parts = and_parts (is_empty (field_at fields c)) (list_all (λ d. is_empty (field_at fields d)) cs) h in
       (empty_is (field_at fields c) parts.0, each_empty cs parts.1)
 
-  none : (columns : List ℕ) → list_all (λ c. is_empty (field_at fields c)) columns ≡ true → AreEmpty fields columns
+  none : (columns : List ℕ) → list_all (λ c. is_empty (field_at fields c)) columns ≡ true
+      → AreEmpty fields columns
   none columns h = All-from_recursion (λ c. field_at fields c ≡ Some []) columns (each_empty columns h)
 
 -- ---- each field is text
@@ -115,7 +116,8 @@ no_more : AreTexts []
 unfolding AllText
 no_more = record { each = tt }
 
-text : {field : List ℕ} {fields : List (List ℕ)} → IsUtf8 field → AreTexts fields → AreTexts (field ∷ fields)
+text : {field : List ℕ} {fields : List (List ℕ)} → IsUtf8 field → AreTexts fields
+    → AreTexts (field ∷ fields)
 unfolding AllText
 text h more = record { each = (h, more.each) }
 
@@ -165,7 +167,8 @@ command_texts (Merge child into ticket) is =
 
 -- ---- one request
 
-is_hex : (fields : List (List ℕ)) (bytes : List ℕ) → IsBytes bytes → field_at fields 17 ≡ Some (encode_lower bytes)
+is_hex : (fields : List (List ℕ)) (bytes : List ℕ) → IsBytes bytes
+    → field_at fields 17 ≡ Some (encode_lower bytes)
     → IsHexAt fields 17 bytes
 is_hex fields bytes is there =
     record { text = encode_lower bytes; there = there; digits = decode_of-encode_lower bytes is }
@@ -177,7 +180,8 @@ module _ (id at : List ℕ) (id_is : IsUuid id) (at_is : IsUtf8 at) where
   abbrev request : Command → Request
   request c = record { id = id; at = at; command = c }
 
-  has_content : (p identity : List ℕ) (c : Content) → HasContentTypes c → IsContent (fields_for (Add p identity c)) c
+  has_content : (p identity : List ℕ) (c : Content) → HasContentTypes c
+      → IsContent (fields_for (Add p identity c)) c
   unfolding field_at is_empty
   has_content p identity (Tile zoom column row bytes) is =
       let fields = fields_for (Add p identity (Tile zoom column row bytes)) in (
@@ -191,11 +195,27 @@ module _ (id at : List ℕ) (id_is : IsUuid id) (at_is : IsUtf8 at) where
         ),
       )
   has_content p identity (Media content_type bytes) is =
-      let fields = fields_for (Add p identity (Media content_type bytes)) in
-      (refl, (refl, is_hex fields bytes is.1 refl, none fields (7 ∷ 8 ∷ 9 ∷ 10 ∷ 11 ∷ 12 ∷ 13 ∷ 14 ∷ []) refl))
+      let fields = fields_for (Add p identity (Media content_type bytes)) in (
+        refl,
+        (
+          refl,
+          is_hex fields bytes is.1 refl,
+          none fields
+              (7 ∷ 8 ∷ 9 ∷ 10 ∷ 11 ∷ 12 ∷ 13 ∷ 14 ∷ []) refl,
+        ),
+      )
   has_content p identity (Row x y code label) is =
-      let fields = fields_for (Add p identity (Row x y code label)) in
-      (refl, ((is.0, refl), (is.1, refl), (is.2, refl), refl, none fields (7 ∷ 8 ∷ 9 ∷ 10 ∷ 11 ∷ 17 ∷ []) refl))
+      let fields = fields_for (Add p identity (Row x y code label)) in (
+        refl,
+        (
+          (is.0, refl),
+          (is.1, refl),
+          (is.2, refl),
+          refl,
+          none fields (7 ∷ 8 ∷ 9 ∷ 10 ∷ 11 ∷ 17 ∷ [])
+              refl,
+        ),
+      )
 
   added_blank : (p identity : List ℕ) (c : Content) → AreEmpty (fields_for (Add p identity c)) (5 ∷ 15 ∷ [])
   unfolding field_at is_empty
@@ -231,7 +251,8 @@ module _ (id at : List ℕ) (id_is : IsUuid id) (at_is : IsUtf8 at) where
       (refl, (reads_uuid p is.0, refl, reads_uuid base is.1, reads_uuid other is.2, empty))
   is_command (Split p child mode rect) is =
       let r = is.2 in
-      let empty = none (fields_for (Split p child mode rect)) (4 ∷ 12 ∷ 13 ∷ 14 ∷ 15 ∷ 16 ∷ 17 ∷ []) refl in (
+      let empty = none (fields_for (Split p child mode rect)) (4 ∷ 12 ∷ 13 ∷ 14 ∷ 15 ∷ 16 ∷ 17 ∷ [])
+      refl in (
         refl,
         (
           reads_uuid p is.0,
@@ -281,7 +302,8 @@ reached (r ∷ rs) = (
   reached rs,
 )
 
-no_mark : (rest : List ℕ) → strip_bom (row_text default_writer header ++ rest) ≡ row_text default_writer header ++ rest
+no_mark : (rest : List ℕ) → strip_bom (row_text default_writer header ++ rest) ≡ row_text default_writer header
+    ++ rest
 unfolding strip_bom escaped fields_text is_blank
 no_mark rest = refl
 

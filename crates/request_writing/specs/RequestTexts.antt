@@ -17,15 +17,19 @@ use Rattle.request_csv.specs.Requests.{header}
 abbrev pub content_fields : Content → List (List ℕ)
 content_fields (Tile zoom column row bytes) = codes "tile" ∷ signed_decimal zoom ∷ signed_decimal column
     ∷ signed_decimal row ∷ [] ∷ [] ∷ [] ∷ [] ∷ [] ∷ [] ∷ [] ∷ encode_lower bytes ∷ []
-content_fields (Media content_type bytes) = codes "media" ∷ [] ∷ [] ∷ [] ∷ [] ∷ [] ∷ [] ∷ [] ∷ [] ∷ [] ∷ content_type
+content_fields (Media content_type bytes) = codes "media" ∷ [] ∷ [] ∷ [] ∷ [] ∷ [] ∷ [] ∷ [] ∷ []
+    ∷ [] ∷ content_type
     ∷ encode_lower bytes ∷ []
-content_fields (Row x y code label) = codes "row" ∷ [] ∷ [] ∷ [] ∷ [] ∷ [] ∷ signed_decimal x ∷ signed_decimal y
+content_fields (Row x y code label) = codes "row" ∷ [] ∷ [] ∷ [] ∷ [] ∷ [] ∷ signed_decimal x
+    ∷ signed_decimal y
     ∷ signed_decimal code ∷ [] ∷ label ∷ [] ∷ []
 
 -- the fields of a command
 abbrev pub command_fields : Command → List (List ℕ)
-command_fields (Add p identity content) = codes "add" ∷ uuid_text p ∷ uuid_text identity ∷ [] ∷ content_fields content
-command_fields (Delete p identity) = codes "delete" ∷ uuid_text p ∷ uuid_text identity ∷ [] ∷ [] ∷ [] ∷ [] ∷ [] ∷ []
+command_fields (Add p identity content) = codes "add" ∷ uuid_text p ∷ uuid_text identity ∷ []
+    ∷ content_fields content
+command_fields (Delete p identity) = codes "delete" ∷ uuid_text p ∷ uuid_text identity ∷ [] ∷ [] ∷ [] ∷ []
+    ∷ [] ∷ []
     ∷ [] ∷ [] ∷ [] ∷ [] ∷ [] ∷ [] ∷ [] ∷ []
 command_fields (Link p mapping base other) = codes "link" ∷ uuid_text p ∷ uuid_text base ∷ uuid_text other
     ∷ mapping_word mapping ∷ [] ∷ [] ∷ [] ∷ [] ∷ [] ∷ [] ∷ [] ∷ [] ∷ [] ∷ [] ∷ [] ∷ []
@@ -33,8 +37,10 @@ command_fields (Unlink p mapping base other) = codes "unlink" ∷ uuid_text p �
     ∷ mapping_word mapping ∷ [] ∷ [] ∷ [] ∷ [] ∷ [] ∷ [] ∷ [] ∷ [] ∷ [] ∷ [] ∷ [] ∷ []
 command_fields (Split p child mode rect) = codes "split" ∷ uuid_text p ∷ [] ∷ uuid_text child ∷ mode_word mode
     ∷ signed_decimal rect.zoom ∷ signed_decimal rect.column ∷ signed_decimal rect.row
-    ∷ signed_decimal rect.last_column ∷ signed_decimal rect.last_row ∷ [] ∷ [] ∷ [] ∷ [] ∷ [] ∷ [] ∷ []
-command_fields (Merge child into ticket) = codes "merge" ∷ uuid_text child ∷ [] ∷ uuid_text into ∷ [] ∷ [] ∷ [] ∷ []
+    ∷ signed_decimal rect.last_column ∷ signed_decimal rect.last_row ∷ [] ∷ [] ∷ [] ∷ [] ∷ [] ∷ []
+    ∷ []
+command_fields (Merge child into ticket) = codes "merge" ∷ uuid_text child ∷ [] ∷ uuid_text into ∷ [] ∷ []
+    ∷ [] ∷ []
     ∷ [] ∷ [] ∷ [] ∷ [] ∷ [] ∷ signed_decimal ticket ∷ [] ∷ [] ∷ []
 
 -- the fields of a request, in the order of the columns

@@ -100,7 +100,8 @@ fn write_tile(
     requires { IsBetween writer.old }
     ensures text { OnOk result (Appends (text_written (λ v. Some v.items) writer.old)
         (text_written (λ v. Some v.items) writer.new) (row_text default_writer
-        (string_bytes front.now.id ∷ string_bytes front.now.at ∷ codes "add" ∷ uuid_text item.0 ∷ uuid_text item.1
+        (string_bytes front.now.id ∷ string_bytes front.now.at ∷ codes "add" ∷ uuid_text item.0
+        ∷ uuid_text item.1
         ∷ [] ∷ codes "tile" ∷ signed_decimal place.0 ∷ signed_decimal place.1 ∷ signed_decimal place.2 ∷ [] ∷ []
         ∷ [] ∷ [] ∷ [] ∷ [] ∷ [] ∷ encode_lower bytes.now ∷ []))) }
     ensures between { OnOk result (IsBetween writer.new) }
@@ -135,7 +136,8 @@ fn write_medium(
     requires { IsBetween writer.old }
     ensures text { OnOk result (Appends (text_written (λ v. Some v.items) writer.old)
         (text_written (λ v. Some v.items) writer.new) (row_text default_writer
-        (string_bytes front.now.id ∷ string_bytes front.now.at ∷ codes "add" ∷ uuid_text item.0 ∷ uuid_text item.1
+        (string_bytes front.now.id ∷ string_bytes front.now.at ∷ codes "add" ∷ uuid_text item.0
+        ∷ uuid_text item.1
         ∷ [] ∷ codes "media" ∷ [] ∷ [] ∷ [] ∷ [] ∷ [] ∷ [] ∷ [] ∷ [] ∷ [] ∷ content_type.now
         ∷ encode_lower bytes.now ∷ []))) }
     ensures between { OnOk result (IsBetween writer.new) }
@@ -166,7 +168,8 @@ fn write_row(
     requires { IsBetween writer.old }
     ensures text { OnOk result (Appends (text_written (λ v. Some v.items) writer.old)
         (text_written (λ v. Some v.items) writer.new) (row_text default_writer
-        (string_bytes front.now.id ∷ string_bytes front.now.at ∷ codes "add" ∷ uuid_text item.0 ∷ uuid_text item.1
+        (string_bytes front.now.id ∷ string_bytes front.now.at ∷ codes "add" ∷ uuid_text item.0
+        ∷ uuid_text item.1
         ∷ [] ∷ codes "row" ∷ [] ∷ [] ∷ [] ∷ [] ∷ [] ∷ signed_decimal numbers.0 ∷ signed_decimal numbers.1
         ∷ signed_decimal numbers.2 ∷ [] ∷ label.now ∷ [] ∷ []))) }
     ensures between { OnOk result (IsBetween writer.new) }
@@ -198,7 +201,8 @@ fn write_delete(
     requires { IsBetween writer.old }
     ensures text { OnOk result (Appends (text_written (λ v. Some v.items) writer.old)
         (text_written (λ v. Some v.items) writer.new) (row_text default_writer
-        (string_bytes front.now.id ∷ string_bytes front.now.at ∷ codes "delete" ∷ uuid_text item.0 ∷ uuid_text item.1
+        (string_bytes front.now.id ∷ string_bytes front.now.at ∷ codes "delete" ∷ uuid_text item.0
+        ∷ uuid_text item.1
         ∷ [] ∷ [] ∷ [] ∷ [] ∷ [] ∷ [] ∷ [] ∷ [] ∷ [] ∷ [] ∷ [] ∷ [] ∷ [] ∷ []))) }
     ensures between { OnOk result (IsBetween writer.new) }
 {
@@ -351,7 +355,8 @@ fn write_add(
     requires { IsBetween writer.old }
     ensures text { OnOk result (Appends (text_written (λ v. Some v.items) writer.old)
         (text_written (λ v. Some v.items) writer.new) (row_text default_writer
-        (string_bytes front.now.id ∷ string_bytes front.now.at ∷ codes "add" ∷ uuid_text item.0 ∷ uuid_text item.1
+        (string_bytes front.now.id ∷ string_bytes front.now.at ∷ codes "add" ∷ uuid_text item.0
+        ∷ uuid_text item.1
         ∷ [] ∷ content_fields content.now))) }
     ensures between { OnOk result (IsBetween writer.new) }
 {

@@ -1,5 +1,6 @@
 -- A world is balanced where each part answers yes.
-use Rattle.std.specs.Prelude.{◌≡◌, ◌↔◌, ◌&&◌, ℕ, Bool, true, false, IsTrue, List, [], Option, Some, None, Result, Ok, Err, IfOk}
+use Rattle.std.specs.Prelude.{◌≡◌, ◌↔◌, ◌&&◌, ℕ, Bool, true, false, IsTrue, List, [], Option, Some}
+use Rattle.std.specs.Prelude.{None, Result, Ok, Err, IfOk}
 use Rattle.std.proofs.Common.{sym, subst, ap, ◌∙◌}
 use Rattle.std.proofs.lemmas.Bool.{and_parts, false≢true}
 use Rattle.sheet_types.specs.Balance.{Balanced, IsLedger, archive_of}
@@ -12,7 +13,9 @@ use Rattle.sheet_balance.specs.declared.sights.Sight.{Sight}
 use Rattle.sheet_balance.specs.Sights.{IsSeen, IsSeenWith, IsAccounted}
 
 -- five answers together
-pub five_parts : (a b c d e : Bool) (w : World) → IsTrue a ↔ HoldsWhatIsKept w → IsTrue b ↔ SumsAddUp w → IsTrue c ↔ AreLoans w → IsTrue d ↔ AreAtHome w → IsTrue e ↔ AreTogether w → IsTrue ((((a && b) && c) && d) && e) ↔ IsAccounted w
+pub five_parts : (a b c d e : Bool) (w : World) → IsTrue a ↔ HoldsWhatIsKept w → IsTrue b ↔ SumsAddUp w
+    → IsTrue c ↔ AreLoans w → IsTrue d ↔ AreAtHome w → IsTrue e ↔ AreTogether w
+    → IsTrue ((((a && b) && c) && d) && e) ↔ IsAccounted w
 five_parts a b c d e w custody sums loans homes together = (there, back)
   where
     there : ((((a && b) && c) && d) && e) ≡ true → IsAccounted w
@@ -21,14 +24,23 @@ five_parts a b c d e w custody sums loans homes together = (there, back)
         let three : (((a && b) && c) ≡ true) × (d ≡ true) = and_parts ((a && b) && c) d four.0 in
         let two : ((a && b) ≡ true) × (c ≡ true) = and_parts (a && b) c three.0 in
         let one : (a ≡ true) × (b ≡ true) = and_parts a b two.0 in
-        record { custody_is = custody.0 one.0; sums = sums.0 one.1; loans = loans.0 two.1; homes = homes.0 three.1; together = together.0 four.1 }
+        record {
+          custody_is = custody.0 one.0;
+          sums = sums.0 one.1;
+          loans = loans.0 two.1;
+          homes = homes.0 three.1;
+          together = together.0 four.1;
+        }
 
     back : IsAccounted w → ((((a && b) && c) && d) && e) ≡ true
     back k =
-        ap (λ v. (((v && b) && c) && d) && e) (custody.1 k.custody_is) ∙ ap (λ v. ((v && c) && d) && e) (sums.1 k.sums) ∙ ap (λ v. (v && d) && e) (loans.1 k.loans) ∙ ap (λ v. v && e) (homes.1 k.homes) ∙ together.1 k.together
+        ap (λ v. (((v && b) && c) && d) && e) (custody.1 k.custody_is)
+        ∙ ap (λ v. ((v && c) && d) && e) (sums.1 k.sums) ∙ ap (λ v. (v && d) && e) (loans.1 k.loans)
+        ∙ ap (λ v. v && e) (homes.1 k.homes) ∙ together.1 k.together
 
 -- the archive that is seen is that of the world
-pub seen_one : (archive : List ℕ) (o : Option (List ℕ)) (w : World) → o ≡ Some archive → o ≡ Some (archive_of w) → archive ≡ archive_of w
+pub seen_one : (archive : List ℕ) (o : Option (List ℕ)) (w : World) → o ≡ Some archive
+    → o ≡ Some (archive_of w) → archive ≡ archive_of w
 seen_one archive o w is seen = some_same (sym is ∙ seen)
 
 -- without one nothing is seen so
@@ -36,22 +48,42 @@ pub none_seen : (o : Option (List ℕ)) (w : World) → o ≡ None → o ≡ Som
 none_seen o w is seen = None≢Some (sym is ∙ seen)
 
 -- the ledger that is seen, and a slice of it
-pub seen_with : (ledger slice : List Receipt) (ss : List Sight) (w : World) → IsSeen ss w → ledger ≡ receipts_of w → slice ≡ ledger → IsSeenWith slice ss w
+pub seen_with : (ledger slice : List Receipt) (ss : List Sight) (w : World) → IsSeen ss w
+    → ledger ≡ receipts_of w → slice ≡ ledger → IsSeenWith slice ss w
 seen_with ledger slice ss w seen whole same = record { seen = seen; whole = same ∙ whole }
 
 -- the ledger of a balanced world is sound
-pub not_sound : (w : World) (archive : List ℕ) (ledger : List Receipt) (ss : List Sight) (sound : Bool) → archive ≡ archive_of w → IsSeenWith ledger ss w → IsTrue sound ↔ IsLedger archive [] ledger → sound ≡ false → Balanced w → ⊥
+pub not_sound : (w : World) (archive : List ℕ) (ledger : List Receipt) (ss : List Sight) (sound : Bool)
+    → archive ≡ archive_of w → IsSeenWith ledger ss w → IsTrue sound ↔ IsLedger archive [] ledger
+    → sound ≡ false → Balanced w → ⊥
 not_sound w archive ledger ss sound is seen f denies b =
-    false≢true (sym denies ∙ f.1 (subst (λ rs. IsLedger archive [] rs) (sym seen.whole) (subst (λ p. IsLedger p [] (receipts_of w)) (sym is) b.ledger)))
+    false≢true (sym denies ∙ f.1 (subst (λ rs. IsLedger archive [] rs) (sym seen.whole)
+    (subst (λ p. IsLedger p [] (receipts_of w)) (sym is) b.ledger)))
 
 -- a sound ledger that accounts for what is held balances the world
-pub judged : (w : World) (archive : List ℕ) (ledger : List Receipt) (ss : List Sight) (sound accounted : Bool) → archive ≡ archive_of w → IsSeenWith ledger ss w → IsTrue sound ↔ IsLedger archive [] ledger → sound ≡ true
+pub judged : (w : World) (archive : List ℕ) (ledger : List Receipt) (ss : List Sight) (sound accounted : Bool)
+    → archive ≡ archive_of w → IsSeenWith ledger ss w → IsTrue sound ↔ IsLedger archive [] ledger
+    → sound ≡ true
     → (IsLedger (archive_of w) [] ledger → IsTrue accounted ↔ IsAccounted w) → IsTrue accounted ↔ Balanced w
 judged w archive ledger ss sound accounted is seen f holds answer = (
   (λ e. let k : IsAccounted w = (answer of_world).0 e in
-      (balanced_is_its_parts w).1 (record { ledger = (sound_is_its_parts (archive_of w) (receipts_of w)).0 (subst (λ rs. IsLedger (archive_of w) [] rs) seen.whole of_world); custody_is = k.custody_is; sums = k.sums; loans = k.loans; homes = k.homes; together = k.together })),
+      (balanced_is_its_parts w).1 (record {
+        ledger = (sound_is_its_parts (archive_of w) (receipts_of w)).0
+            (subst (λ rs. IsLedger (archive_of w) [] rs) seen.whole of_world);
+        custody_is = k.custody_is;
+        sums = k.sums;
+        loans = k.loans;
+        homes = k.homes;
+        together = k.together;
+      })),
   (λ b. let h : HasParts w = (balanced_is_its_parts w).0 b in
-      (answer of_world).1 (record { custody_is = h.custody_is; sums = h.sums; loans = h.loans; homes = h.homes; together = h.together })),
+      (answer of_world).1 (record {
+        custody_is = h.custody_is;
+        sums = h.sums;
+        loans = h.loans;
+        homes = h.homes;
+        together = h.together;
+      })),
 )
   where
     of_world : IsLedger (archive_of w) [] ledger

@@ -1,5 +1,6 @@
 -- The splits that are seen, one by one.
-use Rattle.std.specs.Prelude.{◌≡◌, ℕ, true, false, cond, ◌&&◌, List, Vec, [], ◌∷◌, ◌++◌, Option, Some, None, flat_map, bytes_eq, refl}
+use Rattle.std.specs.Prelude.{◌≡◌, ℕ, true, false, cond, ◌&&◌, List, Vec, [], ◌∷◌, ◌++◌, Option}
+use Rattle.std.specs.Prelude.{Some, None, flat_map, bytes_eq, refl}
 use Rattle.std.proofs.Common.{sym, ap, ◌∙◌}
 use Rattle.std.proofs.lemmas.List.{append-nil, flat_map_more}
 use Rattle.std.proofs.lemmas.Slice.Eq.{bytes_eq-Decides}
@@ -21,11 +22,16 @@ abbrev items_of : Option (Vec Lent Global) → List Lent
 items_of o = option_map_or (λ v. v.items) o []
 
 -- a split is put behind the others of its target
-pub one_lent : (old mid new : Splits) (target : List ℕ) (lent : Lent) (v : Vec Lent Global) → Updates (slice_cmp nat_cmp) old mid target None → Updates (slice_cmp nat_cmp) mid new target (Some v)
-    → v.items ≡ lents_in old target ++ lent ∷ [] → (p : List ℕ) → lents_in new p ≡ lents_in old p ++ cond (bytes_eq target p) (lent ∷ []) []
+pub one_lent : (old mid new : Splits) (target : List ℕ) (lent : Lent) (v : Vec Lent Global)
+    → Updates (slice_cmp nat_cmp) old mid target None → Updates (slice_cmp nat_cmp) mid new target (Some v)
+    → v.items ≡ lents_in old target ++ lent ∷ [] → (p : List ℕ)
+    → lents_in new p ≡ lents_in old p ++ cond (bytes_eq target p) (lent ∷ []) []
 one_lent old mid new target lent v taken put is p =
-    ap items_of (at_key mid new target (Some v) put p ∙ ap (λ o. cond (bytes_eq target p) (Some v) o) (at_key old mid target None taken p))
-    ∙ elim (bytes_eq target p) as (λ b. bytes_eq target p ≡ b → items_of (cond b (Some v) (cond b None (get (slice_cmp nat_cmp) old p))) ≡ lents_in old p ++ cond b (lent ∷ []) []) [
+    ap items_of (at_key mid new target (Some v) put p ∙ ap (λ o. cond (bytes_eq target p) (Some v) o)
+    (at_key old mid target None taken p))
+    ∙ elim (bytes_eq target p) as (λ b. bytes_eq target p ≡ b
+    → items_of (cond b (Some v) (cond b None (get (slice_cmp nat_cmp) old p))) ≡ lents_in old p
+    ++ cond b (lent ∷ []) []) [
       | true ↦ λ e. is ∙ ap (λ q. lents_in old q ++ lent ∷ []) ((bytes_eq-Decides target p).0 e)
       | false ↦ λ _. sym (append-nil (lents_in old p))
     ] refl
@@ -34,21 +40,27 @@ one_lent old mid new target lent v taken put is p =
 pub no_target : (home p : List ℕ) (r : Receipt) → r.target ≡ None → lents_by home p r ≡ []
 no_target home p r e =
     ap (λ o. cond (is_split r && ends_at o p) (lent_of home r ∷ []) []) e
-    ∙ elim (is_split r) as (λ b. cond (b && false) (lent_of home r ∷ []) [] ≡ []) [ true ↦ refl | false ↦ refl ]
+    ∙ elim (is_split r) as (λ b. cond (b && false) (lent_of home r ∷ []) [] ≡ [])
+    [ true ↦ refl | false ↦ refl ]
 
 pub no_split : (home p : List ℕ) (r : Receipt) → is_split r ≡ false → lents_by home p r ≡ []
 no_split home p r e = ap (λ b. cond (b && ends_at r.target p) (lent_of home r ∷ []) []) e
 
-pub a_split : (home p target : List ℕ) (r : Receipt) (lent : Lent) → is_split r ≡ true → r.target ≡ Some target → lent ≡ lent_of home r → cond (bytes_eq target p) (lent ∷ []) [] ≡ lents_by home p r
+pub a_split : (home p target : List ℕ) (r : Receipt) (lent : Lent) → is_split r ≡ true
+    → r.target ≡ Some target → lent ≡ lent_of home r → cond (bytes_eq target p) (lent ∷ []) []
+    ≡ lents_by home p r
 a_split home p target r lent e is same =
     ap (λ l. cond (bytes_eq target p) (l ∷ []) []) same
-    ∙ sym (ap (λ b. cond (b && ends_at r.target p) (lent_of home r ∷ []) []) e ∙ ap (λ o. cond (ends_at o p) (lent_of home r ∷ []) []) is)
+    ∙ sym (ap (λ b. cond (b && ends_at r.target p) (lent_of home r ∷ []) []) e
+    ∙ ap (λ o. cond (ends_at o p) (lent_of home r ∷ []) []) is)
 
 -- what adds nothing
 pub adds_none : (xs ys : List Lent) → ys ≡ [] → xs ≡ xs ++ ys
 adds_none xs ys e = sym (append-nil xs) ∙ ap (λ zs. xs ++ zs) (sym e)
 
 -- one more of a list, behind the others
-pub lents_more : {X : Type 0} (f : X → List Lent) (old mid new : List Lent) (xs more : List X) (x : X) → more ≡ xs ++ x ∷ [] → mid ≡ old ++ flat_map f xs → new ≡ mid ++ f x → new ≡ old ++ flat_map f more
+pub lents_more : {X : Type 0} (f : X → List Lent) (old mid new : List Lent) (xs more : List X) (x : X)
+    → more ≡ xs ++ x ∷ [] → mid ≡ old ++ flat_map f xs → new ≡ mid ++ f x
+    → new ≡ old ++ flat_map f more
 lents_more f old mid new xs more x is was step =
     step ∙ ap (λ zs. zs ++ f x) was ∙ flat_map_more f old xs x ∙ ap (λ zs. old ++ flat_map f zs) (sym is)

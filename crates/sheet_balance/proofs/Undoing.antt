@@ -1,5 +1,6 @@
 -- Merges, and the splits that they undo.
-use Rattle.std.specs.Prelude.{◌≡◌, ◌↔◌, ◌&&◌, ℕ, Bool, true, false, cond, IsTrue, List, [], ◌∷◌, nat_lt, unwrap_or, refl}
+use Rattle.std.specs.Prelude.{◌≡◌, ◌↔◌, ◌&&◌, ℕ, Bool, true, false, cond, IsTrue, List, []}
+use Rattle.std.specs.Prelude.{◌∷◌, nat_lt, unwrap_or, refl}
 use Rattle.std.proofs.Common.{sym, subst, ap, ◌∙◌}
 use Rattle.std.proofs.lemmas.Bool.{and_parts}
 use Rattle.std.specs.List.{AllByRecursion}
@@ -21,51 +22,86 @@ Undone home target seq uuid r = (is_split r && nat_lt r.seq seq && ends_at r.tar
 
 module _ (home target : List ℕ) (seq : ℕ) where
   -- of one receipt
-  one_undone : (uuid : List ℕ) (r : Receipt) → AllByRecursion (StandsBefore home seq) (lents_by uuid target r) ↔ Undone home target seq uuid r
+  one_undone : (uuid : List ℕ) (r : Receipt) → AllByRecursion (StandsBefore home seq) (lents_by uuid target r) ↔
+      Undone home target seq uuid r
   one_undone uuid r = (there, back)
     where
       there : AllByRecursion (StandsBefore home seq) (lents_by uuid target r) → Undone home target seq uuid r
       there h e =
-          let parts : ((is_split r && nat_lt r.seq seq) ≡ true) × (ends_at r.target target ≡ true) = and_parts (is_split r && nat_lt r.seq seq) (ends_at r.target target) e in
-          let early : (is_split r ≡ true) × (nat_lt r.seq seq ≡ true) = and_parts (is_split r) (nat_lt r.seq seq) parts.0 in
-          let is : (is_split r && ends_at r.target target) ≡ true = ap (λ b. b && ends_at r.target target) early.0 ∙ parts.1 in
-          let all : AllByRecursion (StandsBefore home seq) (lent_of uuid r ∷ []) = subst (λ b. AllByRecursion (StandsBefore home seq) (cond b (lent_of uuid r ∷ []) [])) is h in
+          let parts : ((is_split r && nat_lt r.seq seq) ≡ true) × (ends_at r.target target ≡ true) =
+          and_parts (is_split r && nat_lt r.seq seq) (ends_at r.target target) e in
+          let early : (is_split r ≡ true) × (nat_lt r.seq seq ≡ true) =
+          and_parts (is_split r) (nat_lt r.seq seq) parts.0 in
+          let is : (is_split r && ends_at r.target target) ≡ true =
+          ap (λ b. b && ends_at r.target target) early.0 ∙ parts.1 in
+          let all : AllByRecursion (StandsBefore home seq) (lent_of uuid r ∷ []) =
+          subst (λ b. AllByRecursion (StandsBefore home seq) (cond b (lent_of uuid r ∷ []) [])) is h in
           all.0 early.1
 
       back : Undone home target seq uuid r → AllByRecursion (StandsBefore home seq) (lents_by uuid target r)
-      back f = elim (is_split r && ends_at r.target target) as (λ b. (is_split r && ends_at r.target target) ≡ b → AllByRecursion (StandsBefore home seq) (cond b (lent_of uuid r ∷ []) [])) [
-        | true ↦ λ e.
-            let parts : (is_split r ≡ true) × (ends_at r.target target ≡ true) = and_parts (is_split r) (ends_at r.target target) e in
-            ((λ lt. f (ap (λ b. b && nat_lt r.seq seq && ends_at r.target target) parts.0 ∙ ap (λ b. b && ends_at r.target target) lt ∙ parts.1)), tt)
-        | false ↦ λ _. tt
-      ] refl
+      back f = elim (is_split r && ends_at r.target target) as
+          (λ b. (is_split r && ends_at r.target target) ≡ b → AllByRecursion (StandsBefore home seq)
+          (cond b (lent_of uuid r ∷ []) [])) [
+            | true ↦ λ e.
+                let parts : (is_split r ≡ true) × (ends_at r.target target ≡ true) =
+                and_parts (is_split r) (ends_at r.target target) e in (
+                  (λ lt. f (ap (λ b. b && nat_lt r.seq seq && ends_at r.target target) parts.0
+                      ∙ ap (λ b. b && ends_at r.target target) lt ∙ parts.1)),
+                  tt,
+                )
+            | false ↦ λ _. tt
+          ] refl
 
   -- of the receipts of one package
-  package_undone : (s : Sight) (p : Package) → IsSightOf s p → AllByRecursion (StandsBefore home seq) (lents_among s.uuid target s.receipts.items) ↔ AllByRecursion (Undone home target seq p.uuid) p.receipts
+  package_undone : (s : Sight) (p : Package) → IsSightOf s p
+      → AllByRecursion (StandsBefore home seq) (lents_among s.uuid target s.receipts.items) ↔ AllByRecursion
+      (Undone home target seq p.uuid) p.receipts
   package_undone s p k =
-      let each : AllByRecursion (StandsBefore home seq) (lents_among s.uuid target s.receipts.items) ↔ AllByRecursion (Undone home target seq s.uuid) s.receipts.items =
-      same_answer (all_flat (StandsBefore home seq) (lents_by s.uuid target) s.receipts.items) (all_same (λ r. AllByRecursion (StandsBefore home seq) (lents_by s.uuid target r)) (Undone home target seq s.uuid) (one_undone s.uuid) s.receipts.items) in
-      subst (λ rs. AllByRecursion (StandsBefore home seq) (lents_among s.uuid target s.receipts.items) ↔ AllByRecursion (Undone home target seq p.uuid) rs) k.receipts
-      (subst (λ u. AllByRecursion (StandsBefore home seq) (lents_among s.uuid target s.receipts.items) ↔ AllByRecursion (Undone home target seq u) s.receipts.items) k.uuid each)
+      let each : AllByRecursion (StandsBefore home seq) (lents_among s.uuid target s.receipts.items) ↔
+      AllByRecursion (Undone home target seq s.uuid) s.receipts.items =
+      same_answer (all_flat (StandsBefore home seq) (lents_by s.uuid target) s.receipts.items)
+      (all_same (λ r. AllByRecursion (StandsBefore home seq) (lents_by s.uuid target r))
+      (Undone home target seq s.uuid) (one_undone s.uuid) s.receipts.items) in
+      subst (λ rs. AllByRecursion (StandsBefore home seq) (lents_among s.uuid target s.receipts.items) ↔
+      AllByRecursion (Undone home target seq p.uuid) rs) k.receipts
+      (subst (λ u. AllByRecursion (StandsBefore home seq) (lents_among s.uuid target s.receipts.items) ↔
+      AllByRecursion (Undone home target seq u) s.receipts.items) k.uuid each)
 
   -- of all packages
-  all_undone : (ss : List Sight) (w : World) → IsSeen ss w → AllByRecursion (StandsBefore home seq) (lents_seen target ss) ↔ AllByRecursion (λ x. AllByRecursion (Undone home target seq x.uuid) x.receipts) w.packages
-  all_undone ss w h = same_answer (all_flat (StandsBefore home seq) (λ s. lents_among s.uuid target s.receipts.items) ss)
-      (all_seen (λ s. AllByRecursion (StandsBefore home seq) (lents_among s.uuid target s.receipts.items)) (λ x. AllByRecursion (Undone home target seq x.uuid) x.receipts) package_undone ss w.packages h.packages)
+  all_undone : (ss : List Sight) (w : World) → IsSeen ss w → AllByRecursion (StandsBefore home seq)
+      (lents_seen target ss) ↔ AllByRecursion (λ x. AllByRecursion (Undone home target seq x.uuid) x.receipts)
+      w.packages
+  all_undone ss w h = same_answer (all_flat (StandsBefore home seq) (λ s. lents_among s.uuid target s.receipts.items)
+      ss)
+      (all_seen (λ s. AllByRecursion (StandsBefore home seq) (lents_among s.uuid target s.receipts.items))
+      (λ x. AllByRecursion (Undone home target seq x.uuid) x.receipts) package_undone ss w.packages h.packages)
 
 -- ---- the answer
 
-pub together_answer : (splits : Splits) (ss : List Sight) (a : Bool) → ((p : List ℕ) → lents_in splits p ≡ lents_seen p ss)
-    → IsTrue a ↔ AllByRecursion (λ s. AllByRecursion (UndoesBy splits s.uuid) s.receipts.items) ss → (w : World) → IsSeen ss w → IsTrue a ↔ AreTogether w
+pub together_answer : (splits : Splits) (ss : List Sight) (a : Bool)
+    → ((p : List ℕ) → lents_in splits p ≡ lents_seen p ss)
+    → IsTrue a ↔ AllByRecursion (λ s. AllByRecursion (UndoesBy splits s.uuid) s.receipts.items) ss
+    → (w : World) → IsSeen ss w → IsTrue a ↔ AreTogether w
 together_answer splits ss a lents f w h =
-    same_answer f (all_seen (λ s. AllByRecursion (UndoesBy splits s.uuid) s.receipts.items) (λ p. AllByRecursion (UndoesHere w p) p.receipts) of_package ss w.packages h.packages)
+    same_answer f (all_seen (λ s. AllByRecursion (UndoesBy splits s.uuid) s.receipts.items)
+    (λ p. AllByRecursion (UndoesHere w p) p.receipts) of_package ss w.packages h.packages)
   where
-    one : (s : Sight) (p : Package) → IsSightOf s p → (m : Receipt) → UndoesBy splits s.uuid m ↔ UndoesHere w p m
+    one : (s : Sight) (p : Package) → IsSightOf s p → (m : Receipt)
+        → UndoesBy splits s.uuid m ↔ UndoesHere w p m
     one s p k m =
-        let seen : AllByRecursion (StandsBefore s.uuid m.seq) (lents_in splits (unwrap_or m.source [])) ↔ AllByRecursion (λ x. AllByRecursion (Undone p.uuid (unwrap_or m.source []) m.seq x.uuid) x.receipts) w.packages =
-        subst (λ u. AllByRecursion (StandsBefore u m.seq) (lents_in splits (unwrap_or m.source [])) ↔ AllByRecursion (λ x. AllByRecursion (Undone p.uuid (unwrap_or m.source []) m.seq x.uuid) x.receipts) w.packages) (sym k.uuid)
-        (subst (λ ls. AllByRecursion (StandsBefore p.uuid m.seq) ls ↔ AllByRecursion (λ x. AllByRecursion (Undone p.uuid (unwrap_or m.source []) m.seq x.uuid) x.receipts) w.packages) (sym (lents (unwrap_or m.source []))) (all_undone p.uuid (unwrap_or m.source []) m.seq ss w h)) in
+        let seen : AllByRecursion (StandsBefore s.uuid m.seq) (lents_in splits (unwrap_or m.source [])) ↔
+        AllByRecursion (λ x. AllByRecursion (Undone p.uuid (unwrap_or m.source []) m.seq x.uuid) x.receipts)
+        w.packages =
+        subst (λ u. AllByRecursion (StandsBefore u m.seq) (lents_in splits (unwrap_or m.source [])) ↔
+        AllByRecursion (λ x. AllByRecursion (Undone p.uuid (unwrap_or m.source []) m.seq x.uuid) x.receipts)
+        w.packages) (sym k.uuid)
+        (subst (λ ls. AllByRecursion (StandsBefore p.uuid m.seq) ls ↔ AllByRecursion
+        (λ x. AllByRecursion (Undone p.uuid (unwrap_or m.source []) m.seq x.uuid) x.receipts) w.packages)
+        (sym (lents (unwrap_or m.source []))) (all_undone p.uuid (unwrap_or m.source []) m.seq ss w h)) in
         ((λ g e. seen.0 (g e)), (λ g e. seen.1 (g e)))
 
-    of_package : (s : Sight) (p : Package) → IsSightOf s p → AllByRecursion (UndoesBy splits s.uuid) s.receipts.items ↔ AllByRecursion (UndoesHere w p) p.receipts
-    of_package s p k = subst (λ rs. AllByRecursion (UndoesBy splits s.uuid) s.receipts.items ↔ AllByRecursion (UndoesHere w p) rs) k.receipts (all_same (UndoesBy splits s.uuid) (UndoesHere w p) (one s p k) s.receipts.items)
+    of_package : (s : Sight) (p : Package) → IsSightOf s p → AllByRecursion (UndoesBy splits s.uuid)
+        s.receipts.items ↔ AllByRecursion (UndoesHere w p) p.receipts
+    of_package s p k = subst (λ rs. AllByRecursion (UndoesBy splits s.uuid) s.receipts.items ↔ AllByRecursion
+        (UndoesHere w p) rs) k.receipts (all_same (UndoesBy splits s.uuid) (UndoesHere w p) (one s p k)
+        s.receipts.items)

@@ -22,9 +22,11 @@ pub record AreInTurn (rs : List Receipt) : Type 0 where
 abbrev pub home_in : BTreeMap (List ℕ) (List ℕ) → List ℕ → List ℕ
 home_in merged p = unwrap_or (get (slice_cmp nat_cmp) merged p) p
 
--- under the number of the receipt the map has the package in which it ought to stand: where it was made, or where the merges among these of greater number brought it
+-- under the number of the receipt the map has the package in which it ought to stand: where it was made, or where the
+-- merges among these of greater number brought it
 abbrev pub HasHome : BTreeMap ℕ (List ℕ) → List Receipt → Receipt → Type 0
-HasHome homes rs r = (e : Entry) × (entry_from r.line ≡ Some e) × (get nat_cmp homes r.seq ≡ Some (home_after (after r.seq rs) (stands_in e)))
+HasHome homes rs r = (e : Entry) × (entry_from r.line ≡ Some e)
+    × (get nat_cmp homes r.seq ≡ Some (home_after (after r.seq rs) (stands_in e)))
 
 -- each of these stands in this package, by such a map
 abbrev pub StandsBy : BTreeMap ℕ (List ℕ) → List ℕ → Receipt → Type 0

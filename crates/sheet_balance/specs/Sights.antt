@@ -1,5 +1,6 @@
 -- What the judge sees of a world. Profile.
-use Rattle.std.specs.Prelude.{◌≡◌, ◌+◌, length, sum_by, ⊤, ℕ, Bool, List, [], ◌∷◌, map, true, false, ◌&&◌, ◌||◌, ◌==◌, bytes_eq, find, Option, Some, is_none}
+use Rattle.std.specs.Prelude.{◌≡◌, ◌+◌, length, sum_by, ⊤, ℕ, Bool, List, [], ◌∷◌, map, true}
+use Rattle.std.specs.Prelude.{false, ◌&&◌, ◌||◌, ◌==◌, bytes_eq, find, Option, Some, is_none}
 use Rattle.std.specs.Option.{MatchOption, option_map, option_map_or}
 use Rattle.std.specs.List.{list_any, AllByRecursion}
 use Rattle.sheet_types.specs.Custody.{is_split, is_merge, ends_at, after}
@@ -31,7 +32,8 @@ AreSightsOf [] (p ∷ ps) = ⊥
 AreSightsOf (s ∷ ss) [] = ⊥
 AreSightsOf (s ∷ ss) (p ∷ ps) = IsSightOf s p × AreSightsOf ss ps
 
--- a world that is seen so. Its packages are in the order of their UUIDs, so no two have one, and one of them is the archive
+-- a world that is seen so. Its packages are in the order of their UUIDs, so no two have one, and one of them is the
+-- archive
 pub record IsSeen (sights : List Sight) (w : World) : Type 0 where
   pub packages : AreSightsOf sights w.packages
   pub in_order : IsArranged package_key w.packages
@@ -70,7 +72,9 @@ is_merged_after ledger p seq = list_any (λ m. is_merge m && ends_at m.source p)
 
 -- without parent, or the loan of a split that stands in its parent and that no later merge undoes
 abbrev pub IsLoanSeen : List Receipt → List Sight → Sight → Type 0
-IsLoanSeen ledger sights s = MatchOption s.parent ⊤ (λ parent. (has_split (receipts_in sights parent) s.uuid s.loan ≡ true) × (is_merged_after ledger s.uuid s.loan ≡ false))
+IsLoanSeen ledger sights s = MatchOption s.parent ⊤ (λ parent.
+    (has_split (receipts_in sights parent) s.uuid s.loan ≡ true)
+    × (is_merged_after ledger s.uuid s.loan ≡ false))
 
 -- ---- custody
 
@@ -80,7 +84,8 @@ has_seen thing s = has moved_thing thing s.items || has moved_thing thing s.link
 
 -- all that the sight holds stands there, by these places
 abbrev pub Stands : (List ℕ → Option (List ℕ)) → Sight → Type 0
-Stands place s = AllByRecursion (λ m. place (moved_thing m) ≡ Some s.uuid) s.items × AllByRecursion (λ m. place (moved_thing m) ≡ Some s.uuid) s.links
+Stands place s = AllByRecursion (λ m. place (moved_thing m) ≡ Some s.uuid) s.items
+    × AllByRecursion (λ m. place (moved_thing m) ≡ Some s.uuid) s.links
 
 -- ---- sums
 

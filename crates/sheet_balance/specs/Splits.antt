@@ -1,5 +1,6 @@
 -- The splits that are seen, by the package that each lends. Profile.
-use Rattle.std.specs.Prelude.{◌≡◌, ⊤, ℕ, true, false, ◌&&◌, ◌==◌, List, Vec, [], ◌∷◌, flat_map, bytes_eq, nat_lt, unwrap_or, if◌then◌else◌}
+use Rattle.std.specs.Prelude.{◌≡◌, ⊤, ℕ, true, false, ◌&&◌, ◌==◌, List, Vec, [], ◌∷◌}
+use Rattle.std.specs.Prelude.{flat_map, bytes_eq, nat_lt, unwrap_or, if◌then◌else◌}
 use Rattle.std.specs.List.{list_any, AllByRecursion}
 use Rattle.std.specs.Option.{MatchOption, option_map_or}
 use Rattle.std.specs.Ordering.{nat_cmp}
@@ -32,9 +33,12 @@ lents_seen p ss = flat_map (λ s. lents_among s.uuid p s.receipts.items) ss
 
 -- ---- loans
 
--- without parent, or the loan of a split that stands in its parent and that no later merge undoes, by these last merges and splits
+-- without parent, or the loan of a split that stands in its parent and that no later merge undoes, by these last
+-- merges and splits
 abbrev pub IsLoanBy : BTreeMap (List ℕ) ℕ → BTreeMap (List ℕ) (Vec Lent Global) → Sight → Type 0
-IsLoanBy merges splits s = MatchOption s.parent ⊤ (λ parent. (list_any (λ l. bytes_eq l.home parent && (l.seq == s.loan)) (lents_in splits s.uuid) ≡ true) × (option_map_or (nat_lt s.loan) (get (slice_cmp nat_cmp) merges s.uuid) false ≡ false))
+IsLoanBy merges splits s = MatchOption s.parent ⊤ (λ parent.
+    (list_any (λ l. bytes_eq l.home parent && (l.seq == s.loan)) (lents_in splits s.uuid) ≡ true)
+    × (option_map_or (nat_lt s.loan) (get (slice_cmp nat_cmp) merges s.uuid) false ≡ false))
 
 -- ---- merges
 
@@ -44,4 +48,5 @@ StandsBefore home seq l = nat_lt l.seq seq ≡ true → l.home ≡ home
 
 -- a merge in this package stands where each split of its source before it stands
 abbrev pub UndoesBy : BTreeMap (List ℕ) (Vec Lent Global) → List ℕ → Receipt → Type 0
-UndoesBy splits home m = is_merge m ≡ true → AllByRecursion (StandsBefore home m.seq) (lents_in splits (unwrap_or m.source []))
+UndoesBy splits home m = is_merge m ≡ true → AllByRecursion (StandsBefore home m.seq)
+    (lents_in splits (unwrap_or m.source []))

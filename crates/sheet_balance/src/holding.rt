@@ -1,5 +1,6 @@
 //! Whether each thing stands where custody says so, and nowhere else.
-ghost use Rattle.std.specs.Prelude.{◌≡◌, ◌↔◌, ◌||◌, ℕ, List, Some, true, is_some, bytes_eq, IsTrue, IfOk};
+ghost use Rattle.std.specs.Prelude.{◌≡◌, ◌↔◌, ◌||◌, ℕ, List, Some, true, is_some, bytes_eq, IsTrue};
+ghost use Rattle.std.specs.Prelude.{IfOk};
 ghost use Rattle.std.specs.List.{list_any, AllByRecursion};
 ghost use Rattle.std.specs.Ordering.{nat_cmp};
 ghost use Rattle.std.specs.Cmp.Lexicographic.{slice_cmp};
@@ -29,7 +30,8 @@ pub fn holds_what_is_kept(
     ledger: &[Receipt],
     sights: &[Sight],
 ) -> Result<bool, OutOfMemory>
-    ensures { IfOk result (λ holds. (w : World) → IsSeenWith ledger.now sights.now w → IsTrue holds ↔ HoldsWhatIsKept w) }
+    ensures { IfOk result (λ holds. (w : World) → IsSeenWith ledger.now sights.now w
+        → IsTrue holds ↔ HoldsWhatIsKept w) }
 {
     let places = places(alloc, ledger)?;
     let held = held_by(alloc, sights)?;
@@ -59,7 +61,8 @@ fn stands(places: &BTreeMap<Thing, Option<Uuid>>, sight: &Sight) -> bool
 
 // Whether each thing that stands somewhere is held.
 fn are_all_held(places: &BTreeMap<Thing, Option<Uuid>>, held: &BTreeSet<Thing>) -> bool
-    ensures { IsTrue result ↔ ((thing : List ℕ) → is_some (place_in places.now thing) ≡ true → contains (slice_cmp nat_cmp) held.now thing ≡ true) }
+    ensures { IsTrue result ↔ ((thing : List ℕ) → is_some (place_in places.now thing) ≡ true
+        → contains (slice_cmp nat_cmp) held.now thing ≡ true) }
 {
     for (thing, place) in places.iter() {
         if !is_held(held, thing, place) {
@@ -71,14 +74,16 @@ fn are_all_held(places: &BTreeMap<Thing, Option<Uuid>>, held: &BTreeSet<Thing>) 
 
 // Whether a thing stands nowhere, or is held.
 fn is_held(held: &BTreeSet<Thing>, thing: &Thing, place: &Option<Uuid>) -> bool
-    ensures { IsTrue result ↔ (is_some place.now ≡ true → contains (slice_cmp nat_cmp) held.now thing.now ≡ true) }
+    ensures { IsTrue result ↔ (is_some place.now ≡ true → contains (slice_cmp nat_cmp) held.now thing.now
+        ≡ true) }
 {
     place.is_none() || held.contains(thing)
 }
 
 // All that the sights hold.
 fn held_by(alloc: Global, sights: &[Sight]) -> Result<BTreeSet<Thing>, AllocError>
-    ensures { IfOk result (λ held. (thing : List ℕ) → contains (slice_cmp nat_cmp) held thing ≡ list_any (has_seen thing) sights.now) }
+    ensures { IfOk result (λ held. (thing : List ℕ) → contains (slice_cmp nat_cmp) held thing
+        ≡ list_any (has_seen thing) sights.now) }
 {
     let mut held = BTreeSet::new(alloc);
     for sight in sights {
@@ -89,7 +94,8 @@ fn held_by(alloc: Global, sights: &[Sight]) -> Result<BTreeSet<Thing>, AllocErro
 
 // Notes what the sight holds.
 fn note_sight(held: &mut BTreeSet<Thing>, sight: &Sight) -> Result<(), AllocError>
-    ensures { IfOk result (λ _. (thing : List ℕ) → contains (slice_cmp nat_cmp) held.new thing ≡ (contains (slice_cmp nat_cmp) held.old thing || has_seen thing sight.now)) }
+    ensures { IfOk result (λ _. (thing : List ℕ) → contains (slice_cmp nat_cmp) held.new thing
+        ≡ (contains (slice_cmp nat_cmp) held.old thing || has_seen thing sight.now)) }
 {
     note_held(held, sight.items.as_slice())?;
     note_held(held, sight.links.as_slice())?;
@@ -98,7 +104,8 @@ fn note_sight(held: &mut BTreeSet<Thing>, sight: &Sight) -> Result<(), AllocErro
 
 // Whether each of these stands in the package by the places.
 fn stand_in(places: &BTreeMap<Thing, Option<Uuid>>, things: &[Moved], package: Uuid) -> bool
-    ensures { IsTrue result ↔ AllByRecursion (λ m. place_in places.now (moved_thing m) ≡ Some «package») things.now }
+    ensures { IsTrue result ↔ AllByRecursion (λ m. place_in places.now (moved_thing m) ≡ Some «package»)
+        things.now }
 {
     for moved in things {
         if !stands_in(places, moved, package) {
@@ -120,7 +127,8 @@ fn stands_in(places: &BTreeMap<Thing, Option<Uuid>>, moved: &Moved, package: Uui
 
 // Notes that these are held.
 fn note_held(held: &mut BTreeSet<Thing>, things: &[Moved]) -> Result<(), AllocError>
-    ensures { IfOk result (λ _. (thing : List ℕ) → contains (slice_cmp nat_cmp) held.new thing ≡ (contains (slice_cmp nat_cmp) held.old thing || has moved_thing thing things.now)) }
+    ensures { IfOk result (λ _. (thing : List ℕ) → contains (slice_cmp nat_cmp) held.new thing
+        ≡ (contains (slice_cmp nat_cmp) held.old thing || has moved_thing thing things.now)) }
 {
     for moved in things {
         note(held, moved)?;
@@ -130,7 +138,8 @@ fn note_held(held: &mut BTreeSet<Thing>, things: &[Moved]) -> Result<(), AllocEr
 
 // Notes that this is held.
 fn note(held: &mut BTreeSet<Thing>, moved: &Moved) -> Result<(), AllocError>
-    ensures { IfOk result (λ _. (thing : List ℕ) → contains (slice_cmp nat_cmp) held.new thing ≡ (contains (slice_cmp nat_cmp) held.old thing || bytes_eq (moved_thing moved.now) thing)) }
+    ensures { IfOk result (λ _. (thing : List ℕ) → contains (slice_cmp nat_cmp) held.new thing
+        ≡ (contains (slice_cmp nat_cmp) held.old thing || bytes_eq (moved_thing moved.now) thing)) }
 {
     held.insert(Thing::of_moved(moved))?;
     Ok(())

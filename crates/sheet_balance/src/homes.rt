@@ -1,5 +1,6 @@
 //! Whether each receipt stands where it was made or where merges brought it.
-ghost use Rattle.std.specs.Prelude.{◌≡◌, ◌↔◌, ◌==◌, ◌&&◌, ℕ, List, [], Some, IsTrue, IfOk, unwrap_or, if◌then◌else◌};
+ghost use Rattle.std.specs.Prelude.{◌≡◌, ◌↔◌, ◌==◌, ◌&&◌, ℕ, List, [], Some, IsTrue, IfOk};
+ghost use Rattle.std.specs.Prelude.{unwrap_or, if◌then◌else◌};
 ghost use Rattle.std.specs.List.{AllByRecursion};
 ghost use Rattle.std.specs.Ordering.{nat_cmp};
 ghost use Rattle.std.specs.BTreeMap.{get};
@@ -21,13 +22,15 @@ use std::alloc::{AllocError, Global};
 use std::collections::BTreeMap;
 use uuid::Uuid;
 
-/// Whether each receipt of a sound ledger stands in the package in which it was made or, where that was merged later, in the target of that merge, and so on.
+/// Whether each receipt of a sound ledger stands in the package in which it was made or, where that
+/// was merged later, in the target of that merge, and so on.
 ///
 /// # Errors
 ///
 /// Want of memory.
 pub fn are_at_home(alloc: Global, ledger: &[Receipt], sights: &[Sight]) -> Result<bool, OutOfMemory>
-    ensures { IfOk result (λ home. (w : World) → IsSeenWith ledger.now sights.now w → IsLedger (archive_of w) [] ledger.now → IsTrue home ↔ AreAtHome w) }
+    ensures { IfOk result (λ home. (w : World) → IsSeenWith ledger.now sights.now w
+        → IsLedger (archive_of w) [] ledger.now → IsTrue home ↔ AreAtHome w) }
 {
     let homes = homes_of(alloc, ledger)?;
     Ok(all_at_home(&homes, sights))
@@ -35,7 +38,8 @@ pub fn are_at_home(alloc: Global, ledger: &[Receipt], sights: &[Sight]) -> Resul
 
 // Whether each receipt stands in its home.
 fn all_at_home(homes: &BTreeMap<u64, Uuid>, sights: &[Sight]) -> bool
-    ensures { IsTrue result ↔ AllByRecursion (λ s. AllByRecursion (StandsBy homes.now s.uuid) s.receipts.items) sights.now }
+    ensures { IsTrue result ↔ AllByRecursion (λ s. AllByRecursion (StandsBy homes.now s.uuid) s.receipts.items)
+        sights.now }
 {
     for sight in sights {
         if !stand_in(homes, sight.uuid, sight.receipts.as_slice()) {
@@ -67,7 +71,8 @@ fn stands_in(homes: &BTreeMap<u64, Uuid>, package: Uuid, receipt: &Receipt) -> b
     }
 }
 
-// Under the number of each receipt its home. The receipts are walked from the last to the first, so that where merges behind bring a package is known.
+// Under the number of each receipt its home. The receipts are walked from the last to the first, so
+// that where merges behind bring a package is known.
 fn homes_of(alloc: Global, ledger: &[Receipt]) -> Result<BTreeMap<u64, Uuid>, AllocError>
     ensures { IfOk result (λ homes. AreInTurn ledger.now → AllByRecursion (HasHome homes ledger.now) ledger.now) }
 {
@@ -89,7 +94,9 @@ fn note_home(
     merged: &BTreeMap<Uuid, Uuid>,
     receipt: &Receipt,
 ) -> Result<(), AllocError>
-    ensures { IfOk result (λ _. (e : Entry) → entry_from receipt.now.line ≡ Some e → (k : ℕ) → get nat_cmp homes.new k ≡ (if receipt.now.seq == k then Some (home_in merged.now (stands_in e)) else get nat_cmp homes.old k)) }
+    ensures { IfOk result (λ _. (e : Entry) → entry_from receipt.now.line ≡ Some e → (k : ℕ)
+        → get nat_cmp homes.new k ≡ (if receipt.now.seq == k then Some (home_in merged.now (stands_in e)) else get
+        nat_cmp homes.old k)) }
 {
     let Some(entry) = read_line(receipt.line.as_str()) else {
         return Ok(());
@@ -100,7 +107,9 @@ fn note_home(
 
 // Notes where the source of a merge came home: where its target does.
 fn note_merge(merged: &mut BTreeMap<Uuid, Uuid>, receipt: &Receipt) -> Result<(), AllocError>
-    ensures { IfOk result (λ _. IsEntered receipt.now → (p : List ℕ) → home_in merged.new p ≡ home_in merged.old (if is_merge receipt.now && ends_at receipt.now.source p then unwrap_or receipt.now.target [] else p)) }
+    ensures { IfOk result (λ _. IsEntered receipt.now → (p : List ℕ)
+        → home_in merged.new p ≡ home_in merged.old (if is_merge receipt.now && ends_at receipt.now.source p then
+        unwrap_or receipt.now.target [] else p)) }
 {
     if !is_merge(receipt) {
         return Ok(());

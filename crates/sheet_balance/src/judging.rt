@@ -15,7 +15,8 @@ use sheet_types::error::OutOfMemory;
 use sheet_types::receipt::Receipt;
 use std::alloc::Global;
 
-/// Whether the world whose packages are seen so is balanced: its ledger is sound, and accounts for each thing and for the sums of each package. Yes exactly where it is.
+/// Whether the world whose packages are seen so is balanced: its ledger is sound, and accounts for
+/// each thing and for the sums of each package. Yes exactly where it is.
 ///
 /// # Errors
 ///
@@ -37,7 +38,8 @@ pub fn judge_ledger(
     ledger: &[Receipt],
     sights: &[Sight],
 ) -> Result<bool, OutOfMemory>
-    ensures { IfOk result (λ balanced. (w : World) → IsSeenWith ledger.now sights.now w → IsTrue balanced ↔ Balanced w) }
+    ensures { IfOk result (λ balanced. (w : World) → IsSeenWith ledger.now sights.now w
+        → IsTrue balanced ↔ Balanced w) }
 {
     let Some(archive) = archive_of(sights) else {
         return Ok(false);
@@ -50,7 +52,8 @@ pub fn judge_ledger(
 
 // Whether a sound ledger accounts for what is held, and its receipts stand where they ought to.
 fn is_accounted(alloc: Global, ledger: &[Receipt], sights: &[Sight]) -> Result<bool, OutOfMemory>
-    ensures { IfOk result (λ accounted. (w : World) → IsSeenWith ledger.now sights.now w → IsLedger (archive_of w) [] ledger.now → IsTrue accounted ↔ IsAccounted w) }
+    ensures { IfOk result (λ accounted. (w : World) → IsSeenWith ledger.now sights.now w
+        → IsLedger (archive_of w) [] ledger.now → IsTrue accounted ↔ IsAccounted w) }
 {
     let custody = holds_what_is_kept(alloc, ledger, sights)?;
     let sums = sums_add_up(alloc, ledger, sights)?;

@@ -1,4 +1,6 @@
-//! The judge of balanced worlds: whether the ledger of a world is sound, and the custody, the sums, the loans and the places that its receipts tell are those of what is held, judged over what is seen of its packages. It stands on values alone and knows no store.
+//! The judge of balanced worlds: whether the ledger of a world is sound, and the custody, the sums,
+//! the loans and the places that its receipts tell are those of what is held, judged over what is
+//! seen of its packages. It stands on values alone and knows no store.
 #![tactic(auto)]
 
 pub mod holding;

@@ -15,13 +15,15 @@ use std::alloc::Global;
 use std::collections::BTreeMap;
 use uuid::Uuid;
 
-/// Whether each package with a parent is the loan of a split that stands in its parent and has its number, and that no merge of a greater number undoes.
+/// Whether each package with a parent is the loan of a split that stands in its parent and has its
+/// number, and that no merge of a greater number undoes.
 ///
 /// # Errors
 ///
 /// Want of memory.
 pub fn are_loans(alloc: Global, ledger: &[Receipt], sights: &[Sight]) -> Result<bool, OutOfMemory>
-    ensures { IfOk result (λ loans. (w : World) → IsSeenWith ledger.now sights.now w → IsTrue loans ↔ AreLoans w) }
+    ensures { IfOk result (λ loans. (w : World) → IsSeenWith ledger.now sights.now w
+        → IsTrue loans ↔ AreLoans w) }
 {
     let merges = last_merges(alloc, ledger)?;
     let splits = splits_of(alloc, sights)?;

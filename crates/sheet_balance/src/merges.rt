@@ -30,7 +30,8 @@ pub fn are_together(alloc: Global, sights: &[Sight]) -> Result<bool, OutOfMemory
 // The same by the splits.
 fn all_together(splits: &BTreeMap<Uuid, Vec<Lent>>, sights: &[Sight]) -> bool
     requires { lents_in splits.now [] ≡ [] }
-    ensures { IsTrue result ↔ AllByRecursion (λ s. AllByRecursion (UndoesBy splits.now s.uuid) s.receipts.items) sights.now }
+    ensures { IsTrue result ↔ AllByRecursion (λ s. AllByRecursion (UndoesBy splits.now s.uuid) s.receipts.items)
+        sights.now }
 {
     for sight in sights {
         if !undo_here(splits, sight.uuid, sight.receipts.as_slice()) {
@@ -53,7 +54,8 @@ fn undo_here(splits: &BTreeMap<Uuid, Vec<Lent>>, home: Uuid, receipts: &[Receipt
     true
 }
 
-// Whether a receipt of this package is no merge, or one of a package that was lent here. What has no source undoes nothing.
+// Whether a receipt of this package is no merge, or one of a package that was lent here. What has
+// no source undoes nothing.
 fn undoes_here(splits: &BTreeMap<Uuid, Vec<Lent>>, home: Uuid, receipt: &Receipt) -> bool
     requires { lents_in splits.now [] ≡ [] }
     ensures { IsTrue result ↔ UndoesBy splits.now home receipt.now }

@@ -11,7 +11,8 @@ use sheet_types::receipt::Receipt;
 use std::alloc::{AllocError, Global};
 use uuid::Uuid;
 
-/// A package as the judge sees it: who it is, what it holds as receipts say it, and the receipts that stand in it. No content is needed: an item is told by its kind, identity, size and digest.
+/// A package as the judge sees it: who it is, what it holds as receipts say it, and the receipts
+/// that stand in it. No content is needed: an item is told by its kind, identity, size and digest.
 #[derive(Drop)]
 pub struct Sight {
     pub uuid: Uuid,

@@ -1,5 +1,6 @@
 //! The splits that are seen, under the packages that they lend.
-ghost use Rattle.std.specs.Prelude.{◌≡◌, ◌∷◌, ◌++◌, ℕ, List, [], None, false, bytes_eq, if◌then◌else◌, IfOk};
+ghost use Rattle.std.specs.Prelude.{◌≡◌, ◌∷◌, ◌++◌, ℕ, List, [], None, false, bytes_eq};
+ghost use Rattle.std.specs.Prelude.{if◌then◌else◌, IfOk};
 ghost use Rattle.std.specs.Ordering.{nat_cmp};
 ghost use Rattle.std.specs.Cmp.Lexicographic.{slice_cmp};
 ghost use Rattle.std.specs.BTreeMap.{Updates};
@@ -43,7 +44,8 @@ fn note_splits(
     home: Uuid,
     receipts: &[Receipt],
 ) -> Result<(), AllocError>
-    ensures noted { IfOk result (λ _. (p : List ℕ) → lents_in splits.new p ≡ lents_in splits.old p ++ lents_among home p receipts.now) }
+    ensures noted { IfOk result (λ _. (p : List ℕ) → lents_in splits.new p ≡ lents_in splits.old p
+        ++ lents_among home p receipts.now) }
     ensures whole { IfOk result (λ _. lents_in splits.new [] ≡ lents_in splits.old []) }
 {
     for receipt in receipts {
@@ -59,7 +61,8 @@ fn note_receipt(
     home: Uuid,
     receipt: &Receipt,
 ) -> Result<(), AllocError>
-    ensures noted { IfOk result (λ _. (p : List ℕ) → lents_in splits.new p ≡ lents_in splits.old p ++ lents_by home p receipt.now) }
+    ensures noted { IfOk result (λ _. (p : List ℕ) → lents_in splits.new p ≡ lents_in splits.old p
+        ++ lents_by home p receipt.now) }
     ensures whole { IfOk result (λ _. lents_in splits.new [] ≡ lents_in splits.old []) }
 {
     let Some(target) = receipt.target else {
@@ -83,7 +86,8 @@ fn note_split(
     target: Uuid,
     lent: Lent,
 ) -> Result<(), AllocError>
-    ensures noted { IfOk result (λ _. (p : List ℕ) → lents_in splits.new p ≡ lents_in splits.old p ++ (if bytes_eq target p then lent ∷ [] else [])) }
+    ensures noted { IfOk result (λ _. (p : List ℕ) → lents_in splits.new p ≡ lents_in splits.old p
+        ++ (if bytes_eq target p then lent ∷ [] else [])) }
     ensures whole { IfOk result (λ _. bytes_eq target [] ≡ false) }
 {
     fits(target);

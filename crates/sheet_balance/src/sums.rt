@@ -50,7 +50,8 @@ fn are_sums_of(flows: &BTreeMap<Uuid, Flow>, ledger: &[Receipt], sights: &[Sight
 
 // The UUIDs of the packages that are seen.
 fn uuids_of(alloc: Global, sights: &[Sight]) -> Result<BTreeSet<Uuid>, AllocError>
-    ensures { IfOk result (λ uuids. (p : List ℕ) → contains (slice_cmp nat_cmp) uuids p ≡ has (λ s. s.uuid) p sights.now) }
+    ensures { IfOk result (λ uuids. (p : List ℕ) → contains (slice_cmp nat_cmp) uuids p
+        ≡ has (λ s. s.uuid) p sights.now) }
 {
     let mut uuids = BTreeSet::new(alloc);
     for sight in sights {
@@ -61,7 +62,8 @@ fn uuids_of(alloc: Global, sights: &[Sight]) -> Result<BTreeSet<Uuid>, AllocErro
 
 // Whether all that came to packages that are none of these left them.
 fn all_left(flows: &BTreeMap<Uuid, Flow>, uuids: &BTreeSet<Uuid>) -> bool
-    ensures { IsTrue result ↔ ((p : List ℕ) → contains (slice_cmp nat_cmp) uuids.now p ≡ false → (flow_in flows.now p).came ≡ (flow_in flows.now p).left) }
+    ensures { IsTrue result ↔ ((p : List ℕ) → contains (slice_cmp nat_cmp) uuids.now p ≡ false
+        → (flow_in flows.now p).came ≡ (flow_in flows.now p).left) }
 {
     for (package, flow) in flows.iter() {
         if !has_left(uuids, package, flow) {
@@ -73,7 +75,8 @@ fn all_left(flows: &BTreeMap<Uuid, Flow>, uuids: &BTreeSet<Uuid>) -> bool
 
 // Whether a package is one of these, or all that came to it left it.
 fn has_left(uuids: &BTreeSet<Uuid>, package: &Uuid, flow: &Flow) -> bool
-    ensures { IsTrue result ↔ (contains (slice_cmp nat_cmp) uuids.now «package».now ≡ false → flow.now.came ≡ flow.now.left) }
+    ensures { IsTrue result ↔ (contains (slice_cmp nat_cmp) uuids.now «package».now ≡ false
+        → flow.now.came ≡ flow.now.left) }
 {
     uuids.contains(package) || (flow.came == flow.left)
 }

@@ -1,5 +1,6 @@
 -- Of a sound ledger each rule, of an unsound one the rule that it breaks.
-use Rattle.std.specs.Prelude.{◌≡◌, refl, ℕ, List, pos, false, [], ◌∷◌, Some, Ok, ◌==◌, bytes_eq, unwrap_or, is_some}
+use Rattle.std.specs.Prelude.{◌≡◌, refl, ℕ, List, pos, false, [], ◌∷◌, Some, Ok, ◌==◌, bytes_eq}
+use Rattle.std.specs.Prelude.{unwrap_or, is_some}
 use Rattle.std.proofs.Common.{ap, sym, subst, ◌∙◌}
 use Rattle.std.proofs.lemmas.Bool.{false≢true, true≢false}
 use Rattle.std.proofs.lemmas.Map.Keys.{IsDistinct-head}
@@ -58,8 +59,7 @@ sound_ledger = (
           says = refl;
           leaves = refl;
           comes_to = refl;
-          moves =
-              tt;
+          moves = tt;
         },
       );
       from_source = (refl, tt);
@@ -152,8 +152,7 @@ added_and_deleted = (
           says = refl;
           leaves = refl;
           comes_to = refl;
-          moves =
-              (moved_corner, refl, refl, refl);
+          moves = (moved_corner, refl, refl, refl);
         },
       );
       from_source = (refl, tt);
@@ -176,7 +175,11 @@ added_twice = (
 pub altered_then_deleted : AlteredThenDeleted
 unfolding by_index digits decode_pairs encode_with entry_from sha256 first_words schedule rounds compress hash_after
     digest_bytes
-altered_then_deleted = (refl, λ h. differ (λ o. bytes_eq (unwrap_or o []) digest) refl refl (h.1.0.agrees.0.0.0 refl).1)
+altered_then_deleted = (
+  refl,
+  λ h. differ (λ o. bytes_eq (unwrap_or o []) digest) refl refl
+      (h.1.0.agrees.0.0.0 refl).1,
+)
 
 -- what stands in the place of the added tile's line
 stands_where : (e : Entry) → entry_from added.line ≡ Some e → stands_in e ≡ archive
@@ -189,7 +192,8 @@ wrong_holdings = (
   (λ h. false≢true ((h.custody_is archive (0 ∷ item 1)).1 refl)),
   (λ h. differ is_some refl refl ((h.custody_is archive (0 ∷ item 4)).0 refl)),
   (λ h. differ (λ o. bytes_eq (unwrap_or o []) archive) refl refl ((h.custody_is archive (0 ∷ item 1)).0 refl)),
-  (λ h. differ (λ x. bytes_eq x archive) refl refl (h.homes.1.0.0.2 ∙ stands_where h.homes.1.0.0.0 h.homes.1.0.0.1)),
+  (λ h. differ (λ x. bytes_eq x archive) refl refl (h.homes.1.0.0.2
+      ∙ stands_where h.homes.1.0.0.0 h.homes.1.0.0.1)),
   (λ h. false≢true h.loans.1.0.0),
   (λ h. differ (λ x. bytes_eq x second_crew) refl refl ((h.together.1.0.0 refl).0.1.0 refl)),
 )

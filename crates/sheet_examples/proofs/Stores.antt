@@ -1,5 +1,6 @@
 -- Of some stores the fault that opening answers, and that none above it holds.
-use Rattle.std.specs.Prelude.{◌≡◌, ◌⊎◌, refl, ℕ, zero, suc, ◌<◌, Bool, true, false, List, [], ◌∷◌, Some, ◌==◌, pos}
+use Rattle.std.specs.Prelude.{◌≡◌, ◌⊎◌, refl, ℕ, zero, suc, ◌<◌, Bool, true, false, List, []}
+use Rattle.std.specs.Prelude.{◌∷◌, Some, ◌==◌, pos}
 use Rattle.std.specs.Prelude.{int_le, bytes_eq, count_by, nat_le, Contains}
 use Rattle.std.proofs.Common.{ap, sym, subst, ◌∙◌, inl, inr, arith}
 use Rattle.std.proofs.lemmas.Bool.{false≢true, true≢false}
@@ -56,7 +57,8 @@ abbrev lent_claim : Claim
 lent_claim = claim_of lent
 
 -- of the lender's claims the split alone is open
-sole_open : (c : Claim) (all : List Claim) → Contains (claims_of lender) c → is_open_claim all c ≡ true → lent_claim ≡ c
+sole_open : (c : Claim) (all : List Claim) → Contains (claims_of lender) c → is_open_claim all c ≡ true
+    → lent_claim ≡ c
 unfolding by_index digits decode_pairs encode_with entry_from
 sole_open c all inside opened =
     elim (two (claim_of added) lent_claim c inside) [
@@ -126,7 +128,8 @@ first_round : (stores : List Store) (s : Store) (j : ℕ) → j < 0
 first_round stores s j lt = absurd (omega (lt, arith))
 
 -- with the one loan that it names, the split is neither doubled nor left out
-counted_once : (test : ℕ → Bool) → test 1 ≡ false → IsNever (Counted Store head_of claims_of IsFormed IsTied frame_in
+counted_once : (test : ℕ → Bool) → test 1 ≡ false → IsNever (Counted Store head_of claims_of IsFormed IsTied
+    frame_in
     read test (lender ∷ loan ∷ []))
 unfolding by_index digits decode_pairs encode_with entry_from
 counted_once test fails id h =
@@ -192,7 +195,8 @@ both_formed id h = elim (two lender tall_loan h.0 h.1) [
       ↦ h.3 (ap (λ s. s.formed) (sym e))
 ]
 
-tall_counted : (test : ℕ → Bool) → test 1 ≡ false → IsNever (Counted Store head_of claims_of IsFormed IsTied frame_in
+tall_counted : (test : ℕ → Bool) → test 1 ≡ false → IsNever (Counted Store head_of claims_of IsFormed IsTied
+    frame_in
     read test (lender ∷ tall_loan ∷ []))
 unfolding by_index digits decode_pairs encode_with entry_from
 tall_counted test fails id h =
@@ -207,7 +211,8 @@ tall_least : (other : List ℕ) → ForeignFrame Store head_of claims_of IsForme
 unfolding by_index digits decode_pairs encode_with entry_from
 tall_least other h =
     let same : lent_claim ≡ h.2 = lender_open tall_loan (lender ∷ tall_loan ∷ []) h.1 h.2 refl h.5 h.6 in
-    let Lends : Claim → Type 0 = λ c. is_loan_of Store head_of claims_of IsFormed IsTied frame_in read c h.3 ≡ true in
+    let Lends : Claim → Type 0 = λ c. is_loan_of Store head_of claims_of IsFormed IsTied frame_in read c h.3
+    ≡ true in
     let Is : Store → Type 0 = λ s. is_loan_of Store head_of claims_of IsFormed IsTied frame_in read lent_claim s
     ≡ true in
     elim (two lender tall_loan h.3 h.7) [

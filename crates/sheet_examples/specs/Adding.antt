@@ -19,16 +19,19 @@ use Rattle.sheet_examples.specs.Sheets.{picture, row_link, replied, answer}
 
 abbrev pub Texts : Type 0
 Texts = (uuid_text archive ≡ codes "a0000000-0000-4000-8000-000000000000")
-    × (content_bytes (tile 2 3 3) ≡ 0x74 ∷ 0x69 ∷ 0x6c ∷ 0x65 ∷ 0x20 ∷ 0x32 ∷ 0x20 ∷ 0x33 ∷ 0x20 ∷ 0x33 ∷ 0x0a ∷ 0x41
+    × (content_bytes (tile 2 3 3) ≡ 0x74 ∷ 0x69 ∷ 0x6c ∷ 0x65 ∷ 0x20 ∷ 0x32 ∷ 0x20 ∷ 0x33 ∷ 0x20
+    ∷ 0x33 ∷ 0x0a ∷ 0x41
     ∷ [])
     × (content_bytes picture ≡ codes "media image/jpeg" ++ 0x0a ∷ 0x4a ∷ 0x50 ∷ [])
     × (content_bytes (Row (pos 0) (pos 4096) (pos 7) (codes "gate")) ≡ codes "row 0 4096 7" ++ 0x0a ∷ codes "gate")
-    × (encode_lower (sha256 (codes "abc")) ≡ codes "ba7816bf8f01cfea414140de5dae2223b00361a396177a9cb410ff61f20015ad")
+    × (encode_lower (sha256 (codes "abc"))
+    ≡ codes "ba7816bf8f01cfea414140de5dae2223b00361a396177a9cb410ff61f20015ad")
 
 -- ---- the first tile: its line, its receipt, and the world that holds it
 
 abbrev first_digest : List ℕ
-first_digest = 179 ∷ 99 ∷ 238 ∷ 14 ∷ 204 ∷ 156 ∷ 246 ∷ 27 ∷ 18 ∷ 236 ∷ 218 ∷ 253 ∷ 117 ∷ 220 ∷ 162 ∷ 119 ∷ 151 ∷ 41
+first_digest = 179 ∷ 99 ∷ 238 ∷ 14 ∷ 204 ∷ 156 ∷ 246 ∷ 27 ∷ 18 ∷ 236 ∷ 218 ∷ 253 ∷ 117 ∷ 220
+    ∷ 162 ∷ 119 ∷ 151 ∷ 41
     ∷ 180 ∷ 252 ∷ 197 ∷ 241 ∷ 189 ∷ 113 ∷ 140 ∷ 51 ∷ 170 ∷ 210 ∷ 201 ∷ 74 ∷ 244 ∷ 248 ∷ []
 
 abbrev first_receipt : Receipt
@@ -91,7 +94,8 @@ deleted = after_all new_archive (ask 1 (Add archive (item 1) (tile 1 0 0)) ∷ a
 
 abbrev unlinked : World
 unlinked = after_all deleted (ask 4 (Add archive (item 2) (tile 1 0 0)) ∷ ask 5 (Add archive (item 3) picture)
-    ∷ ask 6 (Link archive TilesMedia (item 2) (item 3)) ∷ ask 7 (Unlink archive TilesMedia (item 2) (item 3)) ∷ [])
+    ∷ ask 6 (Link archive TilesMedia (item 2) (item 3)) ∷ ask 7 (Unlink archive TilesMedia (item 2) (item 3))
+    ∷ [])
 
 abbrev pub UsedForGood : Type 0
 UsedForGood = (replied deleted (ask 3 (Add archive (item 1) (tile 1 0 0))) ≡ Err IdentityUsed)

@@ -58,9 +58,11 @@ KeptReceipts = (receipt_answer world_6 (request 6) ≡ Some receipt_6)
 -- ---- the ledger: all receipts by their numbers, whichever package they stand in
 
 abbrev pub WholeLedger : Type 0
-WholeLedger = (receipts_of world_6 ≡ receipt_1 ∷ receipt_2 ∷ receipt_3 ∷ receipt_4 ∷ receipt_5 ∷ receipt_6 ∷ [])
+WholeLedger = (receipts_of world_6 ≡ receipt_1 ∷ receipt_2 ∷ receipt_3 ∷ receipt_4 ∷ receipt_5 ∷ receipt_6
+    ∷ [])
     × (receipts_of (world_with (archive_with [] [] (receipt_2 ∷ receipt_5 ∷ [])
-    ∷ crew_with [] [] (receipt_1 ∷ receipt_3 ∷ []) ∷ [])) ≡ receipt_1 ∷ receipt_2 ∷ receipt_3 ∷ receipt_5 ∷ [])
+    ∷ crew_with [] [] (receipt_1 ∷ receipt_3 ∷ []) ∷ [])) ≡ receipt_1 ∷ receipt_2 ∷ receipt_3
+    ∷ receipt_5 ∷ [])
 
 -- ---- custody: where the last receipt that names a thing brought it
 

@@ -36,8 +36,7 @@ FrameLimits = (frame_fault (record sheet { srs_id = negsuc 0 }) ≡ None)
     × (frame_fault (record sheet {
       min_x = negsuc 999999999999;
       max_x = pos 1000000000000;
-      min_y =
-          negsuc 999999999999;
+      min_y = negsuc 999999999999;
       max_y = pos 1000000000000;
     }) ≡ None)
     × (frame_fault (record sheet { min_x = negsuc 1000000000000 }) ≡ Some BadBounds)
@@ -75,14 +74,12 @@ low_sheet = record {
   min_x = negsuc 99;
   min_y = negsuc 199;
   max_x = pos 0;
-  max_y =
-      negsuc 99;
+  max_y = negsuc 99;
   tile_width = pos 5;
   tile_height = pos 10;
   first_zoom = pos 3;
   levels = pos 2;
-  matrix_width =
-      pos 2;
+  matrix_width = pos 2;
   matrix_height = pos 1;
 }
 

@@ -1,5 +1,6 @@
 -- A sound ledger, ledgers each of which breaks one rule, and worlds for which no sound ledger accounts.
-use Rattle.std.specs.Prelude.{◌≡◌, ℕ, true, false, List, [], ◌∷◌, Some, None, Ok, pos, codes, count_by, sum_by, length}
+use Rattle.std.specs.Prelude.{◌≡◌, ℕ, true, false, List, [], ◌∷◌, Some, None, Ok, pos, codes, count_by}
+use Rattle.std.specs.Prelude.{sum_by, length}
 use Rattle.sheet_types.specs.Texts.{size}
 use Rattle.sheet_types.specs.World.{World, Package, receipts_of, link_key, is_tile, is_medium, is_row}
 use Rattle.sheet_types.specs.Lines.{is_uuid}
@@ -104,8 +105,7 @@ WrongThings = Unsound (added ∷ record lent { items = record moved_corner { oth
     × Unsound (added ∷ small_added ∷ record lent {
       seq = 3;
       request = request 3;
-      items =
-          moved_small ∷ moved_corner ∷ [];
+      items = moved_small ∷ moved_corner ∷ [];
       tiles = 2;
       bytes = 2;
     } ∷ [])
@@ -118,19 +118,18 @@ WrongMoves = Unsound (record lent { seq = 1 } ∷ [])
     (added ∷ record lent {
       line = codes
           "split c0000000-0000-4000-8000-000000000000 b0000000-0000-4000-8000-000000000000 strict 1 0 0 0 0";
-      source =
-          Some second_crew;
+      source = Some second_crew;
     } ∷ [])
     × Unsound (added ∷ record lent { items = record moved_corner { size = 2 } ∷ []; bytes = 2 } ∷ [])
-    × Unsound (added ∷ record lent { items = record moved_corner { fingerprint = moved_photo.fingerprint } ∷ [] } ∷ [])
+    × Unsound (added ∷ record lent { items = record moved_corner { fingerprint = moved_photo.fingerprint } ∷ [] }
+    ∷ [])
     × Unsound (added ∷ lent ∷ returned ∷ record lent { seq = 4; request = request 4 } ∷ [])
     -- the archive lends nothing under its own name
     × Unsound
     (added ∷ record lent {
       line = codes
           "split a0000000-0000-4000-8000-000000000000 a0000000-0000-4000-8000-000000000000 strict 1 0 0 0 0";
-      target =
-          Some archive;
+      target = Some archive;
     } ∷ [])
 
 -- what an Add names, no receipt before it names, even where a deletion lies between
@@ -163,24 +162,32 @@ returned_there =
 -- another number; a merge stands in another package than the split that it undoes
 abbrev pub WrongHoldings : Type 0
 WrongHoldings = (Balanced (world_with (archive_with [] [] (added ∷ []) ∷ [])) → ⊥)
-    × (Balanced (world_with (archive_with (corner ∷ kept_as 4 (tile 2 0 0) ∷ []) [] (added ∷ []) ∷ [])) → ⊥)
-    × (Balanced (world_with (archive_with (corner ∷ []) [] (added ∷ lent ∷ []) ∷ crew_of 2 (corner ∷ []) [] ∷ [])) → ⊥)
-    × (Balanced (world_with (archive_with [] [] (lent ∷ []) ∷ crew_of 2 (corner ∷ []) (added ∷ []) ∷ [])) → ⊥)
-    × (Balanced (world_with (archive_with [] [] (added ∷ lent ∷ []) ∷ crew_of 7 (corner ∷ []) [] ∷ [])) → ⊥)
+    × (Balanced (world_with (archive_with (corner ∷ kept_as 4 (tile 2 0 0) ∷ []) [] (added ∷ []) ∷ []))
+    → ⊥)
+    × (Balanced (world_with (archive_with (corner ∷ []) [] (added ∷ lent ∷ []) ∷ crew_of 2 (corner ∷ []) []
+    ∷ [])) → ⊥)
+    × (Balanced (world_with (archive_with [] [] (lent ∷ []) ∷ crew_of 2 (corner ∷ []) (added ∷ []) ∷ []))
+    → ⊥)
+    × (Balanced (world_with (archive_with [] [] (added ∷ lent ∷ []) ∷ crew_of 7 (corner ∷ []) [] ∷ []))
+    → ⊥)
     × (Balanced (world_with (archive_with [] [] (added ∷ lent ∷ lent_nothing ∷ [])
     ∷ record (crew_of 3 (corner ∷ []) (returned_there ∷ [])) { uuid = second_crew } ∷ [])) → ⊥)
 
 -- by custody each thing is where it has to be, and one sum does not add up: a tile, a medium or a row stands twice,
 -- the second time without bytes; a link stands twice; a tile is of another size
 abbrev pub WrongSums : Type 0
-WrongSums = (Balanced (world_with (archive_with (corner ∷ kept_as 1 (tile_of 1 0 0 []) ∷ []) [] (added ∷ []) ∷ [])) → ⊥)
+WrongSums = (Balanced (world_with (archive_with (corner ∷ kept_as 1 (tile_of 1 0 0 []) ∷ []) [] (added ∷ [])
+    ∷ [])) → ⊥)
     × (Balanced (world_with (archive_with (kept_as 3 picture ∷ kept_as 3 (Media (codes "image/jpeg") []) ∷ []) []
     (record receipt_3 { seq = 1; request = request 1 } ∷ []) ∷ [])) → ⊥)
-    × (Balanced (world_with (archive_with (kept_as 2 gate ∷ kept_as 2 (row_at 3000 1000) ∷ []) [] (receipt_1 ∷ [])
+    × (Balanced (world_with (archive_with (kept_as 2 gate ∷ kept_as 2 (row_at 3000 1000) ∷ []) []
+    (receipt_1 ∷ [])
     ∷ [])) → ⊥)
     × (Balanced (world_with (archive_with (corner ∷ kept_as 3 picture ∷ kept_as 2 gate ∷ [])
-    (tile_link 1 3 ∷ tile_link 1 3 ∷ []) (receipt_1 ∷ receipt_2 ∷ receipt_3 ∷ receipt_4 ∷ []) ∷ [])) → ⊥)
-    × (Balanced (world_with (archive_with (kept_as 1 (tile_of 1 0 0 (65 ∷ 66 ∷ [])) ∷ []) [] (added ∷ []) ∷ [])) → ⊥)
+    (tile_link 1 3 ∷ tile_link 1 3 ∷ []) (receipt_1 ∷ receipt_2 ∷ receipt_3 ∷ receipt_4 ∷ []) ∷ []))
+    → ⊥)
+    × (Balanced (world_with (archive_with (kept_as 1 (tile_of 1 0 0 (65 ∷ 66 ∷ [])) ∷ []) [] (added ∷ [])
+    ∷ [])) → ⊥)
 
 -- a row, a tile, a medium and a link were added, and nothing is held: no sum adds up
 abbrev emptied : World
@@ -208,7 +215,8 @@ abbrev pub ShortNames : Type 0
 ShortNames = (link_key (relation TilesMedia (1 ∷ []) (2 ∷ 3 ∷ []))
     ≡ link_key (relation TilesMedia (1 ∷ 2 ∷ []) (3 ∷ [])))
     × (is_uuid (1 ∷ []) ≡ false)
-    × (is_uuid (256 ∷ 0 ∷ 0 ∷ 0 ∷ 0 ∷ 0 ∷ 64 ∷ 0 ∷ 128 ∷ 0 ∷ 0 ∷ 0 ∷ 0 ∷ 0 ∷ 0 ∷ 0 ∷ []) ≡ false)
+    × (is_uuid (256 ∷ 0 ∷ 0 ∷ 0 ∷ 0 ∷ 0 ∷ 64 ∷ 0 ∷ 128 ∷ 0 ∷ 0 ∷ 0 ∷ 0 ∷ 0 ∷ 0 ∷ 0
+    ∷ []) ≡ false)
     × (is_uuid (item 1) ≡ true)
 
 -- the link of 1 and 2, 3 is lent, and that of 1, 2 and 3 is accepted in the archive: the ledger is unsound after it
@@ -237,7 +245,8 @@ abbrev pub AlteredItems : Type 0
 AlteredItems = (altered (holding (tile 1 0 0)) ≡ [])
     × (altered (holding other_tile) ≡ item 1 ∷ [])
     × (altered (world_with (archive_with (kept_as 4 (tile 1 0 0) ∷ []) [] (added ∷ []) ∷ [])) ≡ item 4 ∷ [])
-    × (altered (world_with (archive_with [] [] (added ∷ []) ∷ crew_with (kept_as 1 (tile 1 0 0) ∷ []) [] [] ∷ [])) ≡ [])
+    × (altered (world_with (archive_with [] [] (added ∷ []) ∷ crew_with (kept_as 1 (tile 1 0 0) ∷ []) [] []
+    ∷ [])) ≡ [])
     -- only an Add says what an item holds
     × (altered (world_with (archive_with (kept_as 1 (tile 1 0 0) ∷ []) [] (lent ∷ []) ∷ [])) ≡ item 1 ∷ [])
 

@@ -25,7 +25,12 @@ abbrev lend_quarter : Request
 lend_quarter = ask 8 (Split archive crew Strict quarter)
 
 abbrev pub CutOverZooms : Type 0
-CutOverZooms = (replied seven_tiles lend_quarter ≡ Ok (8 ∷ 5 ∷ 0 ∷ 0 ∷ 0 ∷ 5 ∷ [], Some archive, Some crew))
+CutOverZooms = (replied seven_tiles lend_quarter ≡ Ok (
+  8 ∷ 5 ∷ 0 ∷ 0 ∷ 0 ∷ 5
+      ∷ [],
+  Some archive,
+  Some crew,
+))
     × (held (outcome seven_tiles lend_quarter).1 archive ≡ item 1 ∷ item 7 ∷ [])
     × (held (outcome seven_tiles lend_quarter).1 crew ≡ item 2 ∷ item 3 ∷ item 4 ∷ item 5 ∷ item 6 ∷ [])
 
@@ -72,7 +77,12 @@ abbrev follow_chain : Request
 follow_chain = ask 9 (Split archive crew Follow quarter)
 
 abbrev pub FollowTwoRounds : Type 0
-FollowTwoRounds = (replied chained follow_chain ≡ Ok (9 ∷ 2 ∷ 2 ∷ 0 ∷ 3 ∷ 6 ∷ [], Some archive, Some crew))
+FollowTwoRounds = (replied chained follow_chain ≡ Ok (
+  9 ∷ 2 ∷ 2 ∷ 0 ∷ 3 ∷ 6
+      ∷ [],
+  Some archive,
+  Some crew,
+))
     × (held (outcome chained follow_chain).1 archive ≡ item 5 ∷ [])
     × (held (outcome chained follow_chain).1 crew ≡ item 1 ∷ item 2 ∷ item 3 ∷ item 4 ∷ [])
     × (links_held (outcome chained follow_chain).1 crew ≡ tile_link 1 3 ∷ tile_link 2 3 ∷ tile_link 2 4 ∷ [])
@@ -120,7 +130,12 @@ abbrev lend_strictly : Request
 lend_strictly = ask 11 (Split archive crew Strict quarter)
 
 abbrev pub StrictTakesMedia : Type 0
-StrictTakesMedia = (replied two_pairs lend_strictly ≡ Ok (11 ∷ 1 ∷ 2 ∷ 1 ∷ 3 ∷ 5 ∷ [], Some archive, Some crew))
+StrictTakesMedia = (replied two_pairs lend_strictly ≡ Ok (
+  11 ∷ 1 ∷ 2 ∷ 1 ∷ 3 ∷ 5
+      ∷ [],
+  Some archive,
+  Some crew,
+))
     × (held (outcome two_pairs lend_strictly).1 archive ≡ item 6 ∷ item 5 ∷ [])
     × (links_held (outcome two_pairs lend_strictly).1 archive ≡ row_link 5 6 ∷ [])
     × (held (outcome two_pairs lend_strictly).1 crew ≡ item 1 ∷ item 3 ∷ item 4 ∷ item 2 ∷ [])

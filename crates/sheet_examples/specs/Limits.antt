@@ -1,6 +1,7 @@
 -- The last reason of refusal: more than a package, the register or the ledger may hold. It is asked of the world that
 -- the request would leave.
-use Rattle.std.specs.Prelude.{◌≡◌, ℕ, zero, suc, true, false, List, [], ◌∷◌, ◌++◌, length, count_by, Ok, Err, pos}
+use Rattle.std.specs.Prelude.{◌≡◌, ℕ, zero, suc, true, false, List, [], ◌∷◌, ◌++◌, length, count_by}
+use Rattle.std.specs.Prelude.{Ok, Err, pos}
 use Rattle.std.specs.List.{list_any}
 use Rattle.sheet_types.specs.World.{World, Package, is_tile, is_medium, is_row, receipts_of}
 use Rattle.sheet_types.specs.Refuse.{is_overfull, too_many}
@@ -37,7 +38,8 @@ ManyPackages = (answer (lent_often 253 []) (ask 1 (Split archive second_crew Str
 -- a million items of a kind and four million links in a package, whatever they are
 abbrev pub FullPackage : Type 0
 FullPackage = (p : Package) →
-    (count_by is_tile p.items ≡ 1000000 → count_by is_medium p.items ≡ 1000000 → count_by is_row p.items ≡ 1000000
+    (count_by is_tile p.items ≡ 1000000 → count_by is_medium p.items ≡ 1000000
+    → count_by is_row p.items ≡ 1000000
     → length p.links ≡ 4000000 → is_overfull p ≡ false)
     × (count_by is_tile p.items ≡ 1000001 → is_overfull p ≡ true)
     × (count_by is_medium p.items ≡ 1000001 → is_overfull p ≡ true)
@@ -48,6 +50,7 @@ FullPackage = (p : Package) →
 abbrev pub FullLedger : Type 0
 FullLedger = (w : World) →
     (length (receipts_of w) ≡ 1000000001 → too_many w ≡ true)
-    × (length (receipts_of w) ≡ 1000000000 → length w.packages ≡ 256 → (list_any is_overfull w.packages ≡ false)
+    × (length (receipts_of w) ≡ 1000000000 → length w.packages ≡ 256
+    → (list_any is_overfull w.packages ≡ false)
     → too_many w ≡ false)
     × (list_any is_overfull w.packages ≡ true → too_many w ≡ true)

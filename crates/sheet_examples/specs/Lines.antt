@@ -15,8 +15,7 @@ ReadWhole = (entry_from (codes "split a0000000-0000-4000-8000-000000000000 b0000
       zoom = negsuc 4;
       column = pos 0;
       last_column = pos 12;
-      row =
-          pos 3;
+      row = pos 3;
       last_row = pos 9223372036854775807;
     })))
     × (entry_from (codes "merge b0000000-0000-4000-8000-000000000000 a0000000-0000-4000-8000-000000000000 12")
@@ -25,12 +24,15 @@ ReadWhole = (entry_from (codes "split a0000000-0000-4000-8000-000000000000 b0000
 -- a word alone, a number that begins with 0, one past the greatest of 64 bits, a UUID in upper case, and two spaces
 abbrev pub NoLines : Type 0
 NoLines = (entry_from (codes "split") ≡ None)
-    × (entry_from (codes "merge b0000000-0000-4000-8000-000000000000 a0000000-0000-4000-8000-000000000000 012") ≡ None)
+    × (entry_from (codes "merge b0000000-0000-4000-8000-000000000000 a0000000-0000-4000-8000-000000000000 012")
+    ≡ None)
     × (entry_from
     (codes "merge b0000000-0000-4000-8000-000000000000 a0000000-0000-4000-8000-000000000000 9223372036854775808")
     ≡ None)
-    × (entry_from (codes "merge B0000000-0000-4000-8000-000000000000 a0000000-0000-4000-8000-000000000000 12") ≡ None)
-    × (entry_from (codes "merge  b0000000-0000-4000-8000-000000000000 a0000000-0000-4000-8000-000000000000 12") ≡ None)
+    × (entry_from (codes "merge B0000000-0000-4000-8000-000000000000 a0000000-0000-4000-8000-000000000000 12")
+    ≡ None)
+    × (entry_from (codes "merge  b0000000-0000-4000-8000-000000000000 a0000000-0000-4000-8000-000000000000 12")
+    ≡ None)
 
 -- ---- what only begins as the line of a split opens no loan, neither as a receipt nor as a claim
 
@@ -42,8 +44,7 @@ claimed line = record {
   seq = pos 1;
   line = line;
   source = codes "a0000000-0000-4000-8000-000000000000";
-  target =
-      codes "c0000000-0000-4000-8000-000000000000";
+  target = codes "c0000000-0000-4000-8000-000000000000";
 }
 
 abbrev split_line : List ℕ

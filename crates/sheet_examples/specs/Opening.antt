@@ -1,6 +1,7 @@
 -- Which stores are live, and which fault opening answers: over stores each of which is its head, its receipts,
 -- whether its tables are formed and tied, its frame and its package.
-use Rattle.std.specs.Prelude.{◌≡◌, ℕ, Bool, true, false, List, [], ◌∷◌, map, Option, Some, None, pos, codes}
+use Rattle.std.specs.Prelude.{◌≡◌, ℕ, Bool, true, false, List, [], ◌∷◌, map, Option, Some, None, pos}
+use Rattle.std.specs.Prelude.{codes}
 use Rattle.sheet_types.specs.World.{Package, new_world, no_package}
 use Rattle.sheet_types.specs.Opening.{Head, Claim, claim_of, live, strays, NoArchive, TwoArchives, IsNotAPackage}
 use Rattle.sheet_types.specs.Opening.{TwoCopies, MissingPackage, ForeignFrame, IsForeignFrame, IsDangling}
@@ -84,7 +85,8 @@ stray_ones stores = map (λ s. s.holds.uuid) (strays Store head_of claims_of IsF
 
 -- a split that stopped before the parent's commit leaves an orphan
 abbrev pub Orphan : Type 0
-Orphan = (live_ones (before ∷ loan ∷ []) ≡ archive ∷ []) × (stray_ones (before ∷ loan ∷ []) ≡ crew ∷ [])
+Orphan = (live_ones (before ∷ loan ∷ []) ≡ archive ∷ []) × (stray_ones (before ∷ loan ∷ []) ≡ crew
+    ∷ [])
 
 -- in whatever order the stores are handed in
 abbrev pub Lent : Type 0
@@ -97,7 +99,8 @@ abbrev pub Returned : Type 0
 Returned = (live_ones (again ∷ loan ∷ []) ≡ archive ∷ [])
     × (stray_ones (again ∷ loan ∷ []) ≡ crew ∷ [])
     × (live_ones (lender ∷ stored (record (crew_with [] [] []) { loan = 7 }) ∷ []) ≡ archive ∷ [])
-    × (live_ones (lender ∷ stored (record (crew_with [] [] []) { uuid = second_crew; loan = 2 }) ∷ []) ≡ archive ∷ [])
+    × (live_ones (lender ∷ stored (record (crew_with [] [] []) { uuid = second_crew; loan = 2 }) ∷ [])
+    ≡ archive ∷ [])
     × (live_ones (lender ∷ record loan { named = None } ∷ []) ≡ archive ∷ [])
     -- a receipt of another command lends nothing
     × (live_ones (stored (archive_with [] [] (record added { seq = 2; target = Some crew } ∷ [])) ∷ loan ∷ [])
@@ -131,7 +134,8 @@ StraysAreLeft = IsNever (NotAPackage Store head_of claims_of IsFormed IsTied fra
     (before ∷ record loan { formed = false } ∷ []))
 
 abbrev pub AnswersTwoCopies : Type 0
-AnswersTwoCopies = TwoCopies Store head_of claims_of IsFormed IsTied frame_in read (lender ∷ loan ∷ loan ∷ []) crew
+AnswersTwoCopies = TwoCopies Store head_of claims_of IsFormed IsTied frame_in read (lender ∷ loan ∷ loan ∷ [])
+    crew
     × IsNever (TwoCopies Store head_of claims_of IsFormed IsTied frame_in read (lender ∷ loan ∷ []))
 
 abbrev pub AnswersMissingPackage : Type 0

@@ -1,6 +1,7 @@
 -- The reasons of refusal, but for the last: for each the requests that it refuses, requests beside them that pass,
 -- and of two reasons the first. A number is that of an accepted request's receipt.
-use Rattle.std.specs.Prelude.{◌≡◌, ℕ, true, false, List, [], ◌∷◌, replicate, Some, Ok, Err, pos, negsuc, codes}
+use Rattle.std.specs.Prelude.{◌≡◌, ℕ, true, false, List, [], ◌∷◌, replicate, Some, Ok, Err, pos, negsuc}
+use Rattle.std.specs.Prelude.{codes}
 use Rattle.sheet_types.specs.Texts.{is_moment}
 use Rattle.sheet_types.specs.World.{World}
 use Rattle.sheet_types.specs.Custody.{is_used}
@@ -259,18 +260,22 @@ NotLent = (answer world_4 (ask 5 (Split archive crew Strict (block 3 0 0 0 0))) 
 
 -- a tile inside and a row outside, and two media of both
 abbrev torn : World
-torn = world_with (archive_with (kept_as 1 (tile 1 0 0) ∷ kept_as 3 picture ∷ kept_as 4 picture ∷ kept_as 5 picture
-    ∷ kept_as 2 gate ∷ []) (tile_link 1 3 ∷ tile_link 1 4 ∷ tile_link 1 5 ∷ row_link 2 4 ∷ row_link 2 5 ∷ []) [] ∷ [])
+torn = world_with (archive_with (kept_as 1 (tile 1 0 0) ∷ kept_as 3 picture ∷ kept_as 4 picture
+    ∷ kept_as 5 picture
+    ∷ kept_as 2 gate ∷ []) (tile_link 1 3 ∷ tile_link 1 4 ∷ tile_link 1 5 ∷ row_link 2 4 ∷ row_link 2 5
+    ∷ []) [] ∷ [])
 
 -- a row of one quarter related to a tile of another; a row and a tile of a third
 abbrev tiles_of_rows : World
 tiles_of_rows = world_with (archive_with (kept_as 4 (tile 1 1 1) ∷ kept_as 6 (tile 1 1 0)
-    ∷ kept_as 2 (row_at 100 4000) ∷ kept_as 5 (row_at 3000 4000) ∷ []) (tile_of_row 2 4 ∷ tile_of_row 5 6 ∷ []) []
+    ∷ kept_as 2 (row_at 100 4000) ∷ kept_as 5 (row_at 3000 4000) ∷ [])
+    (tile_of_row 2 4 ∷ tile_of_row 5 6 ∷ []) []
     ∷ [])
 
 -- a row related to a tile of another quarter, and a medium of both
 abbrev torn_twice : World
-torn_twice = world_with (archive_with (kept_as 4 (tile 1 1 1) ∷ kept_as 3 picture ∷ kept_as 2 (row_at 100 4000) ∷ [])
+torn_twice = world_with (archive_with (kept_as 4 (tile 1 1 1) ∷ kept_as 3 picture ∷ kept_as 2 (row_at 100 4000)
+    ∷ [])
     (tile_link 4 3 ∷ row_link 2 3 ∷ tile_of_row 2 4 ∷ []) [] ∷ [])
 
 abbrev pub TornLinks : Type 0
@@ -336,9 +341,11 @@ returning there = world_with (archive_with (kept_as 11 (tile 1 1 0) ∷ kept_as 
 abbrev pub Collisions : Type 0
 Collisions = (answer (returning (kept_as 1 (tile 1 1 0) ∷ kept_as 2 (tile 1 0 1) ∷ kept_as 3 (tile 2 0 0)
     ∷ kept_as 4 (tile 0 0 0) ∷ [])) (ask 1 (Merge crew archive (pos 0))) ≡ Err (Collides (item 2)))
-    × (answer (returning (kept_as 1 (tile 1 0 1) ∷ kept_as 2 (tile 1 0 0) ∷ [])) (ask 1 (Merge crew archive (pos 0)))
+    × (answer (returning (kept_as 1 (tile 1 0 1) ∷ kept_as 2 (tile 1 0 0) ∷ []))
+    (ask 1 (Merge crew archive (pos 0)))
     ≡ Err (Collides (item 2)))
-    × (answer (returning (kept_as 3 (tile 2 0 0) ∷ kept_as 4 (tile 0 0 0) ∷ [])) (ask 1 (Merge crew archive (pos 0)))
+    × (answer (returning (kept_as 3 (tile 2 0 0) ∷ kept_as 4 (tile 0 0 0) ∷ []))
+    (ask 1 (Merge crew archive (pos 0)))
     ≡ Err (Collides (item 3)))
     × (answer (returning (kept_as 4 (tile 0 0 0) ∷ kept_as 5 (row_at 0 4096) ∷ []))
     (ask 1 (Merge crew archive (pos 0))) ≡ Ok 1)

@@ -30,12 +30,14 @@ bring_back = ask 4 (Merge crew archive (pos 3))
 
 abbrev pub ThereAndBack : Type 0
 ThereAndBack = (replied two_tiles lend_row ≡ Ok (3 ∷ 2 ∷ 0 ∷ 0 ∷ 0 ∷ 4 ∷ [], Some archive, Some crew))
-    × (replied (outcome two_tiles lend_row).1 bring_back ≡ Ok (4 ∷ 2 ∷ 0 ∷ 0 ∷ 0 ∷ 4 ∷ [], Some crew, Some archive))
+    × (replied (outcome two_tiles lend_row).1 bring_back ≡ Ok
+    (4 ∷ 2 ∷ 0 ∷ 0 ∷ 0 ∷ 4 ∷ [], Some crew, Some archive))
     × ((holdings (outcome two_tiles lend_row).1 crew).items
     ≡ record { identity = item 1; content = tile_of 1 0 0 (65 ∷ 66 ∷ []) }
     ∷ record { identity = item 2; content = tile_of 1 1 0 (67 ∷ 68 ∷ []) } ∷ [])
     × (held (outcome two_tiles lend_row).1 archive ≡ [])
-    × ((holdings (after_all two_tiles (lend_row ∷ bring_back ∷ [])) archive).items ≡ (holdings two_tiles archive).items)
+    × ((holdings (after_all two_tiles (lend_row ∷ bring_back ∷ [])) archive).items
+    ≡ (holdings two_tiles archive).items)
     × (map (λ p. p.uuid) (after_all two_tiles (lend_row ∷ bring_back ∷ [])).packages ≡ archive ∷ [])
 
 abbrev column : Rect
@@ -71,7 +73,8 @@ CrossedLinks = (replied crossed lend_crossed ≡ Ok (9 ∷ 2 ∷ 2 ∷ 0 ∷ 2 �
     × (links_held (outcome crossed lend_crossed).1 archive ≡ [])
     × (replied (outcome crossed lend_crossed).1 bring_crossed
     ≡ Ok (10 ∷ 2 ∷ 2 ∷ 0 ∷ 2 ∷ 8 ∷ [], Some crew, Some archive))
-    × (links_held (after_all crossed (lend_crossed ∷ bring_crossed ∷ [])) archive ≡ tile_link 1 4 ∷ tile_link 2 3 ∷ [])
+    × (links_held (after_all crossed (lend_crossed ∷ bring_crossed ∷ [])) archive ≡ tile_link 1 4
+    ∷ tile_link 2 3 ∷ [])
 
 -- contents and links there and back, over the left column
 abbrev crossed_column : World
@@ -84,7 +87,12 @@ abbrev lend_column : Request
 lend_column = ask 9 (Split archive crew Strict column)
 
 abbrev pub ContentsAndLinks : Type 0
-ContentsAndLinks = (replied crossed_column lend_column ≡ Ok (9 ∷ 2 ∷ 2 ∷ 0 ∷ 2 ∷ 8 ∷ [], Some archive, Some crew))
+ContentsAndLinks = (replied crossed_column lend_column ≡ Ok (
+  9 ∷ 2 ∷ 2 ∷ 0 ∷ 2 ∷ 8
+      ∷ [],
+  Some archive,
+  Some crew,
+))
     × (links_held (outcome crossed_column lend_column).1 crew ≡ tile_link 1 4 ∷ tile_link 2 3 ∷ [])
     × (replied (outcome crossed_column lend_column).1 bring_crossed
     ≡ Ok (10 ∷ 2 ∷ 2 ∷ 0 ∷ 2 ∷ 8 ∷ [], Some crew, Some archive))
@@ -128,7 +136,12 @@ abbrev once : World
 once = (outcome one_tile (ask 2 lend)).1
 
 abbrev pub SplitThatComesTwice : Type 0
-SplitThatComesTwice = (replied one_tile (ask 2 lend) ≡ Ok (2 ∷ 1 ∷ 0 ∷ 0 ∷ 0 ∷ 1 ∷ [], Some archive, Some crew))
+SplitThatComesTwice = (replied one_tile (ask 2 lend) ≡ Ok (
+  2 ∷ 1 ∷ 0 ∷ 0 ∷ 0 ∷ 1
+      ∷ [],
+  Some archive,
+  Some crew,
+))
     × (outcome once (ask 2 lend) ≡ outcome one_tile (ask 2 lend))
     × (outcome once (ask_at noon 2 lend) ≡ outcome one_tile (ask 2 lend))
     × (outcome once (ask_at [] 2 lend) ≡ outcome one_tile (ask 2 lend))
@@ -143,7 +156,8 @@ merged = after_all once (ask 3 (Add crew (item 2) (tile 1 0 1)) ∷ ask 4 (Merge
 abbrev pub KeptAfterMerge : Type 0
 KeptAfterMerge = (replied (after_all once (ask 3 (Add crew (item 2) (tile 1 0 1)) ∷ []))
     (ask 4 (Merge crew archive (pos 3))) ≡ Ok (4 ∷ 2 ∷ 0 ∷ 0 ∷ 0 ∷ 2 ∷ [], Some crew, Some archive))
-    × (replied merged (ask 3 (Add crew (item 2) (tile 1 0 1))) ≡ Ok (3 ∷ 1 ∷ 0 ∷ 0 ∷ 0 ∷ 1 ∷ [], None, Some crew))
+    × (replied merged (ask 3 (Add crew (item 2) (tile 1 0 1)))
+    ≡ Ok (3 ∷ 1 ∷ 0 ∷ 0 ∷ 0 ∷ 1 ∷ [], None, Some crew))
     × (answer merged (ask 5 (Add crew (item 3) (tile 2 0 0))) ≡ Err UnknownPackage)
 
 -- ---- a stale ticket, a foreign package, a used name
@@ -166,7 +180,12 @@ abbrev lend_on : Request
 lend_on = ask 6 (Split crew third_crew Strict quarter)
 
 abbrev pub EmptiedLoanWithALoan : Type 0
-EmptiedLoanWithALoan = (replied two_loans lend_on ≡ Ok (6 ∷ 2 ∷ 0 ∷ 0 ∷ 0 ∷ 2 ∷ [], Some crew, Some third_crew))
+EmptiedLoanWithALoan = (replied two_loans lend_on ≡ Ok (
+  6 ∷ 2 ∷ 0 ∷ 0 ∷ 0 ∷ 2
+      ∷ [],
+  Some crew,
+  Some third_crew,
+))
     × (held (outcome two_loans lend_on).1 crew ≡ [])
     × ((holdings (outcome two_loans lend_on).1 third_crew).parent ≡ Some crew)
     × ((holdings (outcome two_loans lend_on).1 third_crew).depth ≡ 2)
@@ -182,7 +201,8 @@ abbrev lent_down : World
 lent_down = after_all new_archive
     (ask 1 (Add archive (item 1) (tile 2 0 0)) ∷ ask 2 (Split archive crew Strict corner)
     ∷ ask 3 (Split crew second_crew Strict corner)
-    ∷ ask 4 (Split second_crew third_crew Strict corner) ∷ ask 5 (Split third_crew fourth_crew Strict corner) ∷ [])
+    ∷ ask 4 (Split second_crew third_crew Strict corner) ∷ ask 5 (Split third_crew fourth_crew Strict corner)
+    ∷ [])
 
 abbrev brought_up : World
 brought_up = after_all lent_down
@@ -215,7 +235,8 @@ interleaved = world_with (
 abbrev pub InPlace : Type 0
 InPlace = (held (outcome interleaved (ask 1 (Merge crew archive (pos 0)))).1 archive ≡ item 2 ∷ item 3 ∷ item 4
     ∷ item 5 ∷ item 6 ∷ item 7 ∷ [])
-    × (links_held (outcome interleaved (ask 1 (Merge crew archive (pos 0)))).1 archive ≡ tile_link 2 6 ∷ tile_link 3 7
+    × (links_held (outcome interleaved (ask 1 (Merge crew archive (pos 0)))).1 archive ≡ tile_link 2 6
+    ∷ tile_link 3 7
     ∷ tile_link 4 6 ∷ tile_link 5 7 ∷ [])
     -- of two links of a tile one is taken out
     × (links_held (outcome interleaved (ask 1 (Unlink archive TilesMedia (item 2) (item 6)))).1 archive

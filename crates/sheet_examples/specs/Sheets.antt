@@ -21,8 +21,7 @@ sheet = record {
   min_y = pos 0;
   max_x = pos 4096;
   max_y = pos 4096;
-  tile_width =
-      pos 256;
+  tile_width = pos 256;
   tile_height = pos 256;
   first_zoom = pos 0;
   levels = pos 3;
@@ -32,7 +31,8 @@ sheet = record {
 
 -- UUIDs that differ in the first and in the last byte
 abbrev pub id : ℕ → ℕ → List ℕ
-id first last = first ∷ 0 ∷ 0 ∷ 0 ∷ 0 ∷ 0 ∷ 64 ∷ 0 ∷ 128 ∷ 0 ∷ 0 ∷ 0 ∷ 0 ∷ 0 ∷ 0 ∷ last ∷ []
+id first last = first ∷ 0 ∷ 0 ∷ 0 ∷ 0 ∷ 0 ∷ 64 ∷ 0 ∷ 128 ∷ 0 ∷ 0 ∷ 0 ∷ 0 ∷ 0 ∷ 0 ∷ last
+    ∷ []
 
 -- a0000000-.. to f0000000-..
 abbrev pub archive : List ℕ
@@ -115,8 +115,7 @@ abbrev pub block : ℕ → ℕ → ℕ → ℕ → ℕ → Rect
 block zoom column last_column row last_row = record {
   zoom = pos zoom;
   column = pos column;
-  last_column =
-      pos last_column;
+  last_column = pos last_column;
   row = pos row;
   last_row = pos last_row;
 }

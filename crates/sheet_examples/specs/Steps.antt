@@ -13,7 +13,8 @@ use Rattle.sheet_examples.specs.Story.{gate, receipt_1, world_0, world_1}
 
 -- whatever is refused, the world stays
 abbrev pub RefusedChangesNothing : Type 0
-RefusedChangesNothing = (w : World) (q : Request) (why : Refusal) (next : World) → Step w q (Err why) next → next ≡ w
+RefusedChangesNothing = (w : World) (q : Request) (why : Refusal) (next : World) → Step w q (Err why) next
+    → next ≡ w
 
 -- whatever was kept is answered as it is kept, and the world stays
 abbrev pub KeptChangesNothing : Type 0

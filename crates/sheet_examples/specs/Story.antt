@@ -31,8 +31,7 @@ archive_with items links receipts = record {
   parent = None;
   depth = 0;
   loan = 0;
-  items =
-      items;
+  items = items;
   links = links;
   receipts = receipts;
 }
@@ -44,8 +43,7 @@ crew_with items links receipts = record {
   parent = Some archive;
   depth = 1;
   loan = 5;
-  items =
-      items;
+  items = items;
   links = links;
   receipts = receipts;
 }
@@ -61,25 +59,32 @@ moved_item kind n size digest = record {
   base = item n;
   other = None;
   size = size;
-  fingerprint =
-      Some digest;
+  fingerprint = Some digest;
 }
 
 abbrev pub moved_gate : Moved
-moved_gate = moved_item RowItem 2 4 (57 ∷ 147 ∷ 177 ∷ 88 ∷ 213 ∷ 112 ∷ 166 ∷ 218 ∷ 121 ∷ 121 ∷ 245 ∷ 166 ∷ 57 ∷ 89
-    ∷ 198 ∷ 120 ∷ 144 ∷ 63 ∷ 190 ∷ 61 ∷ 175 ∷ 183 ∷ 182 ∷ 206 ∷ 245 ∷ 79 ∷ 72 ∷ 190 ∷ 87 ∷ 175 ∷ 43 ∷ 175 ∷ [])
+moved_gate = moved_item RowItem 2 4 (57 ∷ 147 ∷ 177 ∷ 88 ∷ 213 ∷ 112 ∷ 166 ∷ 218 ∷ 121 ∷ 121 ∷ 245
+    ∷ 166 ∷ 57 ∷ 89
+    ∷ 198 ∷ 120 ∷ 144 ∷ 63 ∷ 190 ∷ 61 ∷ 175 ∷ 183 ∷ 182 ∷ 206 ∷ 245 ∷ 79 ∷ 72 ∷ 190 ∷ 87
+    ∷ 175 ∷ 43 ∷ 175 ∷ [])
 
 abbrev pub moved_corner : Moved
-moved_corner = moved_item TileItem 1 1 (194 ∷ 14 ∷ 183 ∷ 30 ∷ 99 ∷ 240 ∷ 38 ∷ 8 ∷ 52 ∷ 150 ∷ 13 ∷ 207 ∷ 191 ∷ 251
-    ∷ 223 ∷ 158 ∷ 150 ∷ 234 ∷ 220 ∷ 11 ∷ 137 ∷ 70 ∷ 219 ∷ 53 ∷ 163 ∷ 75 ∷ 147 ∷ 130 ∷ 220 ∷ 48 ∷ 24 ∷ 72 ∷ [])
+moved_corner = moved_item TileItem 1 1 (194 ∷ 14 ∷ 183 ∷ 30 ∷ 99 ∷ 240 ∷ 38 ∷ 8 ∷ 52 ∷ 150 ∷ 13
+    ∷ 207 ∷ 191 ∷ 251
+    ∷ 223 ∷ 158 ∷ 150 ∷ 234 ∷ 220 ∷ 11 ∷ 137 ∷ 70 ∷ 219 ∷ 53 ∷ 163 ∷ 75 ∷ 147 ∷ 130
+    ∷ 220 ∷ 48 ∷ 24 ∷ 72 ∷ [])
 
 abbrev pub moved_photo : Moved
-moved_photo = moved_item MediaItem 3 2 (13 ∷ 41 ∷ 62 ∷ 247 ∷ 176 ∷ 110 ∷ 92 ∷ 44 ∷ 210 ∷ 150 ∷ 53 ∷ 11 ∷ 72 ∷ 105 ∷ 77
-    ∷ 9 ∷ 33 ∷ 200 ∷ 172 ∷ 183 ∷ 167 ∷ 36 ∷ 7 ∷ 174 ∷ 231 ∷ 210 ∷ 219 ∷ 211 ∷ 147 ∷ 109 ∷ 125 ∷ 160 ∷ [])
+moved_photo = moved_item MediaItem 3 2 (13 ∷ 41 ∷ 62 ∷ 247 ∷ 176 ∷ 110 ∷ 92 ∷ 44 ∷ 210 ∷ 150 ∷ 53
+    ∷ 11 ∷ 72 ∷ 105 ∷ 77
+    ∷ 9 ∷ 33 ∷ 200 ∷ 172 ∷ 183 ∷ 167 ∷ 36 ∷ 7 ∷ 174 ∷ 231 ∷ 210 ∷ 219 ∷ 211 ∷ 147 ∷ 109
+    ∷ 125 ∷ 160 ∷ [])
 
 abbrev pub moved_small : Moved
-moved_small = moved_item TileItem 4 1 (213 ∷ 215 ∷ 2 ∷ 202 ∷ 133 ∷ 90 ∷ 110 ∷ 77 ∷ 145 ∷ 172 ∷ 10 ∷ 95 ∷ 61 ∷ 52 ∷ 113
-    ∷ 188 ∷ 109 ∷ 107 ∷ 45 ∷ 86 ∷ 65 ∷ 166 ∷ 200 ∷ 237 ∷ 175 ∷ 149 ∷ 93 ∷ 225 ∷ 114 ∷ 162 ∷ 181 ∷ 102 ∷ [])
+moved_small = moved_item TileItem 4 1 (213 ∷ 215 ∷ 2 ∷ 202 ∷ 133 ∷ 90 ∷ 110 ∷ 77 ∷ 145 ∷ 172 ∷ 10
+    ∷ 95 ∷ 61 ∷ 52 ∷ 113
+    ∷ 188 ∷ 109 ∷ 107 ∷ 45 ∷ 86 ∷ 65 ∷ 166 ∷ 200 ∷ 237 ∷ 175 ∷ 149 ∷ 93 ∷ 225 ∷ 114
+    ∷ 162 ∷ 181 ∷ 102 ∷ [])
 
 abbrev pub moved_link : Moved
 moved_link = record { kind = TilesMediaLink; base = item 1; other = Some (item 3); size = 0; fingerprint = None }
@@ -91,8 +96,7 @@ entered seq line source target items = record {
   request = request seq;
   at = morning;
   line = line;
-  source =
-      source;
+  source = source;
   target = target;
   items = items;
   tiles = 0;
@@ -147,7 +151,8 @@ abbrev pub world_1 : World
 world_1 = world_with (archive_with (kept_as 2 gate ∷ []) [] (receipt_1 ∷ []) ∷ [])
 
 abbrev pub world_2 : World
-world_2 = world_with (archive_with (kept_as 1 (tile 1 0 0) ∷ kept_as 2 gate ∷ []) [] (receipt_1 ∷ receipt_2 ∷ []) ∷ [])
+world_2 = world_with (archive_with (kept_as 1 (tile 1 0 0) ∷ kept_as 2 gate ∷ []) []
+    (receipt_1 ∷ receipt_2 ∷ []) ∷ [])
 
 abbrev pub world_3 : World
 world_3 = world_with (archive_with (kept_as 1 (tile 1 0 0) ∷ kept_as 3 picture ∷ kept_as 2 gate ∷ []) []
@@ -158,27 +163,33 @@ world_4 = world_with (archive_with (kept_as 1 (tile 1 0 0) ∷ kept_as 3 picture
     (tile_link 1 3 ∷ []) (receipt_1 ∷ receipt_2 ∷ receipt_3 ∷ receipt_4 ∷ []) ∷ [])
 
 abbrev pub world_5 : World
-world_5 = world_with (archive_with (kept_as 2 gate ∷ []) [] (receipt_1 ∷ receipt_2 ∷ receipt_3 ∷ receipt_4 ∷ receipt_5
+world_5 = world_with (archive_with (kept_as 2 gate ∷ []) [] (receipt_1 ∷ receipt_2 ∷ receipt_3 ∷ receipt_4
+    ∷ receipt_5
     ∷ []) ∷ crew_with (kept_as 1 (tile 1 0 0) ∷ kept_as 3 picture ∷ []) (tile_link 1 3 ∷ []) [] ∷ [])
 
 abbrev pub world_6 : World
-world_6 = world_with (archive_with (kept_as 2 gate ∷ []) [] (receipt_1 ∷ receipt_2 ∷ receipt_3 ∷ receipt_4 ∷ receipt_5
-    ∷ []) ∷ crew_with (kept_as 1 (tile 1 0 0) ∷ kept_as 4 (tile 2 0 0) ∷ kept_as 3 picture ∷ []) (tile_link 1 3 ∷ [])
+world_6 = world_with (archive_with (kept_as 2 gate ∷ []) [] (receipt_1 ∷ receipt_2 ∷ receipt_3 ∷ receipt_4
+    ∷ receipt_5
+    ∷ []) ∷ crew_with (kept_as 1 (tile 1 0 0) ∷ kept_as 4 (tile 2 0 0) ∷ kept_as 3 picture ∷ [])
+    (tile_link 1 3 ∷ [])
     (receipt_6 ∷ []) ∷ [])
 
 abbrev pub world_7 : World
 world_7 = world_with (archive_with (kept_as 1 (tile 1 0 0) ∷ kept_as 4 (tile 2 0 0) ∷ kept_as 3 picture
-    ∷ kept_as 2 gate ∷ []) (tile_link 1 3 ∷ []) (receipt_1 ∷ receipt_2 ∷ receipt_3 ∷ receipt_4 ∷ receipt_5 ∷ receipt_6
+    ∷ kept_as 2 gate ∷ []) (tile_link 1 3 ∷ []) (receipt_1 ∷ receipt_2 ∷ receipt_3 ∷ receipt_4
+    ∷ receipt_5 ∷ receipt_6
     ∷ receipt_7 ∷ []) ∷ [])
 
 abbrev pub world_8 : World
 world_8 = world_with (archive_with (kept_as 1 (tile 1 0 0) ∷ kept_as 4 (tile 2 0 0) ∷ kept_as 3 picture
-    ∷ kept_as 2 gate ∷ []) [] (receipt_1 ∷ receipt_2 ∷ receipt_3 ∷ receipt_4 ∷ receipt_5 ∷ receipt_6 ∷ receipt_7
+    ∷ kept_as 2 gate ∷ []) [] (receipt_1 ∷ receipt_2 ∷ receipt_3 ∷ receipt_4 ∷ receipt_5 ∷ receipt_6
+    ∷ receipt_7
     ∷ receipt_8 ∷ []) ∷ [])
 
 abbrev pub world_9 : World
 world_9 = world_with (archive_with (kept_as 4 (tile 2 0 0) ∷ kept_as 3 picture ∷ kept_as 2 gate ∷ []) []
-    (receipt_1 ∷ receipt_2 ∷ receipt_3 ∷ receipt_4 ∷ receipt_5 ∷ receipt_6 ∷ receipt_7 ∷ receipt_8 ∷ receipt_9 ∷ [])
+    (receipt_1 ∷ receipt_2 ∷ receipt_3 ∷ receipt_4 ∷ receipt_5 ∷ receipt_6 ∷ receipt_7 ∷ receipt_8
+    ∷ receipt_9 ∷ [])
     ∷ [])
 
 -- ---- each request in its world: the receipt, and the world after it

@@ -1,5 +1,6 @@
 -- A request that comes again, after whatever requests.
-use Rattle.std.specs.Prelude.{◌≡◌, ◌⊎◌, ◌∷◌, ◌++◌, true, false, not, refl, bytes_eq, Some, None, Ok, Err}
+use Rattle.std.specs.Prelude.{◌≡◌, ◌⊎◌, ◌∷◌, ◌++◌, true, false, not, refl, bytes_eq, Some, None}
+use Rattle.std.specs.Prelude.{Ok, Err}
 use Rattle.std.proofs.Common.{sym, ap, subst, ◌∙◌, inl, inr}
 use Rattle.std.specs.Bool.{then_some}
 use Rattle.std.specs.Option.{option_and_then, option_map_or}
@@ -36,12 +37,14 @@ accepted_for_good w q r mid has_types register step qs replies next types run =
     it.1
 
 -- a request whose identity is kept for another line
-refused : (w : World) (q : Request) (r : Receipt) → kept w q.id ≡ Some r → bytes_eq r.line (line q.command) ≡ false
+refused : (w : World) (q : Request) (r : Receipt) → kept w q.id ≡ Some r
+    → bytes_eq r.line (line q.command) ≡ false
     → outcome w q ≡ (Err IdReused, w)
 refused w q r is other =
     let no_reply : kept_reply w q ≡ None = ap (option_and_then (λ s. then_some (bytes_eq s.line (line q.command)) s))
     is ∙ ap (λ b. then_some b r) other in
-    let reused : id_reused w q ≡ true = ap (λ k. option_map_or (λ s. not (bytes_eq s.line (line q.command))) k false)
+    let reused : id_reused w q ≡ true = ap (λ k. option_map_or (λ s. not (bytes_eq s.line (line q.command))) k
+    false)
     is ∙ ap not other in
     let why : refuses w q ≡ Some IdReused = rw reused refl in
     ap (λ k. outcome_by w q k (refuses w q)) no_reply ∙ ap (outcome_by w q None) why

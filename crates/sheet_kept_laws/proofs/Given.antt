@@ -1,5 +1,6 @@
 -- A receipt that is given is in the ledger then, and is the only one of its request, whatever the world is.
-use Rattle.std.specs.Prelude.{◌≡◌, ℕ, ℤ, Bool, true, false, cond, not, ◌&&◌, ◌||◌, List, [], ◌∷◌, ◌++◌, map, filter}
+use Rattle.std.specs.Prelude.{◌≡◌, ℕ, ℤ, Bool, true, false, cond, not, ◌&&◌, ◌||◌, List, []}
+use Rattle.std.specs.Prelude.{◌∷◌, ◌++◌, map, filter}
 use Rattle.std.specs.Prelude.{find, flat_map, refl, Some, None, is_some, bytes_eq}
 use Rattle.std.proofs.Common.{sym, ap, subst, ◌∙◌}
 use Rattle.std.proofs.lemmas.Bool.{true≢false, false_from_ne_true, and_parts}
@@ -84,12 +85,14 @@ module _ (w : World) (r : Receipt) where
         x.1,
       )
 
-  entered_in : (f : Package → Package) (p : List ℕ) → (is_live w p && true) ≡ true → In r (f (holdings w p)).receipts
+  entered_in : (f : Package → Package) (p : List ℕ) → (is_live w p && true) ≡ true
+      → In r (f (holdings w p)).receipts
       → IsEntered (after f p)
   entered_in f p live enters = (f (holdings w p), (changed_at f p (and_parts (is_live w p) true live).0).0, enters)
 
   -- a package from which no other was lent is not its own parent
-  apart : (child into : List ℕ) (ticket : ℤ) → is_live w child ≡ true → ends_at (holdings w child).parent into ≡ true
+  apart : (child into : List ℕ) (ticket : ℤ) → is_live w child ≡ true
+      → ends_at (holdings w child).parent into ≡ true
       → is_some (loan_open w (Merge child into ticket)) ≡ false → bytes_eq child into ≡ false
   apart child into ticket live parent no_loans = false_from_ne_true (bytes_eq child into) (λ same.
       let none : AllByRecursion (λ x. ends_at x.parent child ≡ false) w.packages =
@@ -101,13 +104,15 @@ module _ (w : World) (r : Receipt) where
       ∙ here))
 
   -- after each command whose packages are live
-  entered : (command : Command) → list_all (is_live w) (packages_named command) ≡ true → foreign w command ≡ false
+  entered : (command : Command) → list_all (is_live w) (packages_named command) ≡ true
+      → foreign w command ≡ false
       → is_some (loan_open w command) ≡ false → IsEntered (carried_out w r command).packages
   entered (Add p identity content) live home no_loans =
       entered_in (λ x. with_receipt r (record x { items = put item_key (added_item identity content) x.items })) p
       live (put_there (holdings w p).receipts)
   entered (Delete p identity) live home no_loans =
-      entered_in (λ x. with_receipt r (record x { items = without (λ i. i.identity) (identity ∷ []) x.items })) p live
+      entered_in (λ x. with_receipt r (record x { items = without (λ i. i.identity) (identity ∷ []) x.items })) p
+      live
       (put_there (holdings w p).receipts)
   entered (Link p mapping base other) live home no_loans =
       entered_in (λ x. with_receipt r (record x { links = put link_key (relation mapping base other) x.links })) p

@@ -1,5 +1,6 @@
 -- The ledger grows at its end: each request sets at most its own receipt behind all others.
-use Rattle.std.specs.Prelude.{◌≡◌, ℕ, true, ◌&&◌, cond, List, [], ◌∷◌, ◌++◌, map, refl, bytes_eq, Option, Some, None}
+use Rattle.std.specs.Prelude.{◌≡◌, ℕ, true, ◌&&◌, cond, List, [], ◌∷◌, ◌++◌, map, refl}
+use Rattle.std.specs.Prelude.{bytes_eq, Option, Some, None}
 use Rattle.std.proofs.Common.{sym, ap, subst, ◌∙◌, inl, inr, append_assoc}
 use Rattle.std.proofs.lemmas.List.{append-nil}
 use Rattle.std.specs.List.{list_all}
@@ -55,26 +56,22 @@ module _ (w : World) (register : IsRegister w) where
   appended id moment (Add p identity content) types no_reply no_refusal =
       let q : Request = asked id moment (Add p identity content) in
       gains q (λ x. with_receipt (receipt_of w q) (record x {
-        items =
-            put item_key (added_item identity content) x.items;
+        items = put item_key (added_item identity content) x.items;
       })) p (λ x. refl) (one_live q p no_refusal refl)
   appended id moment (Delete p identity) types no_reply no_refusal =
       let q : Request = asked id moment (Delete p identity) in
       gains q (λ x. with_receipt (receipt_of w q) (record x {
-        items =
-            without (λ i. i.identity) (identity ∷ []) x.items;
+        items = without (λ i. i.identity) (identity ∷ []) x.items;
       })) p (λ x. refl) (one_live q p no_refusal refl)
   appended id moment (Link p mapping base other) types no_reply no_refusal =
       let q : Request = asked id moment (Link p mapping base other) in
       gains q (λ x. with_receipt (receipt_of w q) (record x {
-        links =
-            put link_key (relation mapping base other) x.links;
+        links = put link_key (relation mapping base other) x.links;
       })) p (λ x. refl) (one_live q p no_refusal refl)
   appended id moment (Unlink p mapping base other) types no_reply no_refusal =
       let q : Request = asked id moment (Unlink p mapping base other) in
       gains q (λ x. with_receipt (receipt_of w q) (record x {
-        links =
-            without link_key (link_key (relation mapping base other) ∷ []) x.links;
+        links = without link_key (link_key (relation mapping base other) ∷ []) x.links;
       })) p (λ x. refl)
       (one_live q p no_refusal refl)
   appended id moment (Split p child mode rect) types no_reply no_refusal =

@@ -1,5 +1,6 @@
 -- What is kept stays kept, and what is given is kept.
-use Rattle.std.specs.Prelude.{◌≡◌, ℕ, Bool, true, false, cond, List, [], ◌∷◌, ◌++◌, find, refl, bytes_eq, Option}
+use Rattle.std.specs.Prelude.{◌≡◌, ℕ, Bool, true, false, cond, List, [], ◌∷◌, ◌++◌, find, refl}
+use Rattle.std.specs.Prelude.{bytes_eq, Option}
 use Rattle.std.specs.Prelude.{Some, None, Ok, Err}
 use Rattle.std.proofs.Common.{sym, ap, subst, ◌∙◌, inl, inr}
 use Rattle.std.proofs.lemmas.Slice.Eq.{bytes_eq-Decides}
@@ -18,7 +19,8 @@ use Rattle.sheet_kept_laws.proofs.Given.{given_is_kept}
 use Rattle.sheet_kept_laws.proofs.Growing.{run_extends_ledger}
 
 -- the first that passes is the first of a longer list too
-found_before : {X : Type 0} (p : X → Bool) (x : X) (xs ys : List X) → find p xs ≡ Some x → find p (xs ++ ys) ≡ Some x
+found_before : {X : Type 0} (p : X → Bool) (x : X) (xs ys : List X) → find p xs ≡ Some x
+    → find p (xs ++ ys) ≡ Some x
 found_before p x [] ys h = absurd (None≢Some h)
 found_before p x (z ∷ zs) ys h =
     elim (p z) as (λ v. cond v (Some z) (find p zs) ≡ Some x → cond v (Some z) (find p (zs ++ ys)) ≡ Some x) [
@@ -32,7 +34,8 @@ pub run_keeps_kept : RunKeepsKept
 run_keeps_kept w qs replies next id r types register run is =
     let more : (more : List Receipt) × (receipts_of next ≡ receipts_of w ++ more) =
     run_extends_ledger w qs replies next types register run in
-    ap (find (λ x. bytes_eq x.request id)) more.1 ∙ found_before (λ x. bytes_eq x.request id) r (receipts_of w) more.0
+    ap (find (λ x. bytes_eq x.request id)) more.1 ∙ found_before (λ x. bytes_eq x.request id) r (receipts_of w)
+    more.0
     is
 
 pub step_keeps_kept : StepKeepsKept
@@ -49,7 +52,8 @@ reply_is_kept : (text : List ℕ) (k : Option Receipt) (r : Receipt)
     → option_and_then (λ s. then_some (bytes_eq s.line text) s) k ≡ Some r → (k ≡ Some r) × (r.line ≡ text)
 reply_is_kept text None r h = absurd (None≢Some h)
 reply_is_kept text (Some s) r h =
-    elim (bytes_eq s.line text) as (λ v. bytes_eq s.line text ≡ v → then_some v s ≡ Some r → (Some s ≡ Some r)
+    elim (bytes_eq s.line text) as (λ v. bytes_eq s.line text ≡ v → then_some v s ≡ Some r
+    → (Some s ≡ Some r)
     × (r.line ≡ text)) [
       | true ↦ λ same is. (is, ap (λ x. x.line) (sym (some_same is)) ∙ (bytes_eq-Decides s.line text).0 same)
       | false ↦ λ _ none. absurd (None≢Some none)
@@ -77,7 +81,11 @@ accepted_is_kept w q r next step =
     elim step [
       | inl done ↦ subst (λ v. IsKeptFor v q r) (sym done.1)
           (kept_by w q r (kept_reply w q) (refuses w q) refl refl (sym done.0))
-      | inr fault ↦ absurd (elim fault.0 [ inl memory ↦ ok_not_error _ memory | inr store ↦ ok_not_error _ store ])
+      | inr fault ↦ absurd (elim fault.0 [
+        | inl memory ↦ ok_not_error _ memory
+        | inr store
+            ↦ ok_not_error _ store
+      ])
     ]
   where
     ok_not_error : (e : Refusal) → Ok r ≡ Err e → ⊥

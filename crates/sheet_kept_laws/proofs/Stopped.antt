@@ -40,7 +40,8 @@ from_after w q others (reply ∷ replies) next types register (Ok r) is run =
     )
 
 once : (w : World) (q : Request) (left : World) (others : List Request) (replies : List Reply) (next : World)
-    → HasTypes q.command → IsRegister w → (left ≡ w) ⊎ (left ≡ (outcome w q).1) → Run left (q ∷ others) replies next
+    → HasTypes q.command → IsRegister w → (left ≡ w) ⊎ (left ≡ (outcome w q).1)
+    → Run left (q ∷ others) replies next
     → Once w q others replies next
 once w q left others replies next types register among run =
     elim among [

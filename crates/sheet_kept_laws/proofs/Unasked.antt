@@ -26,7 +26,12 @@ pub refused_as_unasked : RefusedAsUnasked
 refused_as_unasked w [] [] next run = run
 refused_as_unasked w [] (reply ∷ replies) next run = absurd run
 refused_as_unasked w (q ∷ qs) [] next run = absurd run
-refused_as_unasked w (q ∷ qs) (Ok r ∷ replies) next run = (run.0, run.1, refused_as_unasked run.0 qs replies next run.2)
+refused_as_unasked w (q ∷ qs) (Ok r ∷ replies) next run = (
+  run.0,
+  run.1,
+  refused_as_unasked run.0 qs replies next
+      run.2,
+)
 refused_as_unasked w (q ∷ qs) (Err why ∷ replies) next run =
     let same : run.0 ≡ w = refused_stays w q why run.0 run.1 in
     refused_as_unasked w qs replies next (subst (λ v. Run v qs replies next) same run.2)

@@ -1,5 +1,6 @@
 -- Laws of the receipts that are kept, over every world and every list of requests. Profile.
-use Rattle.std.specs.Prelude.{◌≡◌, ◌⊎◌, false, ℕ, pos, List, [], ◌∷◌, ◌++◌, Some, None, Result, Ok, Err, bytes_eq}
+use Rattle.std.specs.Prelude.{◌≡◌, ◌⊎◌, false, ℕ, pos, List, [], ◌∷◌, ◌++◌, Some, None}
+use Rattle.std.specs.Prelude.{Result, Ok, Err, bytes_eq}
 use Rattle.std.specs.Prelude.{codes}
 use Rattle.std.specs.List.{AllByRecursion}
 use Rattle.sheet_types.specs.Custody.{kept}
@@ -75,7 +76,8 @@ AcceptedForGood = (w : World) (q : Request) (r : Receipt) (mid : World) →
 
 -- where the identity is kept for another line, the request is refused after whatever requests
 abbrev pub OtherLineIsRefused : Type 0
-OtherLineIsRefused = (w : World) (q : Request) (r : Receipt) (qs : List Request) (replies : List Reply) (next : World) →
+OtherLineIsRefused = (w : World) (q : Request) (r : Receipt) (qs : List Request) (replies : List Reply) (next : World)
+    →
     HaveTypes qs → IsRegister w → Run w qs replies next →
     kept w q.id ≡ Some r → bytes_eq r.line (line q.command) ≡ false → Answers next q (Err IdReused)
 
@@ -109,7 +111,8 @@ abbrev pub StoppedActsOnce : Type 0
 StoppedActsOnce = (w mid : World) (before : List Request) (q : Request) (left : World) (others : List Request)
     (replies : List Reply) (next : World) →
     HaveTypes before → HasTypes q.command → IsRegister w → ComesTo w before mid → IsBeforeOrAfter mid q left →
-    Run left (q ∷ others) replies next → BeginsWith (outcome mid q).0 replies × ComesTo w (before ++ q ∷ others) next
+    Run left (q ∷ others) replies next → BeginsWith (outcome mid q).0 replies
+    × ComesTo w (before ++ q ∷ others) next
 
 -- ---- requests that are refused
 

@@ -8,9 +8,21 @@ use Rattle.sheet_types.specs.Lines.{IsUuid}
 use Rattle.sheet_types.specs.declared.frame.Frame.{Frame}
 use Rattle.sheet_types.proofs.NewWorld.{new_balanced}
 
-kept : (frame : Frame) (archive : List ℕ) → IsUuid archive → IsKeptPackage (new_world archive frame) (record no_package { uuid = archive })
+kept : (frame : Frame) (archive : List ℕ) → IsUuid archive → IsKeptPackage (new_world archive frame)
+    (record no_package { uuid = archive })
 unfolding IsDistinct
-kept frame archive uuid = record { uuid = uuid; items = tt; links = tt; receipts = tt; identities = tt; uuids = tt; fit = tt; places = tt; ends = tt; parent = (refl, refl) }
+kept frame archive uuid = record {
+  uuid = uuid;
+  items = tt;
+  links = tt;
+  receipts = tt;
+  identities = tt;
+  uuids = tt;
+  fit = tt;
+  places = tt;
+  ends = tt;
+  parent = (refl, refl);
+}
 
 -- the law of a new world
 pub new_world_is_register : NewWorldIsRegister

@@ -1,5 +1,9 @@
 //! Laws of the model, each the contract of a function that does nothing.
-ghost use Rattle.sheet_laws.specs.Laws.{NewWorldIsRegister, AddKeepsRegister, DeleteKeepsRegister, LinkKeepsRegister, UnlinkKeepsRegister, SplitKeepsRegister, MergeKeepsRegister, StepKeepsRegister, RunKeepsRegister, RunOfBoth, RepeatChangesNothing, MovesWhole, FollowIsLeast, LineIsReadBack, OneWorld, StandsWithoutFault, OpenedIsRegister};
+ghost use Rattle.sheet_laws.specs.Laws.{NewWorldIsRegister, AddKeepsRegister, DeleteKeepsRegister, LinkKeepsRegister};
+ghost use Rattle.sheet_laws.specs.Laws.{UnlinkKeepsRegister, SplitKeepsRegister, MergeKeepsRegister};
+ghost use Rattle.sheet_laws.specs.Laws.{StepKeepsRegister, RunKeepsRegister, RunOfBoth, RepeatChangesNothing};
+ghost use Rattle.sheet_laws.specs.Laws.{MovesWhole, FollowIsLeast, LineIsReadBack, OneWorld, StandsWithoutFault};
+ghost use Rattle.sheet_laws.specs.Laws.{OpenedIsRegister};
 
 /// A new world of a good frame is a register.
 pub fn new_world_is_register()

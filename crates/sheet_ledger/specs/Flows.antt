@@ -10,11 +10,20 @@ use Rattle.sheet_ledger.specs.declared.flows.Totals.{Totals}
 
 -- the sums of receipts by each of the five measures
 abbrev pub totals_of : List Receipt → Totals
-totals_of rs = record { tiles = sum_by (λ r. r.tiles) rs; media = sum_by (λ r. r.media) rs; rows = sum_by (λ r. r.rows) rs; links = sum_by (λ r. r.links) rs; bytes = sum_by (λ r. r.bytes) rs }
+totals_of rs = record {
+  tiles = sum_by (λ r. r.tiles) rs;
+  media = sum_by (λ r. r.media) rs;
+  rows = sum_by (λ r. r.rows) rs;
+  links = sum_by (λ r. r.links) rs;
+  bytes = sum_by (λ r. r.bytes) rs;
+}
 
 -- what came to the package, and what left it
 abbrev pub flow_by : List Receipt → List ℕ → Flow
-flow_by rs p = record { came = totals_of (filter (λ r. ends_at r.target p) rs); left = totals_of (filter (λ r. ends_at r.source p) rs) }
+flow_by rs p = record {
+  came = totals_of (filter (λ r. ends_at r.target p) rs);
+  left = totals_of (filter (λ r. ends_at r.source p) rs);
+}
 
 abbrev pub nothing : Totals
 nothing = record { tiles = 0; media = 0; rows = 0; links = 0; bytes = 0 }
@@ -32,7 +41,13 @@ pub record HasFlows (flows : BTreeMap (List ℕ) Flow) (receipts : List Receipt)
 
 -- the sums with one receipt more
 abbrev pub plus : Totals → Receipt → Totals
-plus t r = record { tiles = t.tiles + r.tiles; media = t.media + r.media; rows = t.rows + r.rows; links = t.links + r.links; bytes = t.bytes + r.bytes }
+plus t r = record {
+  tiles = t.tiles + r.tiles;
+  media = t.media + r.media;
+  rows = t.rows + r.rows;
+  links = t.links + r.links;
+  bytes = t.bytes + r.bytes;
+}
 
 abbrev pub comes : Flow → Receipt → Flow
 comes f r = record { came = plus f.came r; left = f.left }

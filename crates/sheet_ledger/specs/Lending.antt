@@ -9,4 +9,5 @@ use Rattle.sheet_types.specs.declared.receipt.Receipt.{Receipt}
 
 -- the receipt is a split with a target, and the last merge of that, if there is one, is not after it
 abbrev pub is_open_by : BTreeMap (List ℕ) ℕ → Receipt → Bool
-is_open_by merges r = is_split r && is_some r.target && not (option_map_or (nat_lt r.seq) (get (slice_cmp nat_cmp) merges (unwrap_or r.target [])) false)
+is_open_by merges r = is_split r && is_some r.target && not (option_map_or (nat_lt r.seq)
+    (get (slice_cmp nat_cmp) merges (unwrap_or r.target [])) false)

@@ -1,12 +1,16 @@
 -- The parts of a balanced world, each by itself. Profile.
-use Rattle.std.specs.Prelude.{◌≡◌, ◌↔◌, ⊤, ℕ, ◌+◌, true, false, List, [], ◌∷◌, ◌++◌, Some, length, IsTrue, count_by, sum_by}
+use Rattle.std.specs.Prelude.{◌≡◌, ◌↔◌, ⊤, ℕ, ◌+◌, true, false, List, [], ◌∷◌, ◌++◌}
+use Rattle.std.specs.Prelude.{Some, length, IsTrue, count_by, sum_by}
 use Rattle.std.specs.List.{list_any, AllByRecursion}
 use Rattle.sheet_types.specs.Ordered.{has, IsArranged}
 use Rattle.sheet_types.specs.Texts.{Entry, size}
-use Rattle.sheet_types.specs.World.{World, Package, holdings, receipts_of, moved_key, moved_thing, is_tile, is_medium, is_row}
+use Rattle.sheet_types.specs.World.{World, Package, holdings, receipts_of, moved_key, moved_thing, is_tile, is_medium}
+use Rattle.sheet_types.specs.World.{is_row}
 use Rattle.sheet_types.specs.Custody.{is_add, is_split, ends_at, custody}
 use Rattle.sheet_types.specs.Step.{source_of, target_of}
-use Rattle.sheet_types.specs.Balance.{Balanced, IsLedger, MovesFor, IsReceiptOf, CountsFit, IsThing, Agrees, names_identity, is_split_to, holds, AddsUp, IsLoan, IsHome, UndoesHere, archive_of}
+use Rattle.sheet_types.specs.Balance.{Balanced, IsLedger, MovesFor, IsReceiptOf, CountsFit, IsThing, Agrees}
+use Rattle.sheet_types.specs.Balance.{names_identity, is_split_to, holds, AddsUp, IsLoan, IsHome, UndoesHere}
+use Rattle.sheet_types.specs.Balance.{archive_of}
 use Rattle.sheet_types.specs.declared.receipt.Receipt.{Receipt}
 
 -- each receipt has this fact of those before it
@@ -48,7 +52,8 @@ StartsWhereItEnded past r = AllByRecursion (λ m. custody past (moved_thing m) �
 
 -- what an Add names, no receipt before names
 abbrev pub AddsWhatIsNew : List Receipt → Receipt → Type 0
-AddsWhatIsNew past r = is_add r ≡ true → AllByRecursion (λ m. list_any (names_identity m.base) past ≡ false) r.items
+AddsWhatIsNew past r = is_add r ≡ true → AllByRecursion (λ m. list_any (names_identity m.base) past ≡ false)
+    r.items
 
 -- what it moves has the size and the digest that the receipts before say
 abbrev pub AgreesWithPast : List Receipt → Receipt → Type 0
@@ -56,7 +61,8 @@ AgreesWithPast past r = AllByRecursion (λ m. AllByRecursion (λ x. AllByRecursi
 
 -- a Split has a target that no Split before has, and that is not the archive
 abbrev pub LendsNewPackage : List ℕ → List Receipt → Receipt → Type 0
-LendsNewPackage archive past r = is_split r ≡ true → (list_any (is_split_to r.target) past ≡ false) × (ends_at r.target archive ≡ false)
+LendsNewPackage archive past r = is_split r ≡ true → (list_any (is_split_to r.target) past ≡ false)
+    × (ends_at r.target archive ≡ false)
 
 -- each receipt by itself is one that there may be
 pub record AreWellFormed (ledger : List Receipt) : Type 0 where
@@ -83,7 +89,8 @@ pub record AreSound (archive : List ℕ) (ledger : List Receipt) : Type 0 where
 
 -- custody is what is held
 abbrev pub HoldsWhatIsKept : World → Type 0
-HoldsWhatIsKept w = (p thing : List ℕ) → IsTrue (holds (holdings w p) thing) ↔ (custody (receipts_of w) thing ≡ Some p)
+HoldsWhatIsKept w = (p thing : List ℕ) → IsTrue (holds (holdings w p) thing) ↔
+    (custody (receipts_of w) thing ≡ Some p)
 
 -- the five sums are those of what is held
 pub record SumsAddUp (w : World) : Type 0 where
@@ -120,4 +127,5 @@ BalancedIsItsParts = (w : World) → Balanced w ↔ HasParts w
 
 -- a ledger is sound exactly where it has all parts
 abbrev pub SoundIsItsParts : Type 0
-SoundIsItsParts = (archive : List ℕ) (ledger : List Receipt) → IsLedger archive [] ledger ↔ AreSound archive ledger
+SoundIsItsParts = (archive : List ℕ) (ledger : List Receipt)
+    → IsLedger archive [] ledger ↔ AreSound archive ledger

@@ -42,7 +42,8 @@ pub record NoPart (s : Slot) (text : List ℕ) : Type 0 where
 abbrev pub FillsAll : List Slot → List ℕ → Type 0
 FillsAll [] text = ⊥
 FillsAll (s ∷ []) text = Fills s text
-FillsAll (s ∷ t ∷ ss) text = (word rest : List ℕ) × Fills s word × (text ≡ word ++ (32 ∷ rest)) × FillsAll (t ∷ ss) rest
+FillsAll (s ∷ t ∷ ss) text = (word rest : List ℕ) × Fills s word × (text ≡ word ++ (32 ∷ rest))
+    × FillsAll (t ∷ ss) rest
 
 -- the text is not of such parts
 pub record NoParts (ss : List Slot) (text : List ℕ) : Type 0 where

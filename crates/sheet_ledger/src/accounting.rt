@@ -10,7 +10,8 @@ use sheet_types::error::OutOfMemory;
 use sheet_types::receipt::Receipt;
 use std::alloc::Global;
 
-/// The account of receipts in the order of their numbers: each thing stands in the target of the last that names it, and each package has what came to it less what left it.
+/// The account of receipts in the order of their numbers: each thing stands in the target of the
+/// last that names it, and each package has what came to it less what left it.
 ///
 /// # Errors
 ///

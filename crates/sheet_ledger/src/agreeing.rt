@@ -43,7 +43,8 @@ pub fn agree(alloc: Global, receipts: &[Receipt]) -> Result<bool, OutOfMemory>
 
 // Whether what is told allows what these say.
 fn all_agree(told: &BTreeMap<Thing, Option<Said>>, things: &[Moved]) -> bool
-    ensures { IsTrue result ↔ AllByRecursion (λ m. Allows (get (slice_cmp nat_cmp) told.now (moved_thing m)) (said_of m)) things.now }
+    ensures { IsTrue result ↔ AllByRecursion (λ m. Allows (get (slice_cmp nat_cmp) told.now (moved_thing m))
+        (said_of m)) things.now }
 {
     for moved in things {
         if !agrees(told, moved) {
@@ -83,7 +84,8 @@ fn same_said(a: &Said, b: &Said) -> bool
 
 // Notes what these say; a thing of which two things are said is noted as such.
 fn note_all(told: &mut BTreeMap<Thing, Option<Said>>, things: &[Moved]) -> Result<(), AllocError>
-    ensures { IfOk result (λ _. (thing : List ℕ) (u : Said) → Allows (get (slice_cmp nat_cmp) told.new thing) u ↔ (Allows (get (slice_cmp nat_cmp) told.old thing) u × AllByRecursion (SaysSo thing u) things.now)) }
+    ensures { IfOk result (λ _. (thing : List ℕ) (u : Said) → Allows (get (slice_cmp nat_cmp) told.new thing) u
+        ↔ (Allows (get (slice_cmp nat_cmp) told.old thing) u × AllByRecursion (SaysSo thing u) things.now)) }
 {
     for moved in things {
         note(told, moved)?;
@@ -93,7 +95,8 @@ fn note_all(told: &mut BTreeMap<Thing, Option<Said>>, things: &[Moved]) -> Resul
 
 // Notes what this says.
 fn note(told: &mut BTreeMap<Thing, Option<Said>>, moved: &Moved) -> Result<(), AllocError>
-    ensures { IfOk result (λ _. (thing : List ℕ) (u : Said) → Allows (get (slice_cmp nat_cmp) told.new thing) u ↔ (Allows (get (slice_cmp nat_cmp) told.old thing) u × SaysSo thing u moved.now)) }
+    ensures { IfOk result (λ _. (thing : List ℕ) (u : Said) → Allows (get (slice_cmp nat_cmp) told.new thing) u
+        ↔ (Allows (get (slice_cmp nat_cmp) told.old thing) u × SaysSo thing u moved.now)) }
 {
     let more = one_more(told, moved);
     told.insert(Thing::of_moved(moved), more)?;
@@ -102,7 +105,8 @@ fn note(told: &mut BTreeMap<Thing, Option<Said>>, moved: &Moved) -> Result<(), A
 
 // What is told of the thing once this is noted.
 fn one_more(told: &BTreeMap<Thing, Option<Said>>, moved: &Moved) -> Option<Said>
-    ensures { (u : Said) → Allows (Some result) u ↔ (Allows (get (slice_cmp nat_cmp) told.now (moved_thing moved.now)) u × (u ≡ said_of moved.now)) }
+    ensures { (u : Said) → Allows (Some result) u ↔ (Allows (get (slice_cmp nat_cmp) told.now
+        (moved_thing moved.now)) u × (u ≡ said_of moved.now)) }
 {
     match told.get(&Thing::of_moved(moved)) {
         None => Some(what_is_said(moved)),

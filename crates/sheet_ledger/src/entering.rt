@@ -87,7 +87,8 @@ fn moves_for(entry: &LineEntry, things: &[Moved]) -> bool
 
 // Whether nothing else was moved than an item of this identity, of any kind.
 fn is_only_item(things: &[Moved], identity: Uuid) -> bool
-    ensures { IsTrue result ↔ ((m : Moved) × (things.now ≡ m ∷ []) × (m.base ≡ identity) × (is_item_kind m.kind ≡ true)) }
+    ensures { IsTrue result ↔ ((m : Moved) × (things.now ≡ m ∷ []) × (m.base ≡ identity)
+        × (is_item_kind m.kind ≡ true)) }
 {
     match things {
         [one] => same_uuid(one.base, identity) & is_item_kind(one.kind),

@@ -1,5 +1,6 @@
 //! What the lines of receipts say, read back whole.
-ghost use Rattle.std.specs.Prelude.{◌≡◌, ℕ, List, true, pos, decimal, ◌∷◌, ◌++◌, codes, option_map, IfSome, IfNone};
+ghost use Rattle.std.specs.Prelude.{◌≡◌, ℕ, List, true, pos, decimal, ◌∷◌, ◌++◌, codes, option_map};
+ghost use Rattle.std.specs.Prelude.{IfSome, IfNone};
 ghost use Rattle.std.specs.Fmt.{signed_decimal};
 ghost use Rattle.hex.specs.Hex.{encode_lower};
 ghost use Rattle.sheet_types.specs.Lines.{entry_from, IsUuid, is_number, is_bytes, is_rect};
@@ -9,7 +10,8 @@ ghost use Rattle.sheet_types.specs.World.{is_item_kind};
 ghost use Rattle.sheet_types.specs.Step.{source_of, target_of};
 ghost use Rattle.sheet_types.specs.Balance.{stands_in};
 ghost use Rattle.sheet_ledger.specs.Entries.{entry_said, link_verb, link_said};
-ghost use Rattle.sheet_ledger.specs.Slots.{OfUuid, OfKind, OfSize, OfDigest, OfMapping, OfMode, OfNumber, Lacks, NoFront, NoPart, NoParts, rect_slots};
+ghost use Rattle.sheet_ledger.specs.Slots.{OfUuid, OfKind, OfSize, OfDigest, OfMapping, OfMode, OfNumber, Lacks};
+ghost use Rattle.sheet_ledger.specs.Slots.{NoFront, NoPart, NoParts, rect_slots};
 
 use crate::fitting::{fits, fits_digest};
 use sheet_types::command::{Mapping, Mode};

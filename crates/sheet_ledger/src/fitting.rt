@@ -1,4 +1,5 @@
-//! Each UUID has sixteen bytes (RFC 9562, section 4) and each digest thirty-two, which no clause can say of a type: a call gives the fact.
+//! Each UUID has sixteen bytes (RFC 9562, section 4) and each digest thirty-two, which no clause
+//! can say of a type: a call gives the fact.
 ghost use Rattle.std.specs.Prelude.{◌≡◌, true};
 ghost use Rattle.sheet_types.specs.Lines.{IsUuid, is_bytes};
 

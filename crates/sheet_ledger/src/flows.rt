@@ -75,7 +75,8 @@ pub fn flow_of(flows: &BTreeMap<Uuid, Flow>, package: Uuid) -> Flow
 // Notes what came by a receipt.
 fn note_coming(flows: &mut BTreeMap<Uuid, Flow>, receipt: &Receipt) -> Result<(), AllocError>
     requires { (p : List ℕ) → IsAtMost (2 ^ 128 - 2 ^ 64) (flow_in flows.old p).came }
-    ensures { IfOk result (λ _. (p : List ℕ) → flow_in flows.new p ≡ (if ends_at receipt.now.target p then comes (flow_in flows.old p) receipt.now else flow_in flows.old p)) }
+    ensures { IfOk result (λ _. (p : List ℕ) → flow_in flows.new p
+        ≡ (if ends_at receipt.now.target p then comes (flow_in flows.old p) receipt.now else flow_in flows.old p)) }
 {
     let Some(target) = receipt.target else {
         return Ok(());
@@ -92,7 +93,8 @@ fn note_coming(flows: &mut BTreeMap<Uuid, Flow>, receipt: &Receipt) -> Result<()
 // Notes what left by a receipt.
 fn note_leaving(flows: &mut BTreeMap<Uuid, Flow>, receipt: &Receipt) -> Result<(), AllocError>
     requires { (p : List ℕ) → IsAtMost (2 ^ 128 - 2 ^ 64) (flow_in flows.old p).left }
-    ensures { IfOk result (λ _. (p : List ℕ) → flow_in flows.new p ≡ (if ends_at receipt.now.source p then leaves (flow_in flows.old p) receipt.now else flow_in flows.old p)) }
+    ensures { IfOk result (λ _. (p : List ℕ) → flow_in flows.new p
+        ≡ (if ends_at receipt.now.source p then leaves (flow_in flows.old p) receipt.now else flow_in flows.old p)) }
 {
     let Some(source) = receipt.source else {
         return Ok(());

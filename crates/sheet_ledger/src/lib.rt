@@ -1,4 +1,6 @@
-//! The account over receipts: what a line says, where each thing stands, what each package's receipts sum to, which loans are open, and whether a world is balanced. It stands on values alone and knows no store.
+//! The account over receipts: what a line says, where each thing stands, what each package's
+//! receipts sum to, which loans are open, and whether a world is balanced. It stands on values
+//! alone and knows no store.
 #![tactic(auto)]
 
 pub mod accounting;

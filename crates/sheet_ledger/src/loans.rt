@@ -1,5 +1,6 @@
 //! Which loans are open by some receipts.
-ghost use Rattle.std.specs.Prelude.{◌≡◌, ℕ, List, ◌&&◌, ◌||◌, not, bytes_eq, ◌++◌, ◌∷◌, [], if◌then◌else◌, unwrap_or, false, nat_lt, IfOk};
+ghost use Rattle.std.specs.Prelude.{◌≡◌, ℕ, List, ◌&&◌, ◌||◌, not, bytes_eq, ◌++◌, ◌∷◌, []};
+ghost use Rattle.std.specs.Prelude.{if◌then◌else◌, unwrap_or, false, nat_lt, IfOk};
 ghost use Rattle.std.specs.List.{list_any};
 ghost use Rattle.std.specs.Option.{option_map_or};
 ghost use Rattle.std.specs.Ordering.{nat_cmp};
@@ -54,7 +55,8 @@ pub fn is_merge(receipt: &Receipt) -> bool
 ///
 /// Want of memory.
 pub fn last_merges(alloc: Global, receipts: &[Receipt]) -> Result<BTreeMap<Uuid, u64>, AllocError>
-    ensures { IfOk result (λ m. (p : List ℕ) (n : ℕ) → option_map_or (nat_lt n) (get (slice_cmp nat_cmp) m p) false ≡ list_any (λ r. is_merge r && ends_at r.source p) (after n receipts.now)) }
+    ensures { IfOk result (λ m. (p : List ℕ) (n : ℕ) → option_map_or (nat_lt n) (get (slice_cmp nat_cmp) m p)
+        false ≡ list_any (λ r. is_merge r && ends_at r.source p) (after n receipts.now)) }
 {
     let mut merges = BTreeMap::new(alloc);
     for receipt in receipts {
@@ -65,7 +67,10 @@ pub fn last_merges(alloc: Global, receipts: &[Receipt]) -> Result<BTreeMap<Uuid,
 
 // Notes a receipt where it is a merge.
 fn note_receipt(merges: &mut BTreeMap<Uuid, u64>, receipt: &Receipt) -> Result<(), AllocError>
-    ensures { IfOk result (λ _. (p : List ℕ) (n : ℕ) → option_map_or (nat_lt n) (get (slice_cmp nat_cmp) merges.new p) false ≡ (option_map_or (nat_lt n) (get (slice_cmp nat_cmp) merges.old p) false || (is_merge receipt.now && ends_at receipt.now.source p && nat_lt n receipt.now.seq))) }
+    ensures { IfOk result (λ _. (p : List ℕ) (n : ℕ) → option_map_or (nat_lt n)
+        (get (slice_cmp nat_cmp) merges.new p) false ≡ (option_map_or (nat_lt n)
+        (get (slice_cmp nat_cmp) merges.old p) false || (is_merge receipt.now && ends_at receipt.now.source p &&
+        nat_lt n receipt.now.seq))) }
 {
     let Some(source) = receipt.source else {
         return Ok(());
@@ -79,14 +84,17 @@ fn note_receipt(merges: &mut BTreeMap<Uuid, u64>, receipt: &Receipt) -> Result<(
 
 // Notes a merge of this source and number.
 fn note_merge(merges: &mut BTreeMap<Uuid, u64>, source: Uuid, seq: u64) -> Result<(), AllocError>
-    ensures { IfOk result (λ _. (p : List ℕ) (n : ℕ) → option_map_or (nat_lt n) (get (slice_cmp nat_cmp) merges.new p) false ≡ (option_map_or (nat_lt n) (get (slice_cmp nat_cmp) merges.old p) false || (bytes_eq source p && nat_lt n seq))) }
+    ensures { IfOk result (λ _. (p : List ℕ) (n : ℕ) → option_map_or (nat_lt n)
+        (get (slice_cmp nat_cmp) merges.new p) false ≡ (option_map_or (nat_lt n)
+        (get (slice_cmp nat_cmp) merges.old p) false || (bytes_eq source p && nat_lt n seq))) }
 {
     let last = merges.get(&source).copied().unwrap_or(0);
     merges.insert(source, last.max(seq))?;
     Ok(())
 }
 
-/// Whether the split of this target and number is open, by the last merges: no merge of a greater number has the target as source.
+/// Whether the split of this target and number is open, by the last merges: no merge of a greater
+/// number has the target as source.
 pub fn is_open(merges: &BTreeMap<Uuid, u64>, target: Uuid, seq: u64) -> bool
     ensures { result ≡ not (option_map_or (nat_lt seq) (get (slice_cmp nat_cmp) merges.now target) false) }
 {
@@ -96,7 +104,8 @@ pub fn is_open(merges: &BTreeMap<Uuid, u64>, target: Uuid, seq: u64) -> bool
     }
 }
 
-/// The loans that are open by these receipts: the target and the number of each split among them that has a target which no merge among them of a greater number has as source.
+/// The loans that are open by these receipts: the target and the number of each split among them
+/// that has a target which no merge among them of a greater number has as source.
 ///
 /// # Errors
 ///
@@ -124,7 +133,9 @@ fn push_open(
     merges: &BTreeMap<Uuid, u64>,
     receipt: &Receipt,
 ) -> Result<(), AllocError>
-    ensures { IfOk result (λ _. loans.new.items ≡ loans.old.items ++ (if is_open_by merges.now receipt.now then (unwrap_or receipt.now.target [], receipt.now.seq) ∷ [] else [])) }
+    ensures { IfOk result (λ _. loans.new.items ≡ loans.old.items
+        ++ (if is_open_by merges.now receipt.now then (unwrap_or receipt.now.target [], receipt.now.seq)
+        ∷ [] else [])) }
 {
     let Some(target) = receipt.target else {
         return Ok(());

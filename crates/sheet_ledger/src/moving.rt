@@ -14,7 +14,8 @@ use std::alloc::Global;
 use std::collections::BTreeMap;
 use uuid::Uuid;
 
-/// Whether each thing that one of these receipts moves stands in its source by those before it, or nowhere where it has none.
+/// Whether each thing that one of these receipts moves stands in its source by those before it, or
+/// nowhere where it has none.
 ///
 /// # Errors
 ///

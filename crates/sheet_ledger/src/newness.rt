@@ -1,5 +1,6 @@
 //! Whether what receipts add, and the packages that they lend, are new.
-ghost use Rattle.std.specs.Prelude.{◌≡◌, ◌↔◌, ℕ, List, [], true, false, ◌&&◌, ◌||◌, bytes_eq, unwrap_or, IsTrue, IfOk};
+ghost use Rattle.std.specs.Prelude.{◌≡◌, ◌↔◌, ℕ, List, [], true, false, ◌&&◌, ◌||◌, bytes_eq};
+ghost use Rattle.std.specs.Prelude.{unwrap_or, IsTrue, IfOk};
 ghost use Rattle.std.specs.List.{list_any, AllByRecursion};
 ghost use Rattle.std.specs.Ordering.{nat_cmp};
 ghost use Rattle.std.specs.Cmp.Lexicographic.{slice_cmp};
@@ -37,7 +38,8 @@ pub fn add_what_is_new(alloc: Global, receipts: &[Receipt]) -> Result<bool, OutO
 
 // Whether a receipt adds nothing that is named.
 fn adds_what_is_new(named: &BTreeSet<Uuid>, receipt: &Receipt) -> bool
-    ensures { IsTrue result ↔ (is_add receipt.now ≡ true → AllByRecursion (λ m. contains (slice_cmp nat_cmp) named.now m.base ≡ false) receipt.now.items) }
+    ensures { IsTrue result ↔ (is_add receipt.now ≡ true → AllByRecursion
+        (λ m. contains (slice_cmp nat_cmp) named.now m.base ≡ false) receipt.now.items) }
 {
     if !is_add(receipt) {
         return true;
@@ -47,7 +49,8 @@ fn adds_what_is_new(named: &BTreeSet<Uuid>, receipt: &Receipt) -> bool
 
 // Whether no base of these is named.
 fn none_is_named(named: &BTreeSet<Uuid>, things: &[Moved]) -> bool
-    ensures { IsTrue result ↔ AllByRecursion (λ m. contains (slice_cmp nat_cmp) named.now m.base ≡ false) things.now }
+    ensures { IsTrue result ↔ AllByRecursion (λ m. contains (slice_cmp nat_cmp) named.now m.base ≡ false)
+        things.now }
 {
     for moved in things {
         if named.contains(&moved.base) {
@@ -59,7 +62,9 @@ fn none_is_named(named: &BTreeSet<Uuid>, things: &[Moved]) -> bool
 
 // Names the items among these.
 fn name_items(named: &mut BTreeSet<Uuid>, things: &[Moved]) -> Result<(), AllocError>
-    ensures { IfOk result (λ _. (id : List ℕ) → contains (slice_cmp nat_cmp) named.new id ≡ (contains (slice_cmp nat_cmp) named.old id || list_any (λ m. is_item_kind m.kind && bytes_eq m.base id) things.now)) }
+    ensures { IfOk result (λ _. (id : List ℕ) → contains (slice_cmp nat_cmp) named.new id
+        ≡ (contains (slice_cmp nat_cmp) named.old id || list_any (λ m. is_item_kind m.kind && bytes_eq m.base id)
+        things.now)) }
 {
     for moved in things {
         name_item(named, moved)?;
@@ -69,7 +74,9 @@ fn name_items(named: &mut BTreeSet<Uuid>, things: &[Moved]) -> Result<(), AllocE
 
 // Names it where it is an item.
 fn name_item(named: &mut BTreeSet<Uuid>, moved: &Moved) -> Result<(), AllocError>
-    ensures { IfOk result (λ _. (id : List ℕ) → contains (slice_cmp nat_cmp) named.new id ≡ (contains (slice_cmp nat_cmp) named.old id || (is_item_kind moved.now.kind && bytes_eq moved.now.base id))) }
+    ensures { IfOk result (λ _. (id : List ℕ) → contains (slice_cmp nat_cmp) named.new id
+        ≡ (contains (slice_cmp nat_cmp) named.old id || (is_item_kind moved.now.kind && bytes_eq moved.now.base
+        id))) }
 {
     if !is_item_kind(moved.kind) {
         return Ok(());
@@ -103,7 +110,9 @@ pub fn lend_new_packages(
 // Whether a receipt lends no package that was lent, nor the archive. No package has an empty UUID.
 fn lends_new_package(lent: &BTreeSet<Uuid>, archive: Uuid, receipt: &Receipt) -> bool
     requires { contains (slice_cmp nat_cmp) lent.now [] ≡ false }
-    ensures { IsTrue result ↔ (is_split receipt.now ≡ true → (contains (slice_cmp nat_cmp) lent.now (unwrap_or receipt.now.target []) ≡ false) × (ends_at receipt.now.target archive ≡ false)) }
+    ensures { IsTrue result ↔ (is_split receipt.now ≡ true →
+        (contains (slice_cmp nat_cmp) lent.now (unwrap_or receipt.now.target []) ≡ false)
+        × (ends_at receipt.now.target archive ≡ false)) }
 {
     if !is_split(receipt) {
         return true;
@@ -116,7 +125,8 @@ fn lends_new_package(lent: &BTreeSet<Uuid>, archive: Uuid, receipt: &Receipt) ->
 
 // Notes the target of a split.
 fn note_target(lent: &mut BTreeSet<Uuid>, receipt: &Receipt) -> Result<(), AllocError>
-    ensures noted { IfOk result (λ _. (p : List ℕ) → contains (slice_cmp nat_cmp) lent.new p ≡ (contains (slice_cmp nat_cmp) lent.old p || (is_split receipt.now && ends_at receipt.now.target p))) }
+    ensures noted { IfOk result (λ _. (p : List ℕ) → contains (slice_cmp nat_cmp) lent.new p
+        ≡ (contains (slice_cmp nat_cmp) lent.old p || (is_split receipt.now && ends_at receipt.now.target p))) }
     ensures whole { IfOk result (λ _. ends_at receipt.now.target [] ≡ false) }
 {
     let Some(target) = receipt.target else {

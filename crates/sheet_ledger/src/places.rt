@@ -38,7 +38,8 @@ pub(crate) fn note_all(
     things: &[Moved],
     target: &Option<Uuid>,
 ) -> Result<(), AllocError>
-    ensures { IfOk result (λ _. (thing : List ℕ) → place_in places.new thing ≡ (if has moved_thing thing things.now then target.now else place_in places.old thing)) }
+    ensures { IfOk result (λ _. (thing : List ℕ) → place_in places.new thing
+        ≡ (if has moved_thing thing things.now then target.now else place_in places.old thing)) }
 {
     for moved in things {
         note(places, moved, target)?;
@@ -52,7 +53,8 @@ fn note(
     moved: &Moved,
     target: &Option<Uuid>,
 ) -> Result<(), AllocError>
-    ensures { IfOk result (λ _. (thing : List ℕ) → place_in places.new thing ≡ (if bytes_eq (moved_thing moved.now) thing then target.now else place_in places.old thing)) }
+    ensures { IfOk result (λ _. (thing : List ℕ) → place_in places.new thing
+        ≡ (if bytes_eq (moved_thing moved.now) thing then target.now else place_in places.old thing)) }
 {
     places.insert(Thing::of_moved(moved), *target)?;
     Ok(())

@@ -2,7 +2,8 @@
 ghost use Rattle.std.specs.Prelude.{◌≡◌, Some, [], ◌∷◌, refl, length, unwrap_or, nat_eq};
 ghost use Rattle.std.specs.Ordering.{nat_cmp};
 ghost use Rattle.std.specs.Cmp.{partial_equiv_from_equiv};
-ghost use Rattle.std.specs.Cmp.Lexicographic.{pointwise, slice_cmp, nat_list_eq_equiv, nat_list_cmp_total, texts_ties, texts_po};
+ghost use Rattle.std.specs.Cmp.Lexicographic.{pointwise, slice_cmp, nat_list_eq_equiv, nat_list_cmp_total, texts_ties};
+ghost use Rattle.std.specs.Cmp.Lexicographic.{texts_po};
 ghost use Rattle.sheet_types.specs.World.{moved_thing};
 
 use crate::entries::is_item_kind;
@@ -11,7 +12,8 @@ use std::cmp::Ordering;
 use std::marker::Model;
 use uuid::Uuid;
 
-/// A thing of which custody is kept: an item by its identity, whatever its kind, or a link by its mapping and its ends. To a contract it is its key.
+/// A thing of which custody is kept: an item by its identity, whatever its kind, or a link by its
+/// mapping and its ends. To a contract it is its key.
 #[derive(Drop)]
 pub struct Thing {
     number: u8,

@@ -1,5 +1,6 @@
 -- Small facts of tests, of keys, and of what a test of each element says.
-use Rattle.std.specs.Prelude.{◌≡◌, ℕ, Bool, true, false, not, ◌&&◌, ◌||◌, List, refl, bytes_eq, Option, Some, None, is_none}
+use Rattle.std.specs.Prelude.{◌≡◌, ℕ, Bool, true, false, not, ◌&&◌, ◌||◌, List, refl, bytes_eq}
+use Rattle.std.specs.Prelude.{Option, Some, None, is_none}
 use Rattle.std.proofs.Common.{sym, ap, ◌∙◌}
 use Rattle.std.proofs.lemmas.Bool.{true≢false, false≢true, false_from_ne_true}
 use Rattle.std.proofs.lemmas.Slice.Eq.{bytes_eq-Decides}
@@ -69,7 +70,9 @@ pub bytes_eq_swap : (a b : List ℕ) → bytes_eq a b ≡ bytes_eq b a
 bytes_eq_swap a b =
     elim (bytes_eq a b) as (λ v. bytes_eq a b ≡ v → v ≡ bytes_eq b a) [
       | true ↦ λ same. sym (ap (λ z. bytes_eq z a) (sym ((bytes_eq-Decides a b).0 same)) ∙ bytes_eq_itself a)
-      | false ↦ λ differs. sym (false_from_ne_true (bytes_eq b a) (λ same. true≢false (sym (ap (λ z. bytes_eq z b) (sym ((bytes_eq-Decides b a).0 same)) ∙ bytes_eq_itself b) ∙ differs)))
+      | false ↦ λ differs. sym (false_from_ne_true (bytes_eq b a)
+          (λ same. true≢false (sym (ap (λ z. bytes_eq z b) (sym ((bytes_eq-Decides b a).0 same))
+          ∙ bytes_eq_itself b) ∙ differs)))
     ] refl
 
 -- less is not equal
@@ -89,8 +92,10 @@ either_way Equal h g = absurd (true≢false g)
 either_way Greater h g = refl
 
 -- of two keys that differ one stands before the other
-pub before_other_way : (a b : List ℕ) → is_before a b ≡ false → bytes_eq a b ≡ false → is_before b a ≡ true
-before_other_way a b h g = ap is_lt (nat_list_cmp_total.antisymm b a) ∙ either_way (slice_cmp nat_cmp a b) h (is_eq-slice_cmp a b ∙ g)
+pub before_other_way : (a b : List ℕ) → is_before a b ≡ false → bytes_eq a b ≡ false
+    → is_before b a ≡ true
+before_other_way a b h g = ap is_lt (nat_list_cmp_total.antisymm b a)
+    ∙ either_way (slice_cmp nat_cmp a b) h (is_eq-slice_cmp a b ∙ g)
 
 -- the test of less
 pub lt_is_less : (o : Ordering) → is_lt o ≡ true → o ≡ Less
@@ -100,7 +105,8 @@ lt_is_less Greater h = absurd (false≢true h)
 
 -- the order goes from key to key
 pub before_trans : (a b c : List ℕ) → is_before a b ≡ true → is_before b c ≡ true → is_before a c ≡ true
-before_trans a b c h g = ap is_lt (nat_list_cmp_total.trans a b c (lt_is_less (slice_cmp nat_cmp a b) h) (lt_is_less (slice_cmp nat_cmp b c) g))
+before_trans a b c h g = ap is_lt (nat_list_cmp_total.trans a b c (lt_is_less (slice_cmp nat_cmp a b) h)
+    (lt_is_less (slice_cmp nat_cmp b c) g))
 
 -- less is not less the other way
 one_way : (o : Ordering) → is_lt o ≡ true → is_lt (ordering_reverse o) ≡ false

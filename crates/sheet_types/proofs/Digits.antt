@@ -1,5 +1,6 @@
 -- Texts of lower-case hexadecimal digits.
-use Rattle.std.proofs.Common.{◌≡◌, ℕ, ◌<◌, List, [], ◌∷◌, nat_lt, Result, Ok, Err, MatchResult, OnOk, true, refl, sym, subst, arith}
+use Rattle.std.proofs.Common.{◌≡◌, ℕ, ◌<◌, List, [], ◌∷◌, nat_lt, Result, Ok, Err, MatchResult}
+use Rattle.std.proofs.Common.{OnOk, true, refl, sym, subst, arith}
 use Rattle.std.specs.List.{list_all}
 use Rattle.std.specs.Str.{IsAscii, IsUtf8}
 use Rattle.std.specs.Cmp.Lexicographic.{pointwise}
@@ -24,10 +25,12 @@ IsAscii-from_test (x ∷ xs) h =
 
 -- digits are text
 pub IsUtf8-encode_lower : (xs : List ℕ) → IsUtf8 (encode_lower xs)
-IsUtf8-encode_lower xs = IsUtf8-from_ascii (encode_lower xs) (IsAscii-encode_with lower_digits xs (IsAscii-from_test lower_digits refl))
+IsUtf8-encode_lower xs = IsUtf8-from_ascii (encode_lower xs)
+    (IsAscii-encode_with lower_digits xs (IsAscii-from_test lower_digits refl))
 
 -- written digits are never refused as text
-pub never_refused : {E : Type 0} (xs out : List ℕ) (r : Result Unit E) → r ≡ Ok tt → OnOk r (out ≡ encode_lower xs) → (IsUtf8 out → ⊥) → ⊥
+pub never_refused : {E : Type 0} (xs out : List ℕ) (r : Result Unit E) → r ≡ Ok tt
+    → OnOk r (out ≡ encode_lower xs) → (IsUtf8 out → ⊥) → ⊥
 never_refused xs out r is wrote refused =
     let same : out ≡ encode_lower xs = rw is at wrote in
     refused (subst IsUtf8 (sym same) (IsUtf8-encode_lower xs))
@@ -37,8 +40,10 @@ pub decodes : (digest : List ℕ) → IsDigest digest → decode_sized (encode_l
 decodes digest h = decode_sized-encode_lower digest 32 h.long h.bytes
 
 -- the call that decodes a spelled digest gives it
-pub decoded : (digest text out : List ℕ) (r : Result Unit FromHexError) → IsDigest digest → text ≡ encode_lower digest
-    → MatchResult (decode_sized text 32) (λ bytes. (r ≡ Ok tt) × (out ≡ bytes)) (λ e. r ≡ Err e) → (r ≡ Ok tt) × (out ≡ digest)
+pub decoded : (digest text out : List ℕ) (r : Result Unit FromHexError) → IsDigest digest
+    → text ≡ encode_lower digest
+    → MatchResult (decode_sized text 32) (λ bytes. (r ≡ Ok tt) × (out ≡ bytes)) (λ e. r ≡ Err e)
+    → (r ≡ Ok tt) × (out ≡ digest)
 decoded digest text out r h is said = rw (is, decodes digest h) at said
 
 -- a text is the same as itself

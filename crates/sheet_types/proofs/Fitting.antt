@@ -1,5 +1,6 @@
 -- The values of the types are fit for a line: UUIDs, digests, and the entry of a command whose sizes are in bounds.
-use Rattle.std.specs.Prelude.{◌≡◌, ℕ, zero, suc, ◌<◌, ◌==◌, true, false, nat_lt, nat_le, List, [], ◌∷◌, ◌++◌, refl, length, slice_index, pos}
+use Rattle.std.specs.Prelude.{◌≡◌, ℕ, zero, suc, ◌<◌, ◌==◌, true, false, nat_lt, nat_le, List, []}
+use Rattle.std.specs.Prelude.{◌∷◌, ◌++◌, refl, length, slice_index, pos}
 use Rattle.std.proofs.Common.{arith}
 use Rattle.std.proofs.lemmas.Bool.{and_parts, and_from, lt-ltb, eq-eqb}
 use Rattle.std.proofs.lemmas.Bool.Decides.{nat_tests}
@@ -22,14 +23,18 @@ use Rattle.sheet_types.proofs.Basics.{not_false}
 -- the test of each byte
 below_all : (bytes : List ℕ) → AllByRecursion (λ b. b < 256) bytes → list_all (λ b. nat_lt b 256) bytes ≡ true
 below_all [] h = refl
-below_all (b ∷ bytes) h = and_from (nat_lt b 256) (list_all (λ x. nat_lt x 256) bytes) (lt-ltb b 256 h.0) (below_all bytes h.1)
+below_all (b ∷ bytes) h = and_from (nat_lt b 256) (list_all (λ x. nat_lt x 256) bytes) (lt-ltb b 256 h.0)
+    (below_all bytes h.1)
 
 -- n bytes are what the test says
-pub bytes_fit : (n : ℕ) (bytes : List ℕ) → length bytes ≡ n → AllByRecursion (λ b. b < 256) bytes → is_bytes n bytes ≡ true
-bytes_fit n bytes long small = and_from (length bytes == n) (list_all (λ b. nat_lt b 256) bytes) (eq-eqb (length bytes) n long) (below_all bytes small)
+pub bytes_fit : (n : ℕ) (bytes : List ℕ) → length bytes ≡ n → AllByRecursion (λ b. b < 256) bytes
+    → is_bytes n bytes ≡ true
+bytes_fit n bytes long small = and_from (length bytes == n) (list_all (λ b. nat_lt b 256) bytes)
+    (eq-eqb (length bytes) n long) (below_all bytes small)
 
 -- bytes in a row
-all_append : (xs ys : List ℕ) → AllByRecursion (λ b. b < 256) xs → AllByRecursion (λ b. b < 256) ys → AllByRecursion (λ b. b < 256) (xs ++ ys)
+all_append : (xs ys : List ℕ) → AllByRecursion (λ b. b < 256) xs → AllByRecursion (λ b. b < 256) ys
+    → AllByRecursion (λ b. b < 256) (xs ++ ys)
 all_append [] ys h g = g
 all_append (x ∷ xs) ys h g = (h.0, all_append xs ys h.1 g)
 
@@ -41,7 +46,8 @@ word_bytes n = (omega arith, (omega arith, (omega arith, (omega arith, tt))))
 digest_small : (h : List ℕ) (n : ℕ) → AllByRecursion (λ b. b < 256) (digest_bytes h n)
 unfolding digest_bytes
 digest_small h zero = tt
-digest_small h (suc n) = all_append (digest_bytes h n) (to_be_bytes w32 (slice_index h n)) (digest_small h n) (word_bytes (slice_index h n))
+digest_small h (suc n) = all_append (digest_bytes h n) (to_be_bytes w32 (slice_index h n)) (digest_small h n)
+    (word_bytes (slice_index h n))
 
 -- the bytes of SHA-256
 sha_small : (m : List ℕ) → AllByRecursion (λ b. b < 256) (sha256 m)
@@ -50,7 +56,8 @@ sha_small m = digest_small (final_hash initial_hash_256 m) 8
 
 -- a digest has 32 bytes
 pub digest_fits : (content : Content) → is_bytes 32 (fingerprint content) ≡ true
-digest_fits content = bytes_fit 32 (fingerprint content) (length-sha256 (content_bytes content)) (sha_small (content_bytes content))
+digest_fits content = bytes_fit 32 (fingerprint content) (length-sha256 (content_bytes content))
+    (sha_small (content_bytes content))
 
 -- ---- entries
 
@@ -64,10 +71,14 @@ shorter_number n h = grind (arith, nat_tests)
 
 -- a size in bounds is a number
 size_fits : (content : Content) → has_good_size content ≡ true → is_number (pos (size content)) ≡ true
-size_fits (Tile zoom column row bytes) h = short_number (length bytes) (and_parts (nat_le 1 (length bytes)) (nat_le (length bytes) 1048576) h).1
+size_fits (Tile zoom column row bytes) h = short_number (length bytes)
+    (and_parts (nat_le 1 (length bytes)) (nat_le (length bytes) 1048576) h).1
 size_fits (Media content_type bytes) h =
-    short_number (length bytes) (and_parts (nat_le 1 (length bytes)) (nat_le (length bytes) 1048576) (and_parts (is_length_within 1 1048576 bytes) (is_length_within 1 100 content_type) h).0).1
-size_fits (Row x y code label) h = shorter_number (length label) (and_parts (nat_le 0 (length label)) (nat_le (length label) 200) (and_parts (is_length_within 0 200 label) _ h).0).1
+    short_number (length bytes) (and_parts (nat_le 1 (length bytes)) (nat_le (length bytes) 1048576)
+    (and_parts (is_length_within 1 1048576 bytes) (is_length_within 1 100 content_type) h).0).1
+size_fits (Row x y code label) h = shorter_number (length label)
+    (and_parts (nat_le 0 (length label)) (nat_le (length label) 200)
+    (and_parts (is_length_within 0 200 label) _ h).0).1
 
 -- the kind of a content is that of an item
 pub item_kind_of : (content : Content) → is_item_kind (kind_of content) ≡ true
@@ -76,9 +87,11 @@ item_kind_of (Media content_type bytes) = refl
 item_kind_of (Row x y code label) = refl
 
 -- a command whose values are of its types, and whose sizes are in bounds, has a fit entry
-pub entry_fits : (command : Command) → HasTypes command → too_large command ≡ false → IsFitEntry (entry_of command)
+pub entry_fits : (command : Command) → HasTypes command → too_large command ≡ false
+    → IsFitEntry (entry_of command)
 entry_fits (Add p identity content) types sizes =
-    and_from _ _ (and_from _ _ (and_from _ _ types (item_kind_of content)) (size_fits content (not_false (has_good_size content) sizes))) (digest_fits content)
+    and_from _ _ (and_from _ _ (and_from _ _ types (item_kind_of content))
+    (size_fits content (not_false (has_good_size content) sizes))) (digest_fits content)
 entry_fits (Delete p identity) types sizes = types
 entry_fits (Link p mapping base other) types sizes = types
 entry_fits (Unlink p mapping base other) types sizes = types

@@ -6,7 +6,8 @@ use Rattle.sheet_types.specs.World.{all_kinds, all_mappings, kind_number, link_k
 use Rattle.sheet_types.specs.declared.command.Mapping.{Mapping}
 use Rattle.sheet_types.specs.declared.command.Mapping.TheVariants.{TilesMedia, RowsMedia, RowsTiles}
 use Rattle.sheet_types.specs.declared.receipt.MovedKind.{MovedKind}
-use Rattle.sheet_types.specs.declared.receipt.MovedKind.TheVariants.{TileItem, MediaItem, RowItem, TilesMediaLink, RowsMediaLink, RowsTilesLink}
+use Rattle.sheet_types.specs.declared.receipt.MovedKind.TheVariants.{TileItem, MediaItem, RowItem, TilesMediaLink}
+use Rattle.sheet_types.specs.declared.receipt.MovedKind.TheVariants.{RowsMediaLink, RowsTilesLink}
 use Rattle.sheet_types.proofs.Basics.{some_same}
 
 -- the kind of a number, and the mapping whose links have it
@@ -33,4 +34,5 @@ pub kind_number_tells : (a b : MovedKind) → kind_number a ≡ kind_number b �
 kind_number_tells a b e = some_same (sym (kind_back a) ∙ ap kind_numbered e ∙ kind_back b)
 
 pub same_mapping : (a b : Mapping) → kind_is (link_kind a) (link_kind b) ≡ true → a ≡ b
-same_mapping a b e = some_same (sym (mapping_back a) ∙ ap mapping_numbered (eqb-true (kind_number (link_kind a)) (kind_number (link_kind b)) e) ∙ mapping_back b)
+same_mapping a b e = some_same (sym (mapping_back a) ∙ ap mapping_numbered
+    (eqb-true (kind_number (link_kind a)) (kind_number (link_kind b)) e) ∙ mapping_back b)

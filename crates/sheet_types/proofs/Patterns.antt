@@ -1,5 +1,6 @@
 -- Texts that fit a pattern.
-use Rattle.std.proofs.Common.{◌≡◌, ◌≢◌, ℕ, List, [], ◌∷◌, length, ◌&&◌, ◌==◌, nat_le, false, if◌then◌else◌, refl, arith}
+use Rattle.std.proofs.Common.{◌≡◌, ◌≢◌, ℕ, List, [], ◌∷◌, length, ◌&&◌, ◌==◌, nat_le}
+use Rattle.std.proofs.Common.{false, if◌then◌else◌, refl, arith}
 use Rattle.std.proofs.lemmas.Bool.{and_right}
 use Rattle.sheet_types.specs.Texts.{fits_pattern}
 

@@ -11,7 +11,13 @@ use Rattle.sheet_types.specs.declared.receipt.Sums.{Sums}
 
 -- how much a package holds, by kind, and the bytes of it
 abbrev pub sums_held : Package → Sums
-sums_held p = record { tiles = count_by is_tile p.items; media = count_by is_medium p.items; rows = count_by is_row p.items; links = length p.links; bytes = sum_by (λ i. size i.content) p.items }
+sums_held p = record {
+  tiles = count_by is_tile p.items;
+  media = count_by is_medium p.items;
+  rows = count_by is_row p.items;
+  links = length p.links;
+  bytes = sum_by (λ i. size i.content) p.items;
+}
 
 -- the sums of a live package, none for another
 abbrev pub sums_of : World → List ℕ → Option Sums
@@ -26,7 +32,8 @@ pub record PackageSight : Type 0 where
 
 -- the live packages, by UUID
 abbrev pub package_sights : World → List PackageSight
-package_sights w = map (λ p. record { uuid = p.uuid; parent = p.parent; depth = p.depth; ticket = ticket w p.uuid }) w.packages
+package_sights w = map (λ p. record { uuid = p.uuid; parent = p.parent; depth = p.depth; ticket = ticket w p.uuid })
+    w.packages
 
 -- how many live packages are loans of this one
 abbrev pub loans_of : World → List ℕ → ℕ

@@ -1,5 +1,8 @@
--- What a line of the ledger says, read back whole. Profile; UUIDs as in RFC 9562, section 4; digests by FIPS 180-4, section 6.2.
-use Rattle.std.specs.Prelude.{◌≡◌, ℕ, Bool, true, false, ◌==◌, ◌&&◌, nat_lt, List, [], ◌∷◌, find, length, Option, None, unwrap_or, option_map, if◌then◌else◌, ℤ, pos, negsuc, unsigned_abs, bytes_eq, codes}
+-- What a line of the ledger says, read back whole. Profile; UUIDs as in RFC 9562, section 4; digests by FIPS 180-4,
+-- section 6.2.
+use Rattle.std.specs.Prelude.{◌≡◌, ℕ, Bool, true, false, ◌==◌, ◌&&◌, nat_lt, List, [], ◌∷◌}
+use Rattle.std.specs.Prelude.{find, length, Option, None, unwrap_or, option_map, if◌then◌else◌, ℤ, pos}
+use Rattle.std.specs.Prelude.{negsuc, unsigned_abs, bytes_eq, codes}
 use Rattle.std.specs.List.{slice_split, list_all}
 use Rattle.std.specs.Option.{option_and_then}
 use Rattle.std.specs.Bool.{then_some}
@@ -8,7 +11,8 @@ use Rattle.std.specs.Str.Parse.{signed_digits_value}
 use Rattle.hex.specs.Hex.{decode_of}
 use Rattle.uuid.specs.Text.{parsed_hyphenated}
 use Rattle.sheet_types.specs.Matrix.{is_within}
-use Rattle.sheet_types.specs.Texts.{Entry, Adds, Deletes, Links, Unlinks, Splits, Merges, entry_line, kind_word, mapping_word, mode_word}
+use Rattle.sheet_types.specs.Texts.{Entry, Adds, Deletes, Links, Unlinks, Splits, Merges, entry_line, kind_word}
+use Rattle.sheet_types.specs.Texts.{mapping_word, mode_word}
 use Rattle.sheet_types.specs.World.{all_kinds, all_mappings, is_item_kind}
 use Rattle.sheet_types.specs.declared.command.Command.{Command}
 use Rattle.sheet_types.specs.declared.command.Command.TheVariants.{Add, Delete, Link, Unlink, Split, Merge}
@@ -40,7 +44,8 @@ is_rect r = is_number r.zoom && is_number r.column && is_number r.last_column &&
 
 -- an entry that a command can have
 abbrev pub is_fit_entry : Entry → Bool
-is_fit_entry (Adds p identity kind size digest) = is_uuid p && is_uuid identity && is_item_kind kind && is_number (pos size) && is_bytes 32 digest
+is_fit_entry (Adds p identity kind size digest) = is_uuid p && is_uuid identity && is_item_kind kind && is_number
+    (pos size) && is_bytes 32 digest
 is_fit_entry (Deletes p identity) = is_uuid p && is_uuid identity
 is_fit_entry (Links p mapping base other) = is_uuid p && is_uuid base && is_uuid other
 is_fit_entry (Unlinks p mapping base other) = is_uuid p && is_uuid base && is_uuid other
@@ -88,17 +93,30 @@ digest_in word = result_unwrap_or (decode_of word) []
 
 -- the entry that so many parts can be of
 abbrev pub entry_in : List (List ℕ) → Option Entry
-entry_in (verb ∷ p ∷ identity ∷ []) = then_some (bytes_eq verb (codes "delete")) (Deletes (uuid_in p) (uuid_in identity))
-entry_in (verb ∷ child ∷ into ∷ ticket ∷ []) = then_some (bytes_eq verb (codes "merge")) (Merges (uuid_in child) (uuid_in into) (number_in ticket))
-entry_in (verb ∷ mapping ∷ p ∷ base ∷ other ∷ []) = option_map (λ m. if bytes_eq verb (codes "link") then Links (uuid_in p) m (uuid_in base) (uuid_in other) else Unlinks (uuid_in p) m (uuid_in base) (uuid_in other)) (mapping_in mapping)
-entry_in (verb ∷ p ∷ identity ∷ kind ∷ size ∷ digest ∷ []) = option_map (λ k. Adds (uuid_in p) (uuid_in identity) k (unsigned_abs (number_in size)) (digest_in digest)) (kind_in kind)
+entry_in (verb ∷ p ∷ identity ∷ []) = then_some (bytes_eq verb (codes "delete"))
+    (Deletes (uuid_in p) (uuid_in identity))
+entry_in (verb ∷ child ∷ into ∷ ticket ∷ []) = then_some (bytes_eq verb (codes "merge"))
+    (Merges (uuid_in child) (uuid_in into) (number_in ticket))
+entry_in (verb ∷ mapping ∷ p ∷ base ∷ other ∷ []) = option_map
+    (λ m. if bytes_eq verb (codes "link") then Links (uuid_in p) m (uuid_in base) (uuid_in other) else Unlinks
+    (uuid_in p) m (uuid_in base) (uuid_in other)) (mapping_in mapping)
+entry_in (verb ∷ p ∷ identity ∷ kind ∷ size ∷ digest ∷ []) =
+    option_map (λ k. Adds (uuid_in p) (uuid_in identity) k (unsigned_abs (number_in size)) (digest_in digest))
+    (kind_in kind)
 entry_in (verb ∷ p ∷ child ∷ mode ∷ zoom ∷ column ∷ last_column ∷ row ∷ last_row ∷ []) =
-    option_map (λ m. Splits (uuid_in p) (uuid_in child) m (record { zoom = number_in zoom; column = number_in column; last_column = number_in last_column; row = number_in row; last_row = number_in last_row })) (mode_in mode)
+    option_map (λ m. Splits (uuid_in p) (uuid_in child) m (record {
+      zoom = number_in zoom;
+      column = number_in column;
+      last_column = number_in last_column;
+      row = number_in row;
+      last_row = number_in last_row;
+    })) (mode_in mode)
 entry_in parts = None
 
 -- the one entry whose line this is, if there is one: read from the parts, and taken if its own line is the whole text
 unfoldable pub entry_from : List ℕ → Option Entry
-entry_from text = option_and_then (λ e. then_some (is_fit_entry e && bytes_eq (entry_line e) text) e) (entry_in (slice_split (λ c. c == 32) text))
+entry_from text = option_and_then (λ e. then_some (is_fit_entry e && bytes_eq (entry_line e) text) e)
+    (entry_in (slice_split (λ c. c == 32) text))
 
 -- ---- the command of an entry
 

@@ -1,5 +1,6 @@
 -- Texts that are read: digests, numbers, UUIDs, frames. Profile, over RFC 9562 (UUIDs) and FIPS 180-4 (digests).
-use Rattle.std.specs.Prelude.{◌≡◌, ℕ, ◌+◌, ◌*◌, ◌/◌, ◌%◌, ℤ, List, [], ◌∷◌, length, map, Option, FitsSigned}
+use Rattle.std.specs.Prelude.{◌≡◌, ℕ, ◌+◌, ◌*◌, ◌/◌, ◌%◌, ℤ, List, [], ◌∷◌, length}
+use Rattle.std.specs.Prelude.{map, Option, FitsSigned}
 use Rattle.std.specs.Int.{w64}
 use Rattle.std.specs.List.{join_with_byte, AllByRecursion}
 use Rattle.std.specs.Fmt.{signed_decimal}
@@ -14,13 +15,15 @@ pub record IsDigest (digest : List ℕ) : Type 0 where
   pub long : length digest ≡ 32
   pub bytes : IsBytes digest
 
--- the value of a lower-case hexadecimal digit by its code, 48 to 57 or 97 to 102; of any other code some number below 16
+-- the value of a lower-case hexadecimal digit by its code, 48 to 57 or 97 to 102; of any other code some number below
+-- 16
 abbrev pub digit_value : ℕ → ℕ
 digit_value c = (c % 16 + 9 * (c / 64)) % 16
 
 -- a rectangle as a line has it
 abbrev pub rect_text : Rect → List ℕ
-rect_text r = spaced (signed_decimal r.zoom ∷ signed_decimal r.column ∷ signed_decimal r.last_column ∷ signed_decimal r.row ∷ signed_decimal r.last_row ∷ [])
+rect_text r = spaced (signed_decimal r.zoom ∷ signed_decimal r.column ∷ signed_decimal r.last_column
+    ∷ signed_decimal r.row ∷ signed_decimal r.last_row ∷ [])
 
 -- the stored text of a UUID, or the empty text where there is none
 abbrev pub optional_uuid_text : Option (List ℕ) → List ℕ

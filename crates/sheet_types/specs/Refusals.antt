@@ -1,7 +1,12 @@
 -- The numbers and the names of the reasons for a refusal. Profile.
 use Rattle.std.specs.Prelude.{ℕ, List, codes}
 use Rattle.sheet_types.specs.declared.refusal.Refusal.{Refusal}
-use Rattle.sheet_types.specs.declared.refusal.Refusal.TheVariants.{IdReused, UnknownPackage, PackageUsed, BadText, TooLarge, IdentityUsed, UnknownItem, WrongKind, BadPlace, OutOfFrame, PlaceTaken, LinkThere, UnknownLink, Linked, BadRectangle, TooDeep, NothingToLend, CutLink, Foreign, Stale, LoanOpen, Collides, TooMany, OutOfMemory, StoreFault}
+use Rattle.sheet_types.specs.declared.refusal.Refusal.TheVariants.{IdReused, UnknownPackage, PackageUsed, BadText}
+use Rattle.sheet_types.specs.declared.refusal.Refusal.TheVariants.{TooLarge, IdentityUsed, UnknownItem, WrongKind}
+use Rattle.sheet_types.specs.declared.refusal.Refusal.TheVariants.{BadPlace, OutOfFrame, PlaceTaken, LinkThere}
+use Rattle.sheet_types.specs.declared.refusal.Refusal.TheVariants.{UnknownLink, Linked, BadRectangle, TooDeep}
+use Rattle.sheet_types.specs.declared.refusal.Refusal.TheVariants.{NothingToLend, CutLink, Foreign, Stale, LoanOpen}
+use Rattle.sheet_types.specs.declared.refusal.Refusal.TheVariants.{Collides, TooMany, OutOfMemory, StoreFault}
 
 -- 1 to 25, in the order in which the reasons are looked for
 abbrev pub refusal_number : Refusal → ℕ

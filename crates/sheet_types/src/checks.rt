@@ -28,10 +28,12 @@ pub const GREATEST_LINKS: u64 = 4_000_000;
 /// The most packages that a world may have (profile); the model has it as `greatest_packages`.
 pub const GREATEST_PACKAGES: usize = 256;
 
-/// The most receipts that a world may have (profile), and so the greatest number of one; the model has it as `greatest_receipts`.
+/// The most receipts that a world may have (profile), and so the greatest number of one; the model
+/// has it as `greatest_receipts`.
 pub const GREATEST_RECEIPTS: u64 = 1_000_000_000;
 
-/// Whether each part of a content is within its limits (profile): data of 1 to 1,048,576 bytes, a content type of 1 to 100 bytes, a label of 0 to 200 bytes, a code of 0 to 999,999.
+/// Whether each part of a content is within its limits (profile): data of 1 to 1,048,576 bytes, a
+/// content type of 1 to 100 bytes, a label of 0 to 200 bytes, a code of 0 to 999,999.
 pub fn has_good_size(content: &Content) -> bool
     ensures { result ≡ has_good_size content.now }
 {

@@ -1,5 +1,6 @@
 //! The digests of contents, and their texts (FIPS 180-4, 6.2).
-ghost use Rattle.std.specs.Prelude.{◌≡◌, ◌≢◌, ◌++◌, ◌∷◌, [], List, ℕ, Some, IfSome, IfNone, length};
+ghost use Rattle.std.specs.Prelude.{◌≡◌, ◌≢◌, ◌++◌, ◌∷◌, [], List, ℕ, Some, IfSome, IfNone};
+ghost use Rattle.std.specs.Prelude.{length};
 ghost use Rattle.std.specs.Fmt.{signed_decimal};
 ghost use Rattle.sha2.specs.Hashers.{Holds256};
 ghost use Rattle.sha2.specs.Sha256.{sha256};
@@ -23,7 +24,8 @@ fn add_number(hasher: &mut Sha256, number: i64)
 
 // Begins with a first line of a word and three numbers.
 fn begin_line(word: &str, a: i64, b: i64, c: i64) -> Sha256
-    ensures { Holds256 result (spaced (word.now ∷ signed_decimal a ∷ signed_decimal b ∷ signed_decimal c ∷ [])) }
+    ensures { Holds256 result (spaced (word.now ∷ signed_decimal a ∷ signed_decimal b ∷ signed_decimal c
+        ∷ [])) }
 {
     let mut hasher = Sha256::new();
     hasher.update(word);
@@ -99,7 +101,8 @@ fn digit_value(digit: u8) -> u8
     (digit % 16 + 9 * (digit / 64)) % 16
 }
 
-// The digest that 64 digits spell; some bytes where they spell none. Digits of a digest come at random, so a branch on each would be guessed wrong half the time.
+// The digest that 64 digits spell; some bytes where they spell none. Digits of a digest come at
+// random, so a branch on each would be guessed wrong half the time.
 fn decode(text: &[u8]) -> [u8; 32]
     requires { length text.now ≡ 64 }
     ensures { (digest : List ℕ) → IsDigest digest → text.now ≡ encode_lower digest → result ≡ digest }

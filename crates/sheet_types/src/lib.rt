@@ -1,4 +1,5 @@
-//! The values of the lending register: frames, requests, receipts, refusals; its texts; and, in `specs/`, the model that every contract above is held against.
+//! The values of the lending register: frames, requests, receipts, refusals; its texts; and, in
+//! `specs/`, the model that every contract above is held against.
 #![tactic(auto)]
 
 pub mod checks;

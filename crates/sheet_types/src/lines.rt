@@ -25,19 +25,22 @@ pub fn line(alloc: Global, command: &Command) -> Result<String, OutOfMemory>
     Ok(write_line(alloc, command)?)
 }
 
-/// The line of an addition to a package, by what it says of the item: its base, kind, size and fingerprint. A content that has been counted and hashed need not be again.
+/// The line of an addition to a package, by what it says of the item: its base, kind, size and
+/// fingerprint. A content that has been counted and hashed need not be again.
 ///
 /// # Errors
 ///
 /// Want of memory.
 pub fn add_line(alloc: Global, package: Uuid, item: &Moved) -> Result<String, OutOfMemory>
-    ensures { IfOk result (λ text. (digest : List ℕ) → item.now.fingerprint ≡ Some digest → string_bytes text ≡ entry_line (Adds «package» item.now.base item.now.kind item.now.size digest)) }
+    ensures { IfOk result (λ text. (digest : List ℕ) → item.now.fingerprint ≡ Some digest
+        → string_bytes text ≡ entry_line (Adds «package» item.now.base item.now.kind item.now.size digest)) }
 {
     Ok(write_add_line(alloc, package, item)?)
 }
 
 fn write_add_line(alloc: Global, package: Uuid, item: &Moved) -> Result<String, AllocError>
-    ensures { IfOk result (λ text. (digest : List ℕ) → item.now.fingerprint ≡ Some digest → string_bytes text ≡ entry_line (Adds «package» item.now.base item.now.kind item.now.size digest)) }
+    ensures { IfOk result (λ text. (digest : List ℕ) → item.now.fingerprint ≡ Some digest
+        → string_bytes text ≡ entry_line (Adds «package» item.now.base item.now.kind item.now.size digest)) }
 {
     let Moved {
         kind,

@@ -4,7 +4,9 @@ ghost use Rattle.sheet_types.specs.Texts.{is_moment, fits_pattern, two_digits};
 
 const PATTERN: &[u8; 24] = b"DDDD-DD-DDTDD:DD:DD.DDDZ";
 
-/// Whether a text is a moment `YYYY-MM-DDTHH:MM:SS.sssZ`, which is a form of RFC 3339, 5.6, in UTC and with milliseconds: month 01 to 12, day 01 to 31, hour 00 to 23, minute and second 00 to 59. Lengths of months are not looked at (profile).
+/// Whether a text is a moment `YYYY-MM-DDTHH:MM:SS.sssZ`, which is a form of RFC 3339, 5.6, in UTC
+/// and with milliseconds: month 01 to 12, day 01 to 31, hour 00 to 23, minute and second 00 to 59.
+/// Lengths of months are not looked at (profile).
 pub fn is_moment(text: &str) -> bool
     ensures { result ≡ is_moment text.now }
 {

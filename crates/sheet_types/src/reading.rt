@@ -1,5 +1,6 @@
 //! Texts that are read: identities, numbers, frames.
-ghost use Rattle.std.specs.Prelude.{◌≡◌, ◌≢◌, ◌∷◌, ◌++◌, [], ℤ, ℕ, List, IfSome, IfNone, FitsSigned};
+ghost use Rattle.std.specs.Prelude.{◌≡◌, ◌≢◌, ◌∷◌, ◌++◌, [], ℤ, ℕ, List, IfSome, IfNone};
+ghost use Rattle.std.specs.Prelude.{FitsSigned};
 ghost use Rattle.std.specs.Int.{w64};
 ghost use Rattle.std.specs.Fmt.{signed_decimal};
 ghost use Rattle.uuid.specs.Text.{parsed_hyphenated};
@@ -42,7 +43,8 @@ pub fn read_stored_uuid(text: &str) -> Option<Uuid>
     }
 }
 
-/// What a stored text says where the empty text stands for no UUID; `None` where it is neither that nor a UUID in lower case.
+/// What a stored text says where the empty text stands for no UUID; `None` where it is neither that
+/// nor a UUID in lower case.
 pub fn read_stored_optional(text: &str) -> Option<Option<Uuid>>
     ensures some { IfSome result (λ id. text.now ≡ optional_uuid_text id) }
     ensures empty { IfNone result (text.now ≢ []) }
@@ -77,7 +79,8 @@ pub fn read_number(text: &str) -> Option<i64>
 // The number before the first comma, and what follows that comma.
 fn next_number<'a>(text: &'a str) -> Option<(i64, &'a str)>
     ensures some { IfSome result (λ read. text.now ≡ signed_decimal read.0 ++ (44 ∷ read.1.now)) }
-    ensures none { IfNone result ((number : ℤ) (rest : List ℕ) → FitsSigned w64 number → text.now ≢ signed_decimal number ++ (44 ∷ rest)) }
+    ensures none { IfNone result ((number : ℤ) (rest : List ℕ) → FitsSigned w64 number
+        → text.now ≢ signed_decimal number ++ (44 ∷ rest)) }
 {
     let Some((front, rest)) = text.split_once(',') else {
         return None;
@@ -88,7 +91,8 @@ fn next_number<'a>(text: &'a str) -> Option<(i64, &'a str)>
     }
 }
 
-/// The frame of a text of eleven numbers with single commas between them, in the order of the fields; `None` of any other text. Whether the frame is good is not asked.
+/// The frame of a text of eleven numbers with single commas between them, in the order of the
+/// fields; `None` of any other text. Whether the frame is good is not asked.
 pub fn read_frame(text: &str) -> Option<Frame>
     ensures some { IfSome result (λ frame. text.now ≡ frame_text frame) }
     ensures none { IfNone result ((frame : Frame) → IsInRange frame → text.now ≢ frame_text frame) }

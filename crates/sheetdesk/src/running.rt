@@ -107,8 +107,7 @@ fn carry_out_named<'m>(
 }
 
 /// Carries out the command of a command line whose words name these. They are parsed once more, so
-/// that all words live as
-/// long as these do.
+/// that all words live as long as these do.
 fn carry_out_words<'m, W: AsStr>(
     rt: &HostRuntime,
     words: &'m [W],

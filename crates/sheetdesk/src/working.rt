@@ -70,8 +70,7 @@ fn work_under(
 }
 
 /// Carries out a command that works over all packages of a folder, and answers how it ended; none
-/// where a command of this
-/// name does not.
+/// where a command of this name does not.
 pub(crate) fn work(
     rt: &HostRuntime,
     name: &str,

@@ -35,8 +35,10 @@ module _ {D : Type 0} {g : Ghosts D} where
   committed_is : (it : FileStore D g) → IsTrue (store.view it).is_open → (store.view it).committed ≡ trees_of it
   committed_is it is_open = rw (clean_of (store.state it) is_open)
 
-  ordered : (it : FileStore D g) → IsTrue (store.view it).is_open → IsOrdered (all_shapes (schema_of it)) (trees_of it)
-  ordered it is_open = ∥∥₁_elim (it.stored is_open) (IsOrdered-prop _ _) (λ stored. all_ordered stored.ours.file.db _)
+  ordered : (it : FileStore D g) → IsTrue (store.view it).is_open
+      → IsOrdered (all_shapes (schema_of it)) (trees_of it)
+  ordered it is_open = ∥∥₁_elim (it.stored is_open) (IsOrdered-prop _ _)
+      (λ stored. all_ordered stored.ours.file.db _)
 
   listed : (it : FileStore D g) → IsListed (trees_of it catalog_tree) (all_shapes (schema_of it))
       (all_reals (schema_of it))
@@ -47,8 +49,7 @@ module _ {D : Type 0} {g : Ghosts D} where
   seen it = record (store.view it) {
     trees = trees_of it;
     shape = all_shapes (schema_of it);
-    reals =
-        all_reals (schema_of it);
+    reals = all_reals (schema_of it);
     is_broken = false;
     is_numbered = true;
   }

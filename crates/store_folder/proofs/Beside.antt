@@ -1,5 +1,6 @@
 -- What is kept beside the file of a package, and what of it stands beside none.
-use Rattle.std.proofs.Common.{◌≡◌, ◌++◌, ◌∷◌, [], ℕ, List, Option, Some, None, IfSome, subst, sym, All, inl, inr}
+use Rattle.std.proofs.Common.{◌≡◌, ◌++◌, ◌∷◌, [], ℕ, List, Option, Some, None, IfSome, subst, sym}
+use Rattle.std.proofs.Common.{All, inl, inr}
 use Rattle.std.specs.Prelude.{Contains, String, string_bytes}
 use Rattle.std.specs.Option.{option_or}
 use Rattle.std.proofs.lemmas.List.Elements.{All-same, All-push}
@@ -16,7 +17,8 @@ either_so P (Some x) b r is first second = subst (λ o. IfSome o P) (sym is) fir
 either_so P None b r is first second = subst (λ o. IfSome o P) (sym is) second
 
 -- a text more that is so, or none
-pub push_so : {Z : Type 0} (P : List ℕ → Type 0) (name : List ℕ) (old new : List (String Z)) → MayPush name old new
+pub push_so : {Z : Type 0} (P : List ℕ → Type 0) (name : List ℕ) (old new : List (String Z))
+    → MayPush name old new
     → P name
     → All (λ text. P (string_bytes text)) old → All (λ text. P (string_bytes text)) new
 push_so P name old new (inl same) here all = All-same (λ text. P (string_bytes text)) _ _ same all
@@ -34,6 +36,7 @@ left_in names packages name are left = record {
 }
 
 -- one with an ending of the six
-pub ends_so : (end name : List ℕ) (found : Option (List ℕ)) → list_any (λ other. bytes_eq other end) endings ≡ true
+pub ends_so : (end name : List ℕ) (found : Option (List ℕ)) → list_any (λ other. bytes_eq other end) endings
+    ≡ true
     → IfSome found (λ id. name ≡ file_name id ++ end) → IfSome found (λ id. IsBeside id name)
 ends_so end name found listed ends = some_so _ _ (λ id is. (end, listed, is)) found ends

@@ -1,5 +1,6 @@
 -- Names and the packages whose files they are.
-use Rattle.std.proofs.Common.{◌≡◌, ◌≢◌, inl, inr, refl, sym, ap, subst, ◌∙◌, ℕ, ◌+◌, ◌<◌, Bool, ◌||◌, List, [], ◌∷◌}
+use Rattle.std.proofs.Common.{◌≡◌, ◌≢◌, inl, inr, refl, sym, ap, subst, ◌∙◌, ℕ, ◌+◌, ◌<◌}
+use Rattle.std.proofs.Common.{Bool, ◌||◌, List, [], ◌∷◌}
 use Rattle.std.proofs.Common.{◌++◌, length, map, take, get_or, Option, Some, None, IfSome}
 use Rattle.std.specs.Prelude.{Contains}
 use Rattle.std.specs.List.{list_any}
@@ -21,7 +22,8 @@ reads_one text id other long read fit is =
     let same : Some id ≡ Some other = read ∙ parsed_36 text long ∙ reads_own other text fit is in
     cc
 
-pub some_so : {X : Type 0} (P Q : X → Type 0) → ((x : X) → P x → Q x) → (o : Option X) → IfSome o P → IfSome o Q
+pub some_so : {X : Type 0} (P Q : X → Type 0) → ((x : X) → P x → Q x) → (o : Option X) → IfSome o P
+    → IfSome o Q
 some_so P Q follows (Some x) p = follows x p
 some_so P Q follows None p = tt
 
@@ -31,7 +33,8 @@ list_any-map test f [] = refl
 list_any-map test f (x ∷ xs) = ap (λ rest. test (f x) || rest) (list_any-map test f xs)
 
 -- one name more, which is no package's
-pub none_more : (names packages : List (List ℕ)) (name : List ℕ) → ((id : List ℕ) → IsUuid id → name ≢ file_name id)
+pub none_more : (names packages : List (List ℕ)) (name : List ℕ)
+    → ((id : List ℕ) → IsUuid id → name ≢ file_name id)
     → HaveFiles names packages → HaveFiles (names ++ name ∷ []) packages
 none_more names packages name none it = record {
   there = All-weaker (λ id. Contains names (file_name id)) (λ id. Contains (names ++ name ∷ []) (file_name id))
@@ -56,7 +59,8 @@ some_more names packages name id is only it = record {
 }
 
 -- in another order
-pub files_permuted : (names old new : List (List ℕ)) → IsPermutation old new → HaveFiles names old → HaveFiles names new
+pub files_permuted : (names old new : List (List ℕ)) → IsPermutation old new → HaveFiles names old
+    → HaveFiles names new
 files_permuted names old new moved it = record {
   there = All-permutation (λ id. Contains names (file_name id)) old new moved it.there;
   all = λ id fit there. Contains-permutation old new id moved (it.all id fit there);
@@ -79,7 +83,8 @@ loop_some f names i d packages next id within is file only it =
 
 -- and one whose next is no package's
 pub loop_none : {X : Type 0} (f : X → List ℕ) (names : List X) (i : ℕ) (d : X) (packages next : List (List ℕ))
-    → i < length names → next ≡ packages → ((id : List ℕ) → IsUuid id → f (get_or names i d) ≢ file_name id)
+    → i < length names → next ≡ packages → ((id : List ℕ) → IsUuid id
+    → f (get_or names i d) ≢ file_name id)
     → HaveFiles (map f (take i names)) packages → HaveFiles (map f (take (i + 1) names)) next
 loop_none f names i d packages next within is none it =
     subst (λ shown. HaveFiles shown next) (sym (shown_more f names i d within))

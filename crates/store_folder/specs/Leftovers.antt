@@ -1,5 +1,6 @@
 -- Which names of a folder stand beside no package (profile).
-use Rattle.std.specs.Prelude.{◌≡◌, ◌⊎◌, ◌++◌, ℕ, true, List, [], ◌∷◌, bytes_eq, codes, Contains, String, string_bytes}
+use Rattle.std.specs.Prelude.{◌≡◌, ◌⊎◌, ◌++◌, ℕ, true, List, [], ◌∷◌, bytes_eq, codes}
+use Rattle.std.specs.Prelude.{Contains, String, string_bytes}
 use Rattle.std.specs.List.{list_any}
 use Rattle.sheet_types.specs.Lines.{IsUuid}
 use Rattle.store_folder.specs.Names.{file_name}

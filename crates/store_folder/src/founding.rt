@@ -28,8 +28,8 @@ pub fn unfinished_name(alloc: Global, package: Uuid) -> Result<String, AllocErro
 }
 
 /// An empty store in a file that is no package's yet. What an earlier call or a package of this
-/// UUID left goes first: a log that stayed
-/// would be taken for that of the new file. The file of a package itself is left alone.
+/// UUID left goes first: a log that stayed would be taken for that of the new file. The file of a
+/// package itself is left alone.
 ///
 /// # Errors
 ///
@@ -100,8 +100,8 @@ fn settle(rt: &HostRuntime, folder: &str, package: Uuid) -> Result<(), FolderFau
 }
 
 /// Closes the store of a package, which is whole now, and gives its file the package's name: all at
-/// once, so that whoever looks finds the
-/// package or none. What stands beside the file, an empty log, goes.
+/// once, so that whoever looks finds the package or none. What stands beside the file, an empty
+/// log, goes.
 ///
 /// # Errors
 ///

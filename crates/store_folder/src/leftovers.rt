@@ -72,8 +72,7 @@ fn leftovers_among(
 }
 
 /// The names of the files of a folder that stand beside no package, in their order; of the folder's
-/// bytes, in which each name is ended
-/// by a NUL. A name that is no UTF-8 is none of them.
+/// bytes, in which each name is ended by a NUL. A name that is no UTF-8 is none of them.
 ///
 /// # Errors
 ///

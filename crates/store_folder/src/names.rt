@@ -1,5 +1,6 @@
 //! Which file is the store of which package, by its name alone.
-ghost use Rattle.std.specs.Prelude.{◌≡◌, ◌≢◌, ◌==◌, ◌++◌, ◌∷◌, ℕ, List, IfOk, IfSome, IfNone, codes, map, nat_eq};
+ghost use Rattle.std.specs.Prelude.{◌≡◌, ◌≢◌, ◌==◌, ◌++◌, ◌∷◌, ℕ, List, IfOk, IfSome};
+ghost use Rattle.std.specs.Prelude.{IfNone, codes, map, nat_eq};
 ghost use Rattle.std.specs.Prelude.{string_bytes};
 ghost use Rattle.std.specs.List.{slice_split, list_any, ends_with};
 ghost use Rattle.sheet_types.specs.Lines.{IsUuid};
@@ -33,7 +34,8 @@ pub fn is_package_file(name: &[u8]) -> bool
 /// The UUID of which these bytes are the text in lower case (RFC 9562, section 4).
 fn uuid_of(text: &[u8]) -> Option<Uuid>
     ensures some { IfSome result (λ id. text.now ≡ uuid_text id) }
-    ensures only { IfSome result (λ id. (other : List ℕ) → IsUuid other → text.now ≡ uuid_text other → id ≡ other) }
+    ensures only { IfSome result (λ id. (other : List ℕ) → IsUuid other → text.now ≡ uuid_text other
+        → id ≡ other) }
     ensures none { IfNone result ((id : List ℕ) → IsUuid id → text.now ≢ uuid_text id) }
 {
     if text.len() != 36 {
@@ -53,7 +55,8 @@ fn uuid_of(text: &[u8]) -> Option<Uuid>
 /// The package whose file has this name; `None` of a name that no package's file has.
 pub fn package_of(name: &[u8]) -> Option<Uuid>
     ensures some { IfSome result (λ id. name.now ≡ file_name id) }
-    ensures only { IfSome result (λ id. (other : List ℕ) → IsUuid other → name.now ≡ file_name other → id ≡ other) }
+    ensures only { IfSome result (λ id. (other : List ℕ) → IsUuid other → name.now ≡ file_name other
+        → id ≡ other) }
     ensures none { IfNone result ((id : List ℕ) → IsUuid id → name.now ≢ file_name id) }
 {
     match name.strip_suffix(b".gpkg".as_slice()) {

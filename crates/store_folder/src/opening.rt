@@ -1,5 +1,6 @@
 //! The stores of a folder, opened.
-ghost use Rattle.std.specs.Prelude.{◌≡◌, ◌≤◌, ◌*◌, ◌++◌, ◌∷◌, [], ℕ, List, ⊤, IfOk, IsTrue, OnOk, All, length, max};
+ghost use Rattle.std.specs.Prelude.{◌≡◌, ◌≤◌, ◌*◌, ◌++◌, ◌∷◌, [], ℕ, List, ⊤, IfOk};
+ghost use Rattle.std.specs.Prelude.{IsTrue, OnOk, All, length, max};
 ghost use Rattle.std.specs.List.{AllZip};
 ghost use Rattle.sqlite.specs.Files.{IsOpened, file_state};
 ghost use Rattle.sqlite.specs.State.{HasCleanDisk};

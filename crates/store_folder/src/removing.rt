@@ -36,8 +36,8 @@ pub fn remove<R: Files + AllocGlobal>(rt: &R, folder: &str, name: &str) -> Resul
 /// What takes files out of a folder.
 pub trait RemoveFile {
     /// The file of this name was taken out of the folder between these two states, if it was there,
-    /// and no other was. Who takes files out by
-    /// this trait alone can show it of a name by such a call, and by nothing else.
+    /// and no other was. Who takes files out by this trait alone can show it of a name by such a
+    /// call, and by nothing else.
     ghost removes: { List ℕ → Self → Self → Type 0 };
 
     /// Removes the file of this name. One that is not there is no fault.

@@ -57,7 +57,8 @@ impl<'f> Shelf<FolderStore> for FolderShelf<'f> {
     ghost takes = { λ uuid store old new. ⊤ };
 
     fn blank(&mut self, package: Uuid) -> Result<Connection<FolderStore>, ShelfFault>
-        ensures blank { IfOk result (λ conn. HasCleanDisk (file_state conn) → IsBlank no_schema (file_state conn).now) }
+        ensures blank { IfOk result (λ conn. HasCleanDisk (file_state conn)
+            → IsBlank no_schema (file_state conn).now) }
         ensures counts { CountsFault result self.old.failures self.new.failures }
     {
         match blank_in_folder(self.rt, self.folder, package) {
@@ -67,8 +68,8 @@ impl<'f> Shelf<FolderStore> for FolderShelf<'f> {
     }
 
     // The files are closed first, and no log is copied: they are to go. What stays is a stray of
-    // the folder. A file of the package's name that
-    // is still held is that of another store, under a name that is not its own: it stays.
+    // the folder. A file of the package's name that is still held is that of another store, under a
+    // name that is not its own: it stays.
     fn retire(&mut self, package: Uuid, store: FolderStore)
         ensures counts { self.new.failures ≡ self.old.failures }
         ensures more { self.old.remnants ≤ self.new.remnants }

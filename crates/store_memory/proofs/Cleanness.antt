@@ -9,6 +9,7 @@ use Rattle.sqlite.specs.Held.{Held}
 use Rattle.sqlite.specs.State.{HasCleanDisk}
 
 module _ {D : Type 0} {g : Ghosts D} where
-  pub always_clean : ((file : D) → g.is_clean file ≡ true) → (c : Held (FileStore D g)) → HasCleanDisk (file_state c)
+  pub always_clean : ((file : D) → g.is_clean file ≡ true) → (c : Held (FileStore D g))
+      → HasCleanDisk (file_state c)
   unfolding pool.state doubt
   always_clean clean c = rw (clean c.store.pool.backing.pager.log.log, clean c.store.pool.backing.pager.log.db) refl

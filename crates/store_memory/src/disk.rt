@@ -1,4 +1,5 @@
-//! A file in memory. What is written is there at once, so a crash, of which there is none, would leave what a read returns.
+//! A file in memory. What is written is there at once, so a crash, of which there is none, would
+//! leave what a read returns.
 ghost use Rattle.std.specs.Prelude.{◌≡◌, [], length, true, false, refl, is_ok, OnOk};
 ghost use Rattle.sqlite_disk.specs.Disk.{Holds, Torn, Cut, CountsFault};
 ghost use Rattle.sqlite_disk.specs.Refusal.{finds_no_room};

@@ -13,10 +13,12 @@ use sqlite_disk::{Disk, Files};
 use sqlite_pager::Options;
 use std::alloc::Global;
 
-// How many frames the log has before they are copied into the database file. In memory a copy costs no wait, and a short log is little memory.
+// How many frames the log has before they are copied into the database file. In memory a copy costs
+// no wait, and a short log is little memory.
 const CHECKPOINT_FRAMES: usize = 100;
 
-// How many pages a store keeps beside its files, which are in memory themselves. Their memory is taken when the store is opened.
+// How many pages a store keeps beside its files, which are in memory themselves. Their memory is
+// taken when the store is opened.
 const CACHE_PAGES: usize = 200;
 
 /// As `open_blank`, except that files which cannot be opened are gone.
@@ -39,7 +41,8 @@ fn open_empty<D: Disk + Drop>(
     }
 }
 
-/// A blank store in two files that are in memory, which are gone with its connection. The seed is for the salts of the log.
+/// A blank store in two files that are in memory, which are gone with its connection. The seed is
+/// for the salts of the log.
 ///
 /// # Errors
 ///

@@ -5,7 +5,7 @@ ghost use Rattle.sqlite.specs.Files.{file_state};
 ghost use Rattle.store_sql.specs.Blank.{IsBlank, no_schema};
 ghost use Rattle.store_faults.specs.declared.shelf.ShelfFault.TheVariants.{OutOfMemory};
 
-use crate::shelf::{Shelf, counted};
+use crate::shelf::{Shelf, count_failure};
 use sqlite::{Connection, FileStore};
 use std::alloc::Global;
 use store_faults::shelf::ShelfFault;
@@ -15,7 +15,8 @@ use uuid::Uuid;
 // For the salts of the logs. No log outlives the store that wrote it, so none has to be told from another.
 const SEED: u64 = 1;
 
-/// Each store is gone with its connection, so nothing stands under any UUID. A store costs more than one of `MemoryShelf` while it has few rows, and less once it has thousands: it keeps trees.
+/// Each store is gone with its connection, so nothing stands under any UUID. A store costs more
+/// than one of `MemoryShelf` while it has few rows, and less once it has thousands: it keeps trees.
 #[derive(Drop)]
 pub struct MemoryFileShelf {
     alloc: Global,
@@ -46,7 +47,7 @@ impl Shelf<FileStore<MemoryFile>> for MemoryFileShelf {
         ensures fault { IfErr result (λ fault. fault ≡ OutOfMemory) }
     {
         let made = blank_in_files(self.alloc, SEED);
-        counted(made, &mut self.failures)
+        count_failure(made, &mut self.failures)
     }
 
     fn retire(&mut self, _package: Uuid, _store: FileStore<MemoryFile>)

@@ -6,7 +6,7 @@ ghost use Rattle.sqlite.specs.Steps.{over_memory};
 ghost use Rattle.store_sql.specs.Blank.{IsBlank, no_schema};
 ghost use Rattle.store_faults.specs.declared.shelf.ShelfFault.TheVariants.{OutOfMemory};
 
-use crate::shelf::{Shelf, counted};
+use crate::shelf::{Shelf, count_failure};
 use sqlite::{Connection, MemStore};
 use std::alloc::Global;
 use store_faults::shelf::ShelfFault;
@@ -43,7 +43,7 @@ impl Shelf<MemStore> for MemoryShelf {
         ensures fault { IfErr result (λ fault. fault ≡ OutOfMemory) }
     {
         let made = Connection::open_in_memory(self.alloc);
-        counted(made, &mut self.failures)
+        count_failure(made, &mut self.failures)
     }
 
     fn retire(&mut self, _package: Uuid, _store: MemStore)

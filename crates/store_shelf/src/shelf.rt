@@ -28,7 +28,8 @@ pub trait Shelf<S: Alter> {
     /// An empty store in place of whatever stood under this UUID. Each fault is counted, of either
     /// kind, and nothing else is. A count of 2^64 - 1 stays, and counts as risen.
     fn blank(&mut self, package: Uuid) -> Result<Connection<S>, ShelfFault>
-        ensures blank { IfOk result (λ conn. HasCleanDisk (state S.Store conn) → IsBlank no_schema (state S.Store conn).now) }
+        ensures blank { IfOk result (λ conn. HasCleanDisk (state S.Store conn)
+            → IsBlank no_schema (state S.Store conn).now) }
         ensures counts { CountsFault result (failures_of self.old) (failures_of self.new) }
         ensures asks { asks «package» self.old self.new };
 
@@ -44,7 +45,7 @@ pub trait Shelf<S: Alter> {
 }
 
 // The store that was made in memory. Nothing but memory can have been wanting where none was, which is counted.
-pub(crate) fn counted<T, E>(made: Result<T, E>, failures: &mut u64) -> Result<T, ShelfFault>
+pub(crate) fn count_failure<T, E>(made: Result<T, E>, failures: &mut u64) -> Result<T, ShelfFault>
 where
     T: Drop,
     E: Drop,

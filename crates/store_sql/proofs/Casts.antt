@@ -41,8 +41,10 @@ cast_kept _ v h = absurd cc
 cast_all_kept : (cs : List Column) (vs : Row) → are_of_kinds cs vs ≡ true → cast_all cs vs ≡ vs
 cast_all_kept [] vs h = refl
 cast_all_kept (c ∷ cs) [] h = refl
-cast_all_kept (c ∷ cs) (v ∷ vs) h = let k = and_parts (is_of_kind c.kind v) (are_of_kinds cs vs) h in rw (cast_kept c.kind v k.0, cast_all_kept cs vs k.1) refl
+cast_all_kept (c ∷ cs) (v ∷ vs) h = let k = and_parts (is_of_kind c.kind v) (are_of_kinds cs vs) h in rw
+    (cast_kept c.kind v k.0, cast_all_kept cs vs k.1) refl
 
 pub cast_row_kept : (t : Table) (row : Row) → has_kinds t row ≡ true → cast_row t row ≡ row
 cast_row_kept t [] h = absurd cc
-cast_row_kept t (v ∷ vs) h = let k = and_parts (is_of_kind Integer v) (are_of_kinds t.columns vs) h in rw (cast_kept Integer v k.0, cast_all_kept t.columns vs k.1) refl
+cast_row_kept t (v ∷ vs) h = let k = and_parts (is_of_kind Integer v) (are_of_kinds t.columns vs) h in rw
+    (cast_kept Integer v k.0, cast_all_kept t.columns vs k.1) refl

@@ -1,5 +1,6 @@
 -- Rows that are changed in their places: taken out of a table and put in again, in whatever order.
-use Rattle.std.proofs.Common.{◌≡◌, ◌⊎◌, List, [], ◌∷◌, map, Bool, true, false, cond, refl, sym, ap, ap₂, subst, ◌∙◌, inl, inr, Ordering, Less, Equal, Greater, is_eq, true≢false}
+use Rattle.std.proofs.Common.{◌≡◌, ◌⊎◌, List, [], ◌∷◌, map, Bool, true, false, cond, refl, sym, ap}
+use Rattle.std.proofs.Common.{ap₂, subst, ◌∙◌, inl, inr, Ordering, Less, Equal, Greater, is_eq, true≢false}
 use Rattle.std.specs.Prelude.{not, filter}
 use Rattle.std.specs.List.{AllByRecursion}
 use Rattle.std.specs.List.Sorted.{IsPermutation}
@@ -32,16 +33,20 @@ mapped_from f [] y h = absurd h
 mapped_from f (x ∷ xs) y (inl same) = (x, inl refl, same)
 mapped_from f (x ∷ xs) y (inr later) = let m = mapped_from f xs y later in (m.0, inr m.1, m.2)
 
-all_mapped : (P : Row → Type 0) (f : Row → Row) (xs : List Row) → AllByRecursion (λ x. P (f x)) xs → AllByRecursion P (map f xs)
+all_mapped : (P : Row → Type 0) (f : Row → Row) (xs : List Row) → AllByRecursion (λ x. P (f x)) xs
+    → AllByRecursion P (map f xs)
 all_mapped P f [] all = tt
 all_mapped P f (x ∷ xs) all = (all.0, all_mapped P f xs all.1)
 
 -- where a filter keeps nothing, no element passes
-pub none_kept : {A : Type 0} (p : A → Bool) (xs : List A) → filter p xs ≡ [] → AllByRecursion (λ x. p x ≡ false) xs
+pub none_kept : {A : Type 0} (p : A → Bool) (xs : List A) → filter p xs ≡ []
+    → AllByRecursion (λ x. p x ≡ false) xs
 none_kept p [] h = tt
 none_kept p (x ∷ xs) h = one (p x) refl h (none_kept p xs)
   where
-    one : (b : Bool) → p x ≡ b → cond b (x ∷ filter p xs) (filter p xs) ≡ [] → (filter p xs ≡ [] → AllByRecursion (λ y. p y ≡ false) xs) → AllByRecursion (λ y. p y ≡ false) (x ∷ xs)
+    one : (b : Bool) → p x ≡ b → cond b (x ∷ filter p xs) (filter p xs) ≡ []
+        → (filter p xs ≡ [] → AllByRecursion (λ y. p y ≡ false) xs)
+        → AllByRecursion (λ y. p y ≡ false) (x ∷ xs)
     one true is none later = absurd cc
     one false is none later = (is, later none)
 
@@ -51,16 +56,22 @@ never_both : (a b : Row) → value_cmp (rowid a) (rowid b) ≡ Less → value_cm
 never_both a b p q = let e = value_cmp_total.antisymm (rowid a) (rowid b) ∙ ap ordering_reverse q in cc
 
 -- two tables with the same rows are one
-same_rows : (xs ys : List Row) → IsTable xs → IsTable ys → ((r : Row) → Has xs r → Has ys r) → ((r : Row) → Has ys r → Has xs r) → xs ≡ ys
+same_rows : (xs ys : List Row) → IsTable xs → IsTable ys → ((r : Row) → Has xs r → Has ys r)
+    → ((r : Row) → Has ys r → Has xs r) → xs ≡ ys
 same_rows [] [] p q a b = refl
 same_rows [] (y ∷ ys) p q a b = absurd (b y (inl refl))
 same_rows (x ∷ xs) [] p q a b = absurd (a x (inl refl))
 same_rows (x ∷ xs) (y ∷ ys) p q a b =
     let first : x ≡ y = elim (a x (inl refl)) [
       | inl e ↦ e
-      | inr later ↦ elim (b y (inl refl)) [ inl e ↦ sym e | inr also ↦ absurd (never_both x y (all_has _ xs y p.0 also) (all_has _ ys x q.0 later)) ]
+      | inr later ↦ elim (b y (inl refl)) [
+        | inl e ↦ sym e
+        | inr also
+            ↦ absurd (never_both x y (all_has _ xs y p.0 also) (all_has _ ys x q.0 later))
+      ]
     ] in
-    let past = λ (z : Row) (zs : List Row) (up : AllByRecursion (λ r. value_cmp (rowid z) (rowid r) ≡ Less) zs) (r : Row) (h : Has zs r) (e : r ≡ z).
+    let past = λ (z : Row) (zs : List Row) (up : AllByRecursion (λ r. value_cmp (rowid z) (rowid r) ≡ Less) zs)
+    (r : Row) (h : Has zs r) (e : r ≡ z).
     let lower = rw e at (all_has _ zs r up h) in never_both z z lower lower in
     ap₂ ◌∷◌ first (same_rows xs ys p.1 q.1
     (λ r h. elim (a r (inr h)) [ inl e ↦ absurd (past x xs p.0 r h (e ∙ sym first)) | inr k ↦ k ])
@@ -71,11 +82,13 @@ put_all_table [] rows up = up
 put_all_table (n ∷ news) rows up = put_all_table news (put_row n rows) (IsTable-put_row n rows up)
 
 -- a row stays where one of another rowid is put
-put_spares : (new : Row) (rows : List Row) (x : Row) → Has rows x → (Tied x new → ⊥) → Has (put_row new rows) x
+put_spares : (new : Row) (rows : List Row) (x : Row) → Has rows x → (Tied x new → ⊥)
+    → Has (put_row new rows) x
 put_spares new [] x h other = absurd h
 put_spares new (r ∷ rows) x h other = go (value_cmp (rowid r) (rowid new)) refl (put_spares new rows x)
   where
-    go : (o : Ordering) → value_cmp (rowid r) (rowid new) ≡ o → (Has rows x → (Tied x new → ⊥) → Has (put_row new rows) x) → Has (put_row new (r ∷ rows)) x
+    go : (o : Ordering) → value_cmp (rowid r) (rowid new) ≡ o
+        → (Has rows x → (Tied x new → ⊥) → Has (put_row new rows) x) → Has (put_row new (r ∷ rows)) x
     go Less e later = rw e (elim h [ inl same ↦ inl same | inr more ↦ inr (later more other) ])
     go Equal e later = rw e (elim h [ inl same ↦ absurd (other (rw same e)) | inr more ↦ inr more ])
     go Greater e later = rw e (inr h)
@@ -85,7 +98,8 @@ Apart news x = (n : Row) → Has news n → Tied x n → ⊥
 
 put_spares_all : (news rows : List Row) (x : Row) → Has rows x → Apart news x → Has (put_all rows news) x
 put_spares_all [] rows x h apart = h
-put_spares_all (n ∷ news) rows x h apart = put_spares_all news (put_row n rows) x (put_spares n rows x h (apart n (inl refl))) (λ m k. apart m (inr k))
+put_spares_all (n ∷ news) rows x h apart = put_spares_all news (put_row n rows) x
+    (put_spares n rows x h (apart n (inl refl))) (λ m k. apart m (inr k))
 
 equal_is : (o : Ordering) → is_eq o ≡ true → o ≡ Equal
 equal_is Less h = absurd cc
@@ -98,7 +112,11 @@ any_tied (n ∷ news) x = elim (cases_Bool (is_eq (value_cmp (rowid x) (rowid n)
   | inl tie ↦ inl (n, inl refl, equal_is _ tie)
   | inr other ↦ elim (any_tied news x) [
     | inl m ↦ inl (m.0, inr m.1, m.2)
-    | inr apart ↦ inr (λ m k tie. elim k [ inl e ↦ let a = ap is_eq (rw e at tie) in cc | inr more ↦ apart m more tie ])
+    | inr apart ↦ inr (λ m k tie. elim k [
+      | inl e ↦ let a = ap is_eq (rw e at tie) in cc
+      | inr more
+          ↦ apart m more tie
+    ])
   ]
 ]
 
@@ -114,13 +132,15 @@ put_adds (n ∷ news) rows x once h =
       | inr more ↦ later more
       | inl e ↦ elim (any_tied news x) [
         | inl m ↦ later (subst (Has news) (sym (once x m.0 (inl e) (inr m.1) m.2)) m.1)
-        | inr apart ↦ put_spares_all news (put_row n rows) x (subst (Has (put_row n rows)) (sym e) (has_put n rows)) apart
+        | inr apart ↦ put_spares_all news (put_row n rows) x (subst (Has (put_row n rows)) (sym e) (has_put n rows))
+            apart
       ]
     ]
 
 -- ---- the rows that pass, changed
 
-module _ (xs : List Row) (keyed : IsKeyed xs) (p : Row → Bool) (change : Row → Row) (keeps : (r : Row) → rowid (change r) ≡ rowid r) (news : List Row)
+module _ (xs : List Row) (keyed : IsKeyed xs) (p : Row → Bool) (change : Row → Row)
+    (keeps : (r : Row) → rowid (change r) ≡ rowid r) (news : List Row)
     (same : IsPermutation (map change (filter p xs)) news) where
   abbrev each : Row → Row
   each r = cond (p r) (change r) r
@@ -133,14 +153,19 @@ module _ (xs : List Row) (keyed : IsKeyed xs) (p : Row → Bool) (change : Row �
 
   are_changed : AllByRecursion IsChanged news
   are_changed =
-      let first = all_mapped IsChanged change (filter p xs) (all_from _ (filter p xs) (λ r h. let k = has_filtered p xs r h in (r, k.0, k.1, refl))) in
-      recursion_from_All IsChanged news (All-permutation IsChanged (map change (filter p xs)) news same (All-from_recursion IsChanged (map change (filter p xs)) first))
+      let first = all_mapped IsChanged change (filter p xs) (all_from _ (filter p xs)
+      (λ r h. let k = has_filtered p xs r h in (r, k.0, k.1, refl))) in
+      recursion_from_All IsChanged news (All-permutation IsChanged (map change (filter p xs)) news same
+      (All-from_recursion IsChanged (map change (filter p xs)) first))
 
   has_changed : (r : Row) → Has xs r → p r ≡ true → Has news (change r)
   has_changed r here passes =
       let own = All-from_recursion (Has news) news (all_from (Has news) news (λ x h. h)) in
-      let back = recursion_from_All (Has news) (map change (filter p xs)) (All-permutation (Has news) news (map change (filter p xs)) (IsPermutation-sym (map change (filter p xs)) news same) own) in
-      all_has (Has news) (map change (filter p xs)) (change r) back (has_mapped change (filter p xs) r (has_kept p xs r here passes))
+      let back = recursion_from_All (Has news) (map change (filter p xs))
+      (All-permutation (Has news) news (map change (filter p xs))
+      (IsPermutation-sym (map change (filter p xs)) news same) own) in
+      all_has (Has news) (map change (filter p xs)) (change r) back
+      (has_mapped change (filter p xs) r (has_kept p xs r here passes))
 
   once : OnceEach news
   once a b h k tie =
@@ -158,7 +183,8 @@ module _ (xs : List Row) (keyed : IsKeyed xs) (p : Row → Bool) (change : Row �
   kept : (r : Row) → rowid (each r) ≡ rowid r
   kept r = elim (p r) as (λ b. rowid (cond b (change r) r) ≡ rowid r) [ true ↦ keeps r | false ↦ refl ]
 
-  above : (y : Row) (ys : List Row) → AllByRecursion (λ s. value_cmp (rowid y) (rowid s) ≡ Less) ys → AllByRecursion (λ s. value_cmp (rowid (each y)) (rowid s) ≡ Less) (map each ys)
+  above : (y : Row) (ys : List Row) → AllByRecursion (λ s. value_cmp (rowid y) (rowid s) ≡ Less) ys
+      → AllByRecursion (λ s. value_cmp (rowid (each y)) (rowid s) ≡ Less) (map each ys)
   above y [] less = tt
   above y (s ∷ ys) less = (rw (kept y, kept s) less.0, above y ys less.1)
 
@@ -187,9 +213,12 @@ module _ (xs : List Row) (keyed : IsKeyed xs) (p : Row → Bool) (change : Row �
             subst (Has (put_all left news)) is (put_adds news left (change m.0) once (has_changed m.0 m.1 passes))
         | inr misses ↦
             let is : m.0 ≡ y = sym (rw misses at m.2) in
-            subst (Has (put_all left news)) is (put_spares_all news left m.0 (has_kept (λ r. not (p r)) xs m.0 m.1 (ap not misses)) (apart m.0 m.1 misses))
+            subst (Has (put_all left news)) is (put_spares_all news left m.0
+            (has_kept (λ r. not (p r)) xs m.0 m.1 (ap not misses)) (apart m.0 m.1 misses))
       ]
 
   -- what is left, with the changed rows in any order, is the table with each of them in its place
   pub changed_in_place : put_all left news ≡ map (λ r. cond (p r) (change r) r) xs
-  changed_in_place = same_rows (put_all left news) (map each xs) (put_all_table news left (ascending-filter _ (λ r. not (p r)) xs keyed.rises)) (still_table xs keyed.rises) forth back
+  changed_in_place = same_rows (put_all left news) (map each xs)
+      (put_all_table news left (ascending-filter _ (λ r. not (p r)) xs keyed.rises)) (still_table xs keyed.rises)
+      forth back

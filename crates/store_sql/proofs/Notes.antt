@@ -16,11 +16,23 @@ use Rattle.store_sql.proofs.First.{IsFirst, IsPlannedFirst}
 use Rattle.store_sql.proofs.Insert.{IsInsert, IsRow}
 use Rattle.store_sql.specs.Notes.{note_table, note_stored}
 
-pub insert_text : (spelling : Spelling) → IsInsert (codes "INSERT INTO notes VALUES (?1, ?2, ?3)") (spelled note_table spelling)
+pub insert_text : (spelling : Spelling) → IsInsert (codes "INSERT INTO notes VALUES (?1, ?2, ?3)")
+    (spelled note_table spelling)
 unfolding everything
-insert_text spelling = record { parse = _; rows = _; parsed = refl; statement = refl; formats = refl; named = refl; unstamped = refl; source = λ schema. refl }
+insert_text spelling = record {
+  parse = _;
+  rows = _;
+  parsed = refl;
+  statement = refl;
+  formats = refl;
+  named = refl;
+  unstamped = refl;
+  source = λ schema. refl;
+}
 
-pub insert_row : (seq place : ℤ) (text : List ℕ) (spelling : Spelling) (there : List Row) → IsRow (spelled note_table spelling) (Int seq ∷ Int place ∷ Text text ∷ []) there (note_stored seq place text)
+pub insert_row : (seq place : ℤ) (text : List ℕ) (spelling : Spelling) (there : List Row)
+    → IsRow (spelled note_table spelling) (Int seq ∷ Int place ∷ Text text ∷ []) there
+    (note_stored seq place text)
 insert_row seq place text spelling there = record { source = _; laid = refl; kinds = refl; placed = λ top. refl }
 
 -- ---- the newest of a place
@@ -28,7 +40,9 @@ insert_row seq place text spelling there = record { source = _; laid = refl; kin
 abbrev pub by_newest : List (Term × Key)
 by_newest = (col 1 0, descending) ∷ []
 
-pub newest_text : (spelling : Spelling) → IsFirst (codes "SELECT * FROM notes WHERE place = ?1 ORDER BY seq DESC LIMIT 1") (spelled note_table spelling) (equals 1 0) by_newest
+pub newest_text : (spelling : Spelling)
+    → IsFirst (codes "SELECT * FROM notes WHERE place = ?1 ORDER BY seq DESC LIMIT 1") (spelled note_table spelling)
+    (equals 1 0) by_newest
 unfolding everything
 newest_text spelling = record {
   parse = _;
@@ -55,7 +69,8 @@ newest_plan spelling schema at h = rw (h.stored, h.by_tree) refl
 abbrev pub by_number : List (Term × Key)
 by_number = (col 1 0, ascending) ∷ []
 
-pub from_text : (spelling : Spelling) → IsSelect (codes "SELECT * FROM notes WHERE seq >= ?1 ORDER BY seq") (spelled note_table spelling) (compares Ge 0 0) by_number
+pub from_text : (spelling : Spelling) → IsSelect (codes "SELECT * FROM notes WHERE seq >= ?1 ORDER BY seq")
+    (spelled note_table spelling) (compares Ge 0 0) by_number
 unfolding everything
 from_text spelling = record {
   parse = _;
@@ -82,7 +97,9 @@ from_plan spelling schema at h = rw (h.stored, h.by_tree) refl
 abbrev pub in_place_below : Test
 in_place_below = both (equals 1 0) (compares Lt 0 1)
 
-pub before_text : (spelling : Spelling) → IsSelect (codes "SELECT * FROM notes WHERE place = ?1 AND seq < ?2 ORDER BY seq DESC") (spelled note_table spelling) in_place_below by_newest
+pub before_text : (spelling : Spelling)
+    → IsSelect (codes "SELECT * FROM notes WHERE place = ?1 AND seq < ?2 ORDER BY seq DESC")
+    (spelled note_table spelling) in_place_below by_newest
 unfolding everything
 before_text spelling = record {
   parse = _;
@@ -93,7 +110,17 @@ before_text spelling = record {
   statement = refl;
   formats = refl;
   one = one_table refl refl refl refl refl refl refl refl refl refl refl refl refl refl refl;
-  condition = (_, refl, (_, _, refl, (_, _, _, _, refl, refl, refl, refl, refl, refl, refl), (_, _, _, _, refl, refl, refl, refl, refl, refl, refl)));
+  condition = (
+    _,
+    refl,
+    (
+      _,
+      _,
+      refl,
+      (_, _, _, _, refl, refl, refl, refl, refl, refl, refl),
+      (_, _, _, _, refl, refl, refl, refl, refl, refl, refl),
+    ),
+  );
   enough = refl;
   few = λ at. refl;
   some = λ at. refl;
@@ -106,7 +133,8 @@ before_plan spelling schema at h = rw (h.stored, h.by_tree) refl
 
 -- ---- the numbers of a place
 
-pub numbers_text : (spelling : Spelling) → IsNamed (codes "SELECT seq FROM notes WHERE place = ?1 ORDER BY seq") (spelled note_table spelling) (0 ∷ []) (equals 1 0) by_number all_rows
+pub numbers_text : (spelling : Spelling) → IsNamed (codes "SELECT seq FROM notes WHERE place = ?1 ORDER BY seq")
+    (spelled note_table spelling) (0 ∷ []) (equals 1 0) by_number all_rows
 unfolding everything
 numbers_text spelling = record {
   parse = _;
@@ -124,9 +152,12 @@ numbers_text spelling = record {
   enough = refl;
 }
 
-pub numbers_plan : (spelling : Spelling) → IsPlannedNamed (spelled note_table spelling) (0 ∷ []) (equals 1 0) by_number all_rows
+pub numbers_plan : (spelling : Spelling) → IsPlannedNamed (spelled note_table spelling) (0 ∷ []) (equals 1 0)
+    by_number all_rows
 unfolding resolving
 numbers_plan spelling schema at h = rw (h.stored, h.by_tree) refl
 
-pub numbers : (spelling : Spelling) → IsAsked (codes "SELECT seq FROM notes WHERE place = ?1 ORDER BY seq") (spelled note_table spelling) (equals 1 0) (named_terms (spelled note_table spelling) (0 ∷ [])) by_number all_rows
+pub numbers : (spelling : Spelling) → IsAsked (codes "SELECT seq FROM notes WHERE place = ?1 ORDER BY seq")
+    (spelled note_table spelling) (equals 1 0) (named_terms (spelled note_table spelling) (0 ∷ [])) by_number
+    all_rows
 numbers spelling = asked_named (numbers_text spelling) (numbers_plan spelling)

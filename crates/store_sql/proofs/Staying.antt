@@ -7,7 +7,8 @@ use Rattle.store_sql.specs.Transactions.{Holds, Looks}
 use Rattle.store_sql.specs.Staying.{Stays}
 
 -- a read leaves the store as it was
-pub looks_stays : {X E : Type 0} {Answers : X → Database → Database → Type 0} {old new : State} {r : Result X E} → Looks Answers old new r → Stays old new
+pub looks_stays : {X E : Type 0} {Answers : X → Database → Database → Type 0} {old new : State} {r : Result X E}
+    → Looks Answers old new r → Stays old new
 looks_stays it = record { rests = it.rests; was_open = it.was_open; holds = it.holds; survives = it.survives }
 
 pub stays_then : {a b c : State} → Stays a b → Stays b c → Stays a c
@@ -18,5 +19,6 @@ stays_then {a} {b} {c} first next = record {
       let late = next.holds is_open in
       let early = first.holds (next.was_open is_open) in
       subst (Holds c) early.now_is late;
-  survives = survives_then _ _ _ _ _ _ (λ _ db none. absurd none) (λ _ db none. absurd none) first.survives next.survives;
+  survives = survives_then _ _ _ _ _ _ (λ _ db none. absurd none) (λ _ db none. absurd none) first.survives
+      next.survives;
 }

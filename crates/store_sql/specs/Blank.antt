@@ -1,5 +1,6 @@
 -- A database that has the tables of a schema, with no rows.
-use Rattle.std.specs.Prelude.{◌≡◌, ℕ, ◌==◌, List, [], length, slice_range, true, false, not, ◌&&◌, if◌then◌else◌, None, Ok}
+use Rattle.std.specs.Prelude.{◌≡◌, ℕ, ◌==◌, List, [], length, slice_range, true, false, not, ◌&&◌}
+use Rattle.std.specs.Prelude.{if◌then◌else◌, None, Ok}
 use Rattle.std.specs.List.{AllByRecursion}
 use Rattle.sqlite_ast.specs.declared.CreateTable.{CreateTable as Written}
 use Rattle.sqlite_ast.specs.declared.Statement.TheVariants as written
@@ -48,11 +49,13 @@ pub record IsBlank (schema : Schema) (db : Database) : Type 0 where
   pub empty : AllByRecursion (λ t. db.trees t.tree ≡ []) schema.tables
 
 abbrev pub Grows : List ℕ → Database → Database → Type 0
-Grows text old new = (schema : Schema) (t : Table) → MakesText text t → IsFree schema t.name → IsBlank schema old → IsBlank (grown schema t) new
+Grows text old new = (schema : Schema) (t : Table) → MakesText text t → IsFree schema t.name
+    → IsBlank schema old → IsBlank (grown schema t) new
 
 -- the same, and the new database obeys its schema
 abbrev pub GrowsSoundly : List ℕ → Database → Database → Type 0
-GrowsSoundly text old new = Grows text old new × ((schema : Schema) (t : Table) → MakesText text t → IsFree schema t.name → IsBlank schema old → IsDatabase new)
+GrowsSoundly text old new = Grows text old new × ((schema : Schema) (t : Table) → MakesText text t
+    → IsFree schema t.name → IsBlank schema old → IsDatabase new)
 
 abbrev pub no_schema : Schema
 no_schema = record { tables = []; indexes = []; views = [] }

@@ -1,5 +1,6 @@
 -- When the catalogue has no reason to refuse a CREATE.
-use Rattle.std.specs.Prelude.{◌≡◌, ℕ, ◌+◌, ◌*◌, ◌^◌, nat_lt, List, [], length, codes, true, false, not, ◌&&◌, ◌==◌, nat_le, MatchBool, ⊤, Ok}
+use Rattle.std.specs.Prelude.{◌≡◌, ℕ, ◌+◌, ◌*◌, ◌^◌, nat_lt, List, [], length, codes, true, false}
+use Rattle.std.specs.Prelude.{not, ◌&&◌, ◌==◌, nat_le, MatchBool, ⊤, Ok}
 use Rattle.std.specs.List.{AllByRecursion}
 use Rattle.std.specs.Str.{is_utf8}
 use Rattle.sqlite_syntax.specs.declared.statement.Parsed.{Parsed}
@@ -38,7 +39,8 @@ pub record FitsTable (schema : Schema) (text : List ℕ) (t : Table) : Type 0 wh
 pub record FitsGrown (schema : Schema) (text : List ℕ) (t : Table) : Type 0 where
   pub alone : IsAlone text
   pub table : FitsTable schema text t
-  pub sequence : MatchBool (lacks_sequence (created schema t)) (FitsTable (created schema t) sequence_text (counters 0)) ⊤
+  pub sequence : MatchBool (lacks_sequence (created schema t))
+      (FitsTable (created schema t) sequence_text (counters 0)) ⊤
 
 pub record FitsIndex (schema : Schema) (text : List ℕ) (t : Table) (i : Index) : Type 0 where
   pub alone : IsAlone text

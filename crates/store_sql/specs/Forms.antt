@@ -11,7 +11,14 @@ use Rattle.store_sql.specs.declared.forms.ReferenceForm.{ReferenceForm}
 use Rattle.store_sql.specs.declared.forms.TableForm.{TableForm}
 
 abbrev pub column_of : ColumnForm → Column
-column_of f = record { name = f.name.now; kind = f.kind; is_strict = f.is_strict; not_null = f.not_null; default = Null; collation = Binary }
+column_of f = record {
+  name = f.name.now;
+  kind = f.kind;
+  is_strict = f.is_strict;
+  not_null = f.not_null;
+  default = Null;
+  collation = Binary;
+}
 
 abbrev pub reference_of : ReferenceForm → Reference
 reference_of f = record {

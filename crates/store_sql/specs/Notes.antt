@@ -16,7 +16,8 @@ abbrev pub note_table : ℕ → Table
 note_table tree = record {
   name = codes "notes";
   tree = tree;
-  columns = column (codes "seq") Integer false ∷ column (codes "place") Integer true ∷ column (codes "text") Text true ∷ [];
+  columns = column (codes "seq") Integer false ∷ column (codes "place") Integer true
+      ∷ column (codes "text") Text true ∷ [];
   key = Some 0;
   primary = 0 ∷ [];
   uniques = [];
@@ -47,17 +48,37 @@ shown_note r = value_in r 0 ∷ value_in r 2 ∷ value_in r 3 ∷ []
 
 -- the notes of a place, the newest first
 abbrev pub newest_in : ℤ → Listing
-newest_in place = record { keeps = λ r. is_same (value_in r 2) (value.Int place); key = λ r. value_in r 0 ∷ []; shown = shown_note; by = descending ∷ [] }
+newest_in place = record {
+  keeps = λ r. is_same (value_in r 2) (value.Int place);
+  key = λ r. value_in r 0 ∷ [];
+  shown = shown_note;
+  by = descending ∷ [];
+}
 
 -- the notes from a number on, by their numbers
 abbrev pub notes_from : ℤ → Listing
-notes_from seq = record { keeps = λ r. stands Ge (value_in r 0) (value.Int seq); key = λ r. value_in r 0 ∷ []; shown = shown_note; by = ascending ∷ [] }
+notes_from seq = record {
+  keeps = λ r. stands Ge (value_in r 0) (value.Int seq);
+  key = λ r. value_in r 0 ∷ [];
+  shown = shown_note;
+  by = ascending ∷ [];
+}
 
 -- the notes of a place below a number, the newest first
 abbrev pub notes_before : ℤ → ℤ → Listing
 notes_before place seq =
-    record { keeps = λ r. is_same (value_in r 2) (value.Int place) && stands Lt (value_in r 0) (value.Int seq); key = λ r. value_in r 0 ∷ []; shown = shown_note; by = descending ∷ [] }
+    record {
+      keeps = λ r. is_same (value_in r 2) (value.Int place) && stands Lt (value_in r 0) (value.Int seq);
+      key = λ r. value_in r 0 ∷ [];
+      shown = shown_note;
+      by = descending ∷ [];
+    }
 
 -- the numbers of the notes of a place, in their order, and nothing else of them
 abbrev pub numbers_in : ℤ → Listing
-numbers_in place = record { keeps = λ r. is_same (value_in r 2) (value.Int place); key = λ r. value_in r 0 ∷ []; shown = λ r. value_in r 0 ∷ []; by = ascending ∷ [] }
+numbers_in place = record {
+  keeps = λ r. is_same (value_in r 2) (value.Int place);
+  key = λ r. value_in r 0 ∷ [];
+  shown = λ r. value_in r 0 ∷ [];
+  by = ascending ∷ [];
+}

@@ -1,5 +1,6 @@
 -- What a SELECT answers.
-use Rattle.std.specs.Prelude.{◌≡◌, ◌⊎◌, ℕ, Bool, true, false, not, ◌&&◌, List, [], ◌∷◌, map, filter}
+use Rattle.std.specs.Prelude.{◌≡◌, ◌⊎◌, ℕ, Bool, true, false, not, ◌&&◌, List, [], ◌∷◌, map}
+use Rattle.std.specs.Prelude.{filter}
 use Rattle.std.specs.List.Sorted.{IsPermutation, IsSorted}
 use Rattle.std.specs.List.{AllByRecursion}
 use Rattle.std.specs.Ordering.{on, is_eq, is_gt}
@@ -27,7 +28,8 @@ is_same a b = is_eq (value_cmp a b)
 abbrev pub stands : CompareOp → Value → Value → Bool
 stands op a b = not (is_null a) && test op (value_cmp a b)
 
--- a condition on a row: a column, by its number, equals a parameter, by its number from 0, or stands to it in another way
+-- a condition on a row: a column, by its number, equals a parameter, by its number from 0, or stands to it in another
+-- way
 pub data Test : Type 0 where
   always : Test
   equals : ℕ → ℕ → Test
@@ -63,12 +65,14 @@ pub record Listing : Type 0 where
 -- The answer is the listing of the table's rows, and the call changed nothing.
 abbrev pub Lists : (ℕ → Table) → Listing → State → State → List Row → Type 0
 Lists table l old new rows = (at : ℕ) (spelling : Spelling) → HasTable old.now.schema at (spelled table spelling)
-    → IsListing l.key l.shown l.by (filter l.keeps (old.now.trees (spelled table spelling).tree)) rows × IsUnchanged old new
+    → IsListing l.key l.shown l.by (filter l.keeps (old.now.trees (spelled table spelling).tree)) rows
+    × IsUnchanged old new
 
 -- The same over databases, for a read among other steps: the rows are the listing, and the database is as it was.
 pub record Finds (table : ℕ → Table) (l : Listing) (rows : List Row) (old new : Database) : Type 0 where
   pub same : new ≡ old
-  pub listed : (at : ℕ) (spelling : Spelling) → HasTable old.schema at (spelled table spelling) → IsListing l.key l.shown l.by (filter l.keeps (old.trees (spelled table spelling).tree)) rows
+  pub listed : (at : ℕ) (spelling : Spelling) → HasTable old.schema at (spelled table spelling)
+      → IsListing l.key l.shown l.by (filter l.keeps (old.trees (spelled table spelling).tree)) rows
 
 -- of these rows, one that no other comes before
 pub record ComesFirst (key : Row → Row) (by : List Key) (rows : List Row) (r : Row) : Type 0 where
@@ -77,9 +81,11 @@ pub record ComesFirst (key : Row → Row) (by : List Key) (rows : List Row) (r :
 
 -- what LIMIT 1 shows: nothing where no row passes, or else the row that comes first
 abbrev pub ShowsFirst : (Row → Row) → (Row → Row) → List Key → List Row → List Row → Type 0
-ShowsFirst key shown by table rows = ((table ≡ []) × (rows ≡ [])) ⊎ ((r : Row) × ComesFirst key by table r × (rows ≡ shown r ∷ []))
+ShowsFirst key shown by table rows = ((table ≡ []) × (rows ≡ []))
+    ⊎ ((r : Row) × ComesFirst key by table r × (rows ≡ shown r ∷ []))
 
 -- The answer is the first row of the listing, if there is one, and the database is as it was.
 pub record FindsFirst (table : ℕ → Table) (l : Listing) (rows : List Row) (old new : Database) : Type 0 where
   pub same : new ≡ old
-  pub first : (at : ℕ) (spelling : Spelling) → HasTable old.schema at (spelled table spelling) → ShowsFirst l.key l.shown l.by (filter l.keeps (old.trees (spelled table spelling).tree)) rows
+  pub first : (at : ℕ) (spelling : Spelling) → HasTable old.schema at (spelled table spelling)
+      → ShowsFirst l.key l.shown l.by (filter l.keeps (old.trees (spelled table spelling).tree)) rows

@@ -1,4 +1,5 @@
--- How a store spells a table: what it says of it besides the name, the columns and the rowid. A statement means the same under each spelling.
+-- How a store spells a table: what it says of it besides the name, the columns and the rowid. A statement means the
+-- same under each spelling.
 use Rattle.std.specs.Prelude.{◌≡◌, ◌⊎◌, ℕ, List, [], Any}
 use Rattle.std.specs.List.{AllByRecursion}
 use Rattle.sqlite.specs.Table.{Table}
@@ -18,11 +19,22 @@ pub record Spelling : Type 0 where
 
 -- the table, spelled so
 abbrev pub spelled : (ℕ → Table) → Spelling → Table
-spelled table s = record (table s.tree) { primary = s.primary; uniques = s.uniques; orders = s.orders; references = s.references }
+spelled table s = record (table s.tree) {
+  primary = s.primary;
+  uniques = s.uniques;
+  orders = s.orders;
+  references = s.references;
+}
 
 -- how the table itself is spelled
 abbrev pub spelling_of : Table → Spelling
-spelling_of t = record { tree = t.tree; primary = t.primary; uniques = t.uniques; orders = t.orders; references = t.references }
+spelling_of t = record {
+  tree = t.tree;
+  primary = t.primary;
+  uniques = t.uniques;
+  orders = t.orders;
+  references = t.references;
+}
 
 -- a table that says nothing of its keys
 abbrev pub unspelled : Spelling

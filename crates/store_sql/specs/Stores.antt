@@ -27,4 +27,5 @@ module _ {S M : Type 0} (g : Ghosts S) (conn : M → Held S) where
 
     -- a crash leaves one of two worlds, whole
     abbrev pub LeavesEither : List M → List P → List P → Type 0
-    LeavesEither members before after = AllClean members → (dbs : List Trees) → MayLeave members dbs → AllZip Reads dbs before ⊎ AllZip Reads dbs after
+    LeavesEither members before after = AllClean members → (dbs : List Trees) → MayLeave members dbs
+        → AllZip Reads dbs before ⊎ AllZip Reads dbs after

@@ -1,6 +1,7 @@
 //! Whether a table of a schema is one that a program knows, and where it stands.
 
-ghost use Rattle.std.specs.Prelude.{◌≡◌, ◌↔◌, ◌==◌, ℕ, IsTrue, IfSome, IfNone, map, find, option_map, []};
+ghost use Rattle.std.specs.Prelude.{◌≡◌, ◌↔◌, ◌==◌, ℕ, IsTrue, IfSome, IfNone, map, find};
+ghost use Rattle.std.specs.Prelude.{option_map, []};
 ghost use Rattle.std.specs.List.{AllByRecursion};
 ghost use Rattle.sqlite_schema.specs.Names.{table_named};
 ghost use Rattle.store_sql.specs.Forms.{column_of, reference_of, table_of};

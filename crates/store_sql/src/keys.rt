@@ -4,7 +4,8 @@ ghost use Rattle.std.specs.Prelude.{◌≡◌, ◌↔◌, ◌==◌, IsTrue, fals
 ghost use Rattle.std.specs.List.{AllByRecursion, position_from};
 ghost use Rattle.sqlite_value.specs.Keys.{plain, undirected};
 ghost use Rattle.store_sql.specs.Forms.{reference_of, table_of};
-ghost use Rattle.store_sql.specs.Spelling.{HasPlace, IsSameKey, HasKey, AreSameKeys, Names, IsMeant, IsWritten, IsSpelling, IsPlaced, spelled, spelling_of};
+ghost use Rattle.store_sql.specs.Spelling.{HasPlace, IsSameKey, HasKey, AreSameKeys, Names, IsMeant, IsWritten};
+ghost use Rattle.store_sql.specs.Spelling.{IsSpelling, IsPlaced, spelled, spelling_of};
 
 use crate::forms::{
     ReferenceForm, TableForm, are_columns, are_places, has_no_terms, is_name, is_reference,

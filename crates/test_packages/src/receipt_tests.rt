@@ -256,7 +256,7 @@ fn wrong_of_four<S: Alter + Drop>(
     Ok(String::from_str(a, checked.wrong())?)
 }
 
-// `bench/failing_allocations.sh` runs this test with each allocation refused in turn.
+// `torture/failing_allocations.sh` runs this test with each allocation refused in turn.
 #[test]
 fn a_receipt_comes_whole_or_not_at_all(rt: HostRuntime) -> Result<(), Fail> {
     let alloc = rt.alloc();

@@ -1,6 +1,5 @@
 // Requests that come a line each: what each line is answered with, in its place, and how all ends.
-// The texts are written
-// out by hand.
+// The texts are written out by hand.
 use crate::outputs::What;
 use crate::streams::{NOTHING, Reads, WHOLE, Wrote};
 use crate::texts::{ADD, RECEIPT_LINE};

@@ -159,8 +159,8 @@ fn check(
 }
 
 // One that sends nothing, one whose body is left unread, one that asks for no path, and a page of
-// another address. Then a request of the list comes
-// again, a new one, and what they come to is read.
+// another address. Then a request of the list comes again, a new one, and what they come to is
+// read.
 const CLIENTS: [Client; 7] = [
     Client(Sent::Bytes(""), NOTHING),
     Client(

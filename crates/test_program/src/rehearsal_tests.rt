@@ -1,6 +1,5 @@
 // A rehearsal whose output was written out by hand, over writers that fail, and one that is long;
-// the digest is Python's
-// `hashlib`. What else rehearsals print is in the sessions of `sheetdesk`.
+// the digest is Python's `hashlib`. What else rehearsals print is in the sessions of `sheetdesk`.
 use crate::endings::{End, end_text};
 use crate::streams::{WHOLE, Wrote, judged_paper, paper};
 use crate::texts::{GOOD, List, PRINTED, list_text};

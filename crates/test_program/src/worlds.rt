@@ -20,8 +20,8 @@ pub(crate) fn passes(rt: &impl Abort, wrong: Result<String, Fault>) {
 }
 
 // What is to be written by a writer with so much room, how it is to end, and what it then wrote;
-// how it ends where there
-// is room for all but the last byte of what is else written; or what the archive holds.
+// how it ends where there is room for all but the last byte of what is else written; or what the
+// archive holds.
 #[derive(Clone, Copy)]
 pub(crate) enum Step {
     Writes(What, usize, &'static str, Wrote),

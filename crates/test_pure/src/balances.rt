@@ -1,6 +1,5 @@
 //! A tile that is added to an archive, lent, lent on and brought back; and worlds in which one part
-//! alone is broken. What packages hold, and
-//! the last receipt of each.
+//! alone is broken. What packages hold, and the last receipt of each.
 
 use crate::receipts::{ARCHIVE, package, package_byte, package_word, receipts, things};
 use crate::steps::{Of, Table, Told, cut, points, uuid, wrong_of};

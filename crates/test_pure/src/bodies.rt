@@ -73,8 +73,7 @@ fn body(alloc: Global, kind: &str, rest: &str) -> Result<String, OutOfMemory> {
 }
 
 /// A text as JSON: all of it, or what comes behind the members that every request has, or behind
-/// those of a tile too, where the size of its
-/// data may be asked; and bytes that are none.
+/// those of a tile too, where the size of its data may be asked; and bytes that are none.
 pub(crate) fn body_of(alloc: Global, question: &str, told: &mut Told) -> Result<(), OutOfMemory> {
     let (kind, rest) = cut(question);
     match kind {

@@ -1,6 +1,5 @@
 //! An archive that added a tile and lent a package, and that package, told by hand: found, missing,
-//! copied, brought back, in the wrong
-//! place, torn and altered. Stores are written as words.
+//! copied, brought back, in the wrong place, torn and altered. Stores are written as words.
 ghost use Rattle.opening_faults.specs.Splits.{AreOpenSplits};
 
 use crate::balances::sight_of;
@@ -231,8 +230,8 @@ fn what_stores_claim(rt: HostRuntime) {
 }
 
 // How deep a store is, and what it holds with its receipts: an archive that has a tile of one byte,
-// none, another, or one of two bytes,
-// and whose second receipt lent a package with nothing in it; or that package, at its depth or one below.
+// none, another, or one of two bytes, and whose second receipt lent a package with nothing in it;
+// or that package, at its depth or one below.
 fn held_by(word: &str) -> (u64, &'static str) {
     match word {
         "archive" => (0, "a.-.0.tile:addition,2.2.lent.a.b.none"),

@@ -1,6 +1,6 @@
 //! Frames, grounds, edges and spans whose values were worked out by hand and by a second program. A
-//! frame is written as a text, and a
-//! rectangle by its zoom, its first and last column and its first and last row.
+//! frame is written as a text, and a rectangle by its zoom, its first and last column and its first
+//! and last row.
 
 use crate::steps::{Of, Table, Told, cut, numbers, wrong_of};
 use matrix_rules::axis::axes_at;
@@ -97,8 +97,8 @@ fn tell_frame(frame: &Frame, asks: &str, n: [i64; 8], told: &mut Told) {
 }
 
 // Zooms 0 to 2 of pixel sizes 16, 8 and 4, of 1 x 1, 2 x 2 and 4 x 4 tiles; the same with a fourth
-// zoom, of 8 x 8 tiles; negative
-// bounds, zooms 2 and 3, of 3 x 2 and 6 x 4 tiles; the greatest bounds, tiles and zooms.
+// zoom, of 8 x 8 tiles; negative bounds, zooms 2 and 3, of 3 x 2 and 6 x 4 tiles; the greatest
+// bounds, tiles and zooms.
 fn frame_text(word: &str) -> &str {
     match word {
         "square" => "25832,0,0,4096,4096,256,256,0,3,1,1",

@@ -1,6 +1,5 @@
 //! Tests of what needs no store: values, frames, receipts and what is judged of them, lists and
-//! other texts. There is nothing here but
-//! tests.
+//! other texts. There is nothing here but tests.
 #![tactic(auto)]
 
 #[cfg(test)]

@@ -1,6 +1,5 @@
 //! Request lists, worked out by hand; the digests are Python's `hashlib`. What else is a list, and
-//! what is none, is in the sessions
-//! (`crates/sheetdesk`).
+//! what is none, is in the sessions (`crates/sheetdesk`).
 
 use crate::steps::{Of, Table, Told, cut, unescaped, wrong_of};
 use command_faults::texts::cause_text;

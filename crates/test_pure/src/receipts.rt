@@ -57,8 +57,7 @@ fn one(alloc: Global, item: Moved) -> Result<MovedList, OutOfMemory> {
 }
 
 /// What a receipt moves, or a package holds: the tile of all these receipts, another, the same of
-/// two bytes or with another digest, or a link
-/// of a row to a tile.
+/// two bytes or with another digest, or a link of a row to a tile.
 pub(crate) fn things(alloc: Global, word: &str) -> Result<MovedList, OutOfMemory> {
     match word {
         "tile" => one(alloc, tile(1, 1)),
@@ -143,8 +142,7 @@ fn counts_of(thing: &str) -> (u64, u64, u64) {
 }
 
 /// A receipt by its name, or by its number, that of its request, its line, where it moves what, and
-/// where to. One that cannot be read is told
-/// as want of memory, which nothing expects.
+/// where to. One that cannot be read is told as want of memory, which nothing expects.
 pub(crate) fn receipt_of(alloc: Global, word: &str) -> Result<Receipt, OutOfMemory> {
     let [seq, request, line, source, target, thing] = points(entry_text(word));
     let (Ok(seq), Ok(request)) = (seq.parse::<u64>(), request.parse::<u8>()) else {

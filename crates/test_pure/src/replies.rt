@@ -1,6 +1,6 @@
 //! Responses as the formats state them, worked out by hand; digest and lengths by Python's
-//! `hashlib` and `len`. What bodies say of receipts
-//! and of refusals is in the sessions too (`crates/sheetdesk`).
+//! `hashlib` and `len`. What bodies say of receipts and of refusals is in the sessions too
+//! (`crates/sheetdesk`).
 
 use crate::receipts::{ARCHIVE, LOAN, package, receipt_of};
 use crate::steps::{Of, Table, Told, cut, unescaped, uuid, wrong_of};

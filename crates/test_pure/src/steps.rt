@@ -1,6 +1,5 @@
 //! A test as data: questions, and what each is to be told. A table is one text, a question a line,
-//! so that a further one costs no proof,
-//! and one loop asks them all.
+//! so that a further one costs no proof, and one loop asks them all.
 
 use crate::accounts::{ledger_of, line_told};
 use crate::asking::asking_of;
@@ -21,8 +20,7 @@ use std::fmt::{Debug, Display};
 use uuid::Uuid;
 
 /// What a question is told, a word after the other. It has no clause and no exit, so that what
-/// tells is straight code: want of memory is
-/// noted.
+/// tells is straight code: want of memory is noted.
 #[derive(Drop)]
 pub(crate) struct Told {
     text: String,
@@ -118,8 +116,7 @@ pub(crate) fn uuid(first: u8, last: u8) -> Uuid {
 }
 
 /// How many rows a table has, and they, one a line: a question, and in brackets what it is to be
-/// told. A line that begins with `#` says
-/// something of those below it, and is none.
+/// told. A line that begins with `#` says something of those below it, and is none.
 #[derive(Clone, Copy)]
 pub(crate) struct Table(pub usize, pub &'static str);
 

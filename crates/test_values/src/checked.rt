@@ -4,8 +4,8 @@ use package_tables::fault::Fault;
 use std::alloc::{AllocError, Global};
 
 /// Notes each answer that is not the one that was expected, by its number from 1 on. It has no
-/// clause and no exit, so what it is
-/// given is straight code, and a test asserts once that nothing is wrong.
+/// clause and no exit, so what it is given is straight code, and a test asserts once that nothing
+/// is wrong.
 #[derive(Drop)]
 pub struct Checked {
     alloc: Global,

@@ -93,10 +93,8 @@ pub const WITH_A_LINK: [Row; 7] = [
 ];
 
 /// Fills a blank store with a tile that is linked to a medium, and a row that is linked to nothing:
-/// a tile 7 at column 3 and row 1
-/// of zoom 2, and a medium and a row that both have the number 4; their identities are 1, 2 and 3.
-/// Tells whether no transaction
-/// stood in its way.
+/// the tile has the number 7 and the place (2, 3, 1), the medium and the row both have the number 4;
+/// their identities are 1, 2 and 3. Tells whether no transaction stood in its way.
 pub fn fill_with_a_link<S: Alter>(conn: &mut Connection<S>) -> Result<bool, Fault> {
     committed(conn, &Tables(WITH_A_LINK.as_slice()))
 }

@@ -7,8 +7,7 @@ use std::alloc::{AllocError, Global};
 use uuid::Uuid;
 
 /// The number of an identity: of one that `item` gives, or that is itself a number below 256; 0 of
-/// any other. It goes by the bytes,
-/// since a cast of 128 bits costs a proof a minute.
+/// any other. It goes by the bytes, since a cast of 128 bits costs a proof a minute.
 pub fn number_of(identity: Uuid) -> u8 {
     let last = identity.as_bytes()[15];
     if identity == item(last) || identity == Uuid::from_u128(u128::from(last)) {

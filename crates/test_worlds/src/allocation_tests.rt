@@ -1,4 +1,4 @@
-// One request of each kind in a world, a split and a merge among them. Run by `bench/failing_allocations.sh`, which
+// One request of each kind in a world, a split and a merge among them. Run by `torture/failing_allocations.sh`, which
 // refuses each allocation in turn: a crash leaves the world before the request or the one after it, and the reply fits.
 use crate::crashes::{Counts, checked_run, nothing_wrong};
 use crate::fitting::{both_worlds, check_both};

@@ -192,8 +192,7 @@ fn roomy() -> Options {
 }
 
 /// What fails: nothing; a file of the store of this package after so many calls; or the shelf,
-/// which has no store for it
-/// the first time.
+/// which has no store for it the first time.
 #[derive(Clone, Copy)]
 pub enum Fusing {
     Nothing,

@@ -1,8 +1,7 @@
 // What no request leads to: a parcel that is lifted out of a package and put into another, whose
-// last number is taken, so
-// that lower ones are looked for; and one page of a selection. Tiles and media are linked
-// crosswise. The digests are those
-// of `tile 1 0 0`, LF and `A` and so on by another program's SHA-256.
+// last number is taken, so that lower ones are looked for; and one page of a selection. Tiles and
+// media are linked crosswise. The digests are those of `tile 1 0 0`, LF and `A` and so on by
+// another program's SHA-256.
 use crate::crashes::nothing_wrong;
 use crate::fuses::{FusedShelf, Fusing};
 use crate::loans::{A, B, C, package};

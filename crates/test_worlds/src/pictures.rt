@@ -177,8 +177,7 @@ fn push_kept_by<S: Alter>(
 }
 
 /// A store of a world: its package in the first line; the items, the links, the receipt of a
-/// request, and each row of each
-/// table.
+/// request, and each row of each table.
 pub fn push_store<S: Alter>(
     alloc: Global,
     conn: &mut Connection<S>,

@@ -1,5 +1,6 @@
 -- What comes from one package into another, part after part.
-use Rattle.std.specs.Prelude.{◌≡◌, ◌⊎◌, ℕ, ◌+◌, ◌-◌, ◌<◌, ◌≤◌, Bool, true, false, List, [], ◌∷◌, ◌++◌, take, drop}
+use Rattle.std.specs.Prelude.{◌≡◌, ◌⊎◌, ℕ, ◌+◌, ◌-◌, ◌<◌, ◌≤◌, Bool, true, false}
+use Rattle.std.specs.Prelude.{List, [], ◌∷◌, ◌++◌, take, drop}
 use Rattle.std.specs.Prelude.{length, Option, Some, None, Result, Ok, Err, IsTrue, refl, min, slice_range}
 use Rattle.std.proofs.Common.{inl, inr, sym, ap, subst, ◌∙◌, arith}
 use Rattle.std.proofs.Math.Nat.{sub-zero, zero-sub, sub-eq-zero_of_le}
@@ -62,7 +63,8 @@ source_later f p a b stays reads is_open = subst (Reads f p) (sym (stays.holds i
     (reads (stays.was_open is_open))
 
 -- a change of the target that what the source reads as determines
-abbrev pub From : State → State → (Package → Database → Database → Type 0) → Database → Database → Type 0
+abbrev pub From : State → State → (Package → Database → Database → Type 0) → Database → Database
+    → Type 0
 From s new Change a b = HasCleanDisk new → OfSource s (λ p. Change p a b)
 
 -- one such change after the other
@@ -155,7 +157,8 @@ abbrev pub WholeFrom : Names → Package → Unit {0} → Database → Database 
 WholeFrom n p _ = PutsEach (selected n p)
 
 -- items of the source, and then links
-pub part_in : {E F : Type 0} (n : Names) (came : Bool) (s0 s1 : State) {t0 t1 t2 : State} {x : Unit {0}} → came ≡ true
+pub part_in : {E F : Type 0} (n : Names) (came : Bool) (s0 s1 : State) {t0 t1 t2 : State} {x : Unit {0}}
+    → came ≡ true
     → Stays s0 s1 → Stays s1 s1
     → Steps {E = E} (λ v. From s0 s1 (λ p. ItemsFrom n.identities p v)) t0 t1 (Ok came)
     → Steps {X = Unit {0}} {E = F} (λ _. EachChained PutsLink n.links) t1 t2 (Ok x)
@@ -176,7 +179,8 @@ part_stop n came s0 s1 is items = from_so (CutFrom n) s0 s1 false
 range_zero : {X : Type 0} (xs : List X) (to : ℕ) → slice_range xs 0 to ≡ take to xs
 range_zero xs to = ap (λ n. take n xs) (sub-zero to)
 
-range_next : {X : Type 0} (xs : List X) (from to : ℕ) → from ≤ to → take from xs ++ slice_range xs from to ≡ take to xs
+range_next : {X : Type 0} (xs : List X) (from to : ℕ) → from ≤ to
+    → take from xs ++ slice_range xs from to ≡ take to xs
 range_next xs from to order =
     let end : from + (to - from) ≡ to = omega (arith, order) in
     let range : slice_range xs from to ≡ drop from (take to xs) =
@@ -279,11 +283,13 @@ part_more from to n p a m b order one two =
     (regroup (filter_map (item_of p) (take from n.identities))
     (filter_map (item_of p) (slice_range n.identities from to)) (take (from - length n.identities) n.links)
     (slice_range n.links (from - length n.identities) (to - length n.identities)) a m b
-    (elim (links_last from to n) [ inl none ↦ inl none | inr none ↦ inr (ap (filter_map (item_of p)) none) ]) one two))
+    (elim (links_last from to n) [ inl none ↦ inl none | inr none ↦ inr (ap (filter_map (item_of p)) none) ]) one
+    two))
 
 -- what does not fit at the next part does not fit at all
 pub part_stops : (from to : ℕ) (n : Names) (p : Package) (a m : Database) → from ≤ to
-    → PutsEach (selected (first from n) p) a m → Overfills (filter_map (item_of p) (slice_range n.identities from to))
+    → PutsEach (selected (first from n) p) a m → Overfills (filter_map (item_of p)
+    (slice_range n.identities from to))
     m → Overfills (filter_map (item_of p) n.identities) a
 part_stops from to n p a m order one over =
     let h = filter_map (item_of p) in
@@ -342,7 +348,8 @@ whole_stop from to n came s0 s1 s2 order is one two before next =
     (from_then (WholeFrom (first from n)) (CutFrom (part from to n)) s0 s1 s2 one two before next)
 
 pub whole_all : {E F : Type 0} (to : ℕ) (n : Names) (s0 s1 : State) {t0 t1 : State}
-    → length n.identities + length n.links ≤ to → Steps {E = E} (λ x. From s0 s1 (λ p. WholeFrom (first to n) p x)) t0
+    → length n.identities + length n.links ≤ to → Steps {E = E}
+    (λ x. From s0 s1 (λ p. WholeFrom (first to n) p x)) t0
     t1 (Ok tt) → Steps {E = F} (λ v. From s0 s1 (λ p. CutFrom n p v)) t0 t1 (Ok true)
 whole_all to n s0 s1 all steps = from_so (CutFrom n) s0 s1 true
     (λ p a b it. subst (λ m. PutsEach (selected m p) a b) (first_all to n all) it) steps
@@ -364,13 +371,15 @@ too_much_from n came s0 s1 {t0} {t1} is steps clean disk inside f p reads =
 
 -- ---- a part of a selection, as it is cut out
 
-pub cut_items : (d ids : List (List ℕ)) (from to a b n : ℕ) → d ≡ ids → n ≡ length ids → a ≡ min from n → b ≡ min to n
+pub cut_items : (d ids : List (List ℕ)) (from to a b n : ℕ) → d ≡ ids → n ≡ length ids
+    → a ≡ min from n → b ≡ min to n
     → from ≤ to → slice_range d a b ≡ slice_range ids from to
 cut_items d ids from to a b n same all start end order =
     ap (λ l. slice_range l a b) same ∙ ap (λ k. slice_range ids k b) (start ∙ ap (min from) all)
     ∙ ap (slice_range ids (min from (length ids))) (end ∙ ap (min to) all) ∙ clipped ids from to order
 
-pub cut_links : (d links : List Relation) (from to a b n m : ℕ) → d ≡ links → n ≡ m → a ≡ from - n → b ≡ to - n
+pub cut_links : (d links : List Relation) (from to a b n m : ℕ) → d ≡ links → n ≡ m → a ≡ from - n
+    → b ≡ to - n
     → slice_range d a b ≡ slice_range links (from - m) (to - m)
 cut_links d links from to a b n m same all start end =
     ap (λ l. slice_range l a b) same ∙ ap (λ k. slice_range links k b) (start ∙ ap (λ k. from - k) all)

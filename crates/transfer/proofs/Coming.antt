@@ -1,5 +1,6 @@
 -- Items and links that come into a package one by one, and all at once.
-use Rattle.std.specs.Prelude.{◌≡◌, ◌⊎◌, ℕ, ◌+◌, ◌≤◌, ◌<◌, Bool, true, false, ◌&&◌, ◌||◌, List, [], ◌∷◌, ◌++◌, map}
+use Rattle.std.specs.Prelude.{◌≡◌, ◌⊎◌, ℕ, ◌+◌, ◌≤◌, ◌<◌, Bool, true, false, ◌&&◌}
+use Rattle.std.specs.Prelude.{◌||◌, List, [], ◌∷◌, ◌++◌, map}
 use Rattle.std.specs.Prelude.{refl, bytes_eq, count_by, sum_by, cond, nat_lt}
 use Rattle.std.proofs.Common.{inl, inr, sym, ap, subst, ◌∙◌, arith, length, lt-ltb}
 use Rattle.sheet_types.proofs.Sums.{count-cons}
@@ -113,7 +114,8 @@ items_in f (i ∷ items) q old new reads distinct fresh chain =
     )
 
 pub links_in : (f : Frame) (links : List Relation) (q : Package) (old new : Database) → Reads f q old
-    → IsDistinct bytes_eq (map link_key links) → AllByRecursion (λ l. has link_key (link_key l) q.links ≡ false) links
+    → IsDistinct bytes_eq (map link_key links) → AllByRecursion
+    (λ l. has link_key (link_key l) q.links ≡ false) links
     → AllByRecursion (HasEnds q) links
     → EachChained PutsLink links old new → Reads f (record q { links = arranged link_key (links ++ q.links) }) new
     × KeepsNumbers old new
@@ -201,7 +203,8 @@ pub too_much_in : (items : List Item) (links : List Relation) (q : Package) (f :
     → is_overfull (record q { items = arranged item_key (items ++ q.items); links = links }) ≡ true
 too_much_in [] links q f old reads distinct fresh over_it = absurd over_it
 too_much_in (i ∷ items) links q f old reads distinct fresh over_it = elim over_it [
-  | inl full ↦ over q (arranged item_key ((i ∷ items) ++ q.items)) links i.content (one_more i items q (full f q reads))
+  | inl full ↦ over q (arranged item_key ((i ∷ items) ++ q.items)) links i.content
+      (one_more i items q (full f q reads))
   | inr next ↦
       subst (λ xs. is_overfull (record q { items = xs; links = links }) ≡ true)
       (item_later i items q distinct (items_in_order f q old reads) fresh.0)

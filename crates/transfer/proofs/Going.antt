@@ -1,5 +1,6 @@
 -- Items and links that go out of a package one by one, and all at once.
-use Rattle.std.specs.Prelude.{◌≡◌, ℕ, Bool, true, false, not, cond, ◌||◌, List, [], ◌∷◌, map, filter, refl, bytes_eq}
+use Rattle.std.specs.Prelude.{◌≡◌, ℕ, Bool, true, false, not, cond, ◌||◌, List, [], ◌∷◌, map}
+use Rattle.std.specs.Prelude.{filter, refl, bytes_eq}
 use Rattle.std.proofs.Common.{sym, ap, subst, ◌∙◌}
 use Rattle.std.proofs.lemmas.Bool.{true≢false, false_from_ne_true}
 use Rattle.std.proofs.lemmas.Map.Keys.{IsDistinct-head, IsDistinct-tail}
@@ -38,8 +39,10 @@ module _ {X : Type 0} (key : X → List ℕ) where
   without_both k ks [] = refl
   without_both k ks (x ∷ xs) = one (without_both k ks xs) (bytes_eq k (key x)) (is_among ks (key x)) refl refl
     where
-      one : without key ks (without key (k ∷ []) xs) ≡ without key (k ∷ ks) xs → (v w : Bool) → bytes_eq k (key x) ≡ v
-          → is_among ks (key x) ≡ w → without key ks (without key (k ∷ []) (x ∷ xs)) ≡ without key (k ∷ ks) (x ∷ xs)
+      one : without key ks (without key (k ∷ []) xs) ≡ without key (k ∷ ks) xs → (v w : Bool)
+          → bytes_eq k (key x) ≡ v
+          → is_among ks (key x) ≡ w → without key ks (without key (k ∷ []) (x ∷ xs))
+          ≡ without key (k ∷ ks) (x ∷ xs)
       one rest true w e f = rw e rest
       one rest false true e f = rw (e, f) rest
       one rest false false e f = rw (e, f) (ap (λ l. x ∷ l) rest)
@@ -47,7 +50,8 @@ module _ {X : Type 0} (key : X → List ℕ) where
   -- another key is still there
   pub still_there : (k other : List ℕ) (xs : List X) → bytes_eq k other ≡ false → has key other xs ≡ true
       → has key other (without key (k ∷ []) xs) ≡ true
-  still_there k other xs apart there = any_filter (λ x. bytes_eq (key x) other) (λ x. not (is_among (k ∷ []) (key x)))
+  still_there k other xs apart there = any_filter (λ x. bytes_eq (key x) other)
+      (λ x. not (is_among (k ∷ []) (key x)))
       xs
       (λ x same. ap not (is_one key k x ∙ ap (λ y. bytes_eq y k) ((bytes_eq-Decides (key x) other).0 same)
       ∙ bytes_eq_swap other k ∙ apart)) there
@@ -55,7 +59,8 @@ module _ {X : Type 0} (key : X → List ℕ) where
 -- ---- links, and items
 
 pub links_out : (f : Frame) (links : List Relation) (p : Package) (old new : Database) → Reads f p old
-    → IsDistinct bytes_eq (map link_key links) → AllByRecursion (λ l. has link_key (link_key l) p.links ≡ true) links
+    → IsDistinct bytes_eq (map link_key links) → AllByRecursion (λ l. has link_key (link_key l) p.links ≡ true)
+    links
     → EachChained DropsLink links old new
     → Reads f (record p { links = without link_key (map link_key links) p.links }) new × KeepsNumbers new old
 links_out f [] p old new reads distinct there chain = (
@@ -93,7 +98,8 @@ items_out f [] p old new reads distinct there loose chain = (
 )
 items_out f (id ∷ ids) p old new reads distinct there loose chain =
     let still : AllByRecursion (λ k. has_item (item_deleted id p) k ≡ true) ids =
-    All-both (λ k. has_item p k ≡ true) (λ k. bytes_eq id k ≡ false) (λ k. has_item (item_deleted id p) k ≡ true)
+    All-both (λ k. has_item p k ≡ true) (λ k. bytes_eq id k ≡ false)
+    (λ k. has_item (item_deleted id p) k ≡ true)
     (λ k is apart. still_there (λ i. i.identity) id k p.items apart is) ids there.1
     (IsDistinct-head bytes_eq id ids distinct) in
     let one = chain.1 f p reads (there.0, loose.0) in
@@ -130,7 +136,8 @@ loose n p it = All-weaker (λ id. In id n.identities) (λ id. list_any (has_end 
     (without link_key (map link_key n.links) p.links) ≡ false)
     (λ id i. none_any (has_end id) (without link_key (map link_key n.links) p.links)
     (All-taken (λ l. has_end id l ≡ false) (λ l. not (is_among (map link_key n.links) (link_key l))) p.links
-    (All-weaker (λ l. touches (is_among n.identities) l ≡ true → is_among (map link_key n.links) (link_key l) ≡ true)
+    (All-weaker (λ l. touches (is_among n.identities) l ≡ true
+    → is_among (map link_key n.links) (link_key l) ≡ true)
     (λ l. not (is_among (map link_key n.links) (link_key l)) ≡ true → has_end id l ≡ false)
     (λ l whole out. false_from_ne_true (has_end id l) (λ ends. true≢false
     (sym out ∙ ap not (whole (end_touches id n.identities l i ends))))) p.links it.whole)))

@@ -1,5 +1,6 @@
 -- What reads of a package tell, one after the other.
-use Rattle.std.specs.Prelude.{◌≡◌, ℕ, ◌+◌, ◌<◌, List, [], ◌∷◌, ◌++◌, take, length, Option, Some, None, Result, Ok}
+use Rattle.std.specs.Prelude.{◌≡◌, ℕ, ◌+◌, ◌<◌, List, [], ◌∷◌, ◌++◌, take, length, Option}
+use Rattle.std.specs.Prelude.{Some, None, Result, Ok}
 use Rattle.std.specs.Prelude.{Err, IsTrue, refl}
 use Rattle.std.proofs.Common.{sym, ap, subst, ◌∙◌, arith, get_or}
 use Rattle.std.specs.List.{filter_map, cons_option}
@@ -21,7 +22,8 @@ pub record Told (Fact : Package → Type 0) (old new : State) : Type 0 where
   pub told : HasCleanDisk new → (f : Frame) (p : Package) → (IsTrue old.is_open → Reads f p old.now) → Fact p
 
 -- one read
-pub told_by : {X E : Type 0} (Answer : Package → X → Type 0) {old new : State} {r : Result X E} {x : X} → r ≡ Ok x
+pub told_by : {X E : Type 0} (Answer : Package → X → Type 0) {old new : State} {r : Result X E} {x : X}
+    → r ≡ Ok x
     → Looks {X = X} {E = E} (Sees (λ f p y. Answer p y)) old new r → Told (λ p. Answer p x) old new
 told_by {X} {E} Answer {old} {new} {r} {x} is looks = record {
   stays = looks_stays looks;
@@ -41,7 +43,8 @@ told_then {First} {Next} {a} {b} {c} one two = record {
   );
 }
 
-pub told_so : {First Next : Package → Type 0} {a b : State} → ((p : Package) → First p → Next p) → Told First a b
+pub told_so : {First Next : Package → Type 0} {a b : State} → ((p : Package) → First p → Next p)
+    → Told First a b
     → Told Next a b
 told_so so it = record { stays = it.stays; told = λ clean f p reads. so p (it.told clean f p reads) }
 
@@ -55,7 +58,8 @@ told_none {Fact} {s} rests so holds = record {
 }
 
 -- by its clauses
-pub told_of : {Fact : Package → Type 0} {old new : State} → Stays old new → (HasCleanDisk new → OfSource old Fact)
+pub told_of : {Fact : Package → Type 0} {old new : State} → Stays old new
+    → (HasCleanDisk new → OfSource old Fact)
     → Told Fact old new
 told_of stays told = record { stays = stays; told = told }
 
@@ -66,7 +70,8 @@ item_more p [] id i is = ap (λ o. cons_option o []) is
 item_more p (x ∷ ids) id i is = one (item_of p x) (item_more p ids id i is)
   where
     one : (o : Option Item) → filter_map (item_of p) (ids ++ id ∷ []) ≡ filter_map (item_of p) ids ++ i ∷ []
-        → cons_option o (filter_map (item_of p) (ids ++ id ∷ [])) ≡ cons_option o (filter_map (item_of p) ids) ++ i
+        → cons_option o (filter_map (item_of p) (ids ++ id ∷ [])) ≡ cons_option o (filter_map (item_of p) ids)
+        ++ i
         ∷ []
     one None rest = rest
     one (Some y) rest = ap (λ l. y ∷ l) rest

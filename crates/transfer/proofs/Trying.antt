@@ -1,5 +1,6 @@
 -- Steps that take things in, one after the other.
-use Rattle.std.specs.Prelude.{◌≡◌, ◌⊎◌, ℕ, ◌+◌, ◌<◌, take, drop, length, Bool, true, false, List, [], ◌∷◌, ◌++◌}
+use Rattle.std.specs.Prelude.{◌≡◌, ◌⊎◌, ℕ, ◌+◌, ◌<◌, take, drop, length, Bool, true, false}
+use Rattle.std.specs.Prelude.{List, [], ◌∷◌, ◌++◌}
 use Rattle.std.specs.Prelude.{Result, Ok, Err, IsErr, refl, IsTrue}
 use Rattle.std.proofs.Common.{inl, inr, sym, ap, subst, ◌∙◌, get_or, append_assoc}
 use Rattle.std.proofs.lemmas.List.{take_more, take_all, take-append-drop}
@@ -28,7 +29,8 @@ tried i {old} {new} uuid steps = steps_weaker (TriesItem i) (λ came. one came) 
 
 -- an item for which there was room came in
 pub came_in : {E F : Type 0} (i : Item) (came : Bool) {old new : State} → came ≡ true
-    → Steps {E = E} (TriesItem i) old new (Ok came) → Steps {X = Unit {0}} {E = F} (λ _. PutsItem i) old new (Ok tt)
+    → Steps {E = E} (TriesItem i) old new (Ok came) → Steps {X = Unit {0}} {E = F} (λ _. PutsItem i) old new
+    (Ok tt)
 came_in {E} {F} i came {old} {new} is steps = steps_answer {E = E} {F = F} (λ _. PutsItem i) tt
     (λ it. subst (λ b. TriesItem i b old.now new.now) is it) steps
 

@@ -8,7 +8,8 @@ use Rattle.sheet_types.proofs.Basics.{before_not_after}
 use Rattle.sheet_types.proofs.Order.{put_arranged}
 
 module _ {X : Type 0} (key : X → List ℕ) where
-  put_first : (x : X) (xs : List X) → AllByRecursion (λ y. is_before (key x) (key y) ≡ true) xs → put key x xs ≡ x ∷ xs
+  put_first : (x : X) (xs : List X) → AllByRecursion (λ y. is_before (key x) (key y) ≡ true) xs
+      → put key x xs ≡ x ∷ xs
   put_first x [] h = refl
   put_first x (y ∷ ys) h = rw (before_not_after (key x) (key y) h.0) refl
 

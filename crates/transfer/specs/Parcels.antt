@@ -1,5 +1,6 @@
 -- What a selection names, and what a package is with a parcel more or a selection less. Profile.
-use Rattle.std.specs.Prelude.{◌≡◌, ℕ, ◌+◌, ◌-◌, true, false, List, ◌++◌, map, length, bytes_eq, min, slice_range}
+use Rattle.std.specs.Prelude.{◌≡◌, ℕ, ◌+◌, ◌-◌, true, false, List, ◌++◌, map, length, bytes_eq}
+use Rattle.std.specs.Prelude.{min, slice_range}
 use Rattle.std.specs.List.{AllByRecursion, IsDistinct, filter_map}
 use Rattle.sheet_types.specs.Ordered.{arranged, without, has, is_among}
 use Rattle.sheet_types.specs.World.{Package, item_key, link_key, has_item, item_of}
@@ -36,8 +37,7 @@ selected n p = record { items = filter_map (item_of p) n.identities; links = n.l
 abbrev pub without_names : Names → Package → Package
 without_names n p = record p {
   items = without (λ i. i.identity) n.identities p.items;
-  links =
-      without link_key (map link_key n.links) p.links;
+  links = without link_key (map link_key n.links) p.links;
 }
 
 -- ---- parcels
@@ -50,8 +50,7 @@ cut_of parcel = record { items = parcel.items.items; links = parcel.links.items 
 abbrev pub with_cut : Cut → Package → Package
 with_cut c p = record p {
   items = arranged item_key (c.items ++ p.items);
-  links =
-      arranged link_key (c.links ++ p.links);
+  links = arranged link_key (c.links ++ p.links);
 }
 
 -- The package has none of these items and links, each is there once, and with them it has both ends of each of the
@@ -77,8 +76,7 @@ things n = length n.identities + length n.links
 abbrev pub part : ℕ → ℕ → Names → Names
 part from to n = record {
   identities = slice_range n.identities from to;
-  links =
-      slice_range n.links (from - length n.identities) (to - length n.identities);
+  links = slice_range n.links (from - length n.identities) (to - length n.identities);
 }
 
 -- where the page from a position on ends

@@ -33,7 +33,8 @@ fn carry_item<S: Alter>(
     ensures same_reference { tx.new.conn.ghost_name ≡ tx.old.conn.ghost_name }
     ensures source { Stays (state S.Store source.old) (state S.Store source.new) }
     ensures steps { Steps (λ came old new. HasCleanDisk (state S.Store source.new)
-        → OfSource (state S.Store source.old) (λ p. TriesItems (filter_map (item_of p) (identity ∷ [])) came old new))
+        → OfSource (state S.Store source.old) (λ p. TriesItems (filter_map (item_of p) (identity ∷ [])) came old
+        new))
         (state S.Store tx.old.conn.now) (state S.Store tx.new.conn.now) result }
 {
     let item = item_in(source, identity)?;

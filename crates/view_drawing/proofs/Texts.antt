@@ -11,7 +11,8 @@ unfolding levels_text
 no_level r total text = sym (append-nil text)
 
 -- one zoom more
-pub level_more : (r : Register) (total : ℕ) (start text new : List ℕ) (n : ℕ) → text ≡ start ++ levels_text r total n
+pub level_more : (r : Register) (total : ℕ) (start text new : List ℕ) (n : ℕ)
+    → text ≡ start ++ levels_text r total n
     → new ≡ text ++ level_if r total n → new ≡ start ++ levels_text r total (n + 1)
 unfolding levels_text
 level_more r total start text new n so_far grown =

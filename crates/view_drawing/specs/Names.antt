@@ -1,5 +1,6 @@
 -- The names of the sheets of the first zoom, and places on the map (SVG). Profile.
-use Rattle.std.specs.Prelude.{ℕ, ◌/◌, ◌%◌, List, [], ◌++◌, if◌then◌else◌, ℤ, codes, decimal, flat_map, unsigned_abs}
+use Rattle.std.specs.Prelude.{ℕ, ◌/◌, ◌%◌, List, [], ◌++◌, if◌then◌else◌, ℤ, codes, decimal}
+use Rattle.std.specs.Prelude.{flat_map, unsigned_abs}
 use Rattle.std.specs.Option.{option_map_or}
 use Rattle.std.specs.Ordering.{int_eq}
 use Rattle.view_map.specs.declared.layout.Layout.{Layout}

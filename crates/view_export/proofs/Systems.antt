@@ -1,5 +1,6 @@
 -- The reference system of a good frame fits in the header of a geometry.
-use Rattle.std.specs.Prelude.{◌≡◌, Bool, true, false, not, ◌&&◌, is_none, IsTrue, List, [], ◌∷◌, refl, ℤ, pos, negsuc}
+use Rattle.std.specs.Prelude.{◌≡◌, Bool, true, false, not, ◌&&◌, is_none, IsTrue, List, [], ◌∷◌, refl}
+use Rattle.std.specs.Prelude.{ℤ, pos, negsuc}
 use Rattle.std.specs.Prelude.{◌+ℤ◌, ◌-ℤ◌, ◌*ℤ◌, ◌≤ℤ◌, int_le, int_lt}
 use Rattle.std.proofs.Common.{FitsSigned, arith, rules, w32, w64}
 use Rattle.std.proofs.lemmas.Bool.{and_parts}

@@ -1,5 +1,6 @@
 -- Items behind so many are written under the numbers that they have behind so many.
-use Rattle.std.specs.Prelude.{◌≡◌, ◌++◌, ◌||◌, true, false, cond, List, [], ◌∷◌, bytes_eq, flat_map, refl}
+use Rattle.std.specs.Prelude.{◌≡◌, ◌++◌, ◌||◌, true, false, cond, List, [], ◌∷◌, bytes_eq}
+use Rattle.std.specs.Prelude.{flat_map, refl}
 use Rattle.std.specs.List.{list_any}
 use Rattle.std.proofs.Common.{ap, sym, ◌∙◌}
 use Rattle.std.proofs.lemmas.Bool.{false≢true}

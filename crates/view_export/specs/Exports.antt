@@ -49,7 +49,8 @@ medium_row n id content_type bytes =
 -- an attributes row as a feature of this geometry
 abbrev pub feature_row : ℕ → List ℕ → List ℕ → ℤ → List ℕ → List ℕ
 feature_row n id geometry code label =
-    insert (codes "sheet_rows") (decimal n ∷ geometry ∷ signed_decimal code ∷ text_literal label ∷ uuid_literal id ∷ [])
+    insert (codes "sheet_rows") (decimal n ∷ geometry ∷ signed_decimal code ∷ text_literal label
+    ∷ uuid_literal id ∷ [])
 
 -- a tile, and the row that names it
 abbrev pub tile_rows : Frame → ℕ → List ℕ → ℤ → ℤ → ℤ → List ℕ → List ℕ

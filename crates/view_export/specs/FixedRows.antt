@@ -1,5 +1,6 @@
 -- The rows of an export that say what its tables are: by the frame and the package alone.
-use Rattle.std.specs.Prelude.{ℕ, zero, suc, Bool, ◌||◌, List, [], ◌∷◌, ◌++◌, if◌then◌else◌, ℤ, pos, negsuc, ◌+ℤ◌}
+use Rattle.std.specs.Prelude.{ℕ, zero, suc, Bool, ◌||◌, List, [], ◌∷◌, ◌++◌, if◌then◌else◌, ℤ}
+use Rattle.std.specs.Prelude.{pos, negsuc, ◌+ℤ◌}
 use Rattle.std.specs.Prelude.{unsigned_abs, codes}
 use Rattle.std.specs.Fmt.{signed_decimal}
 use Rattle.std.specs.List.{join_with_byte}
@@ -42,7 +43,8 @@ is_standard srs = int_eq srs (negsuc 0) || (int_eq srs (pos 0) || int_eq srs (po
 -- one that the register knows by its number alone
 abbrev pub numbered_system : ℤ → List ℕ
 numbered_system srs = insert (codes "gpkg_spatial_ref_sys")
-    ((codes "'EPSG:" ++ (signed_decimal srs ++ codes "'")) ∷ signed_decimal srs ∷ codes "'EPSG'" ∷ signed_decimal srs
+    ((codes "'EPSG:" ++ (signed_decimal srs ++ codes "'")) ∷ signed_decimal srs ∷ codes "'EPSG'"
+    ∷ signed_decimal srs
     ∷ codes "'undefined'" ∷ codes "NULL" ∷ [])
 
 -- the system of a frame, where it is none of those
@@ -57,7 +59,8 @@ reference_systems srs = undefined_cartesian ++ (undefined_geographic ++ (wgs_84 
 -- the bounds of the frame and its system
 abbrev pub bounds : Frame → List ℕ
 bounds f = join_with_byte 44
-    (thousandths f.min_x ∷ thousandths f.min_y ∷ thousandths f.max_x ∷ thousandths f.max_y ∷ signed_decimal f.srs_id
+    (thousandths f.min_x ∷ thousandths f.min_y ∷ thousandths f.max_x ∷ thousandths f.max_y
+    ∷ signed_decimal f.srs_id
     ∷ [])
 
 abbrev pub no_bounds : List ℕ

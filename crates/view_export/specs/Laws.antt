@@ -9,7 +9,8 @@ use Rattle.view_export.specs.Numbers.{no_counts, number_of}
 -- no two items have one identity
 abbrev pub AreApart : List Item → Type 0
 AreApart [] = ⊤
-AreApart (item ∷ items) = (list_any (λ other. bytes_eq item.identity other.identity) items ≡ false) × AreApart items
+AreApart (item ∷ items) = (list_any (λ other. bytes_eq item.identity other.identity) items ≡ false)
+    × AreApart items
 
 -- The rows of items whose identities are apart: each once, in order, under the number that links give for it.
 abbrev pub AreWrittenAsLinked : Type 0

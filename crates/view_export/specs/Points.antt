@@ -1,5 +1,6 @@
 -- Geometries as a GeoPackage keeps them (OGC GeoPackage 1.3, 2.1.3): a point, and the outline of a tile.
-use Rattle.std.specs.Prelude.{ℕ, List, [], ◌∷◌, ◌++◌, ℤ, pos, negsuc, int_lt, unsigned_abs, codes, to_bits, FitsSigned}
+use Rattle.std.specs.Prelude.{ℕ, List, [], ◌∷◌, ◌++◌, ℤ, pos, negsuc, int_lt, unsigned_abs, codes}
+use Rattle.std.specs.Prelude.{to_bits, FitsSigned}
 use Rattle.std.specs.Int.{w32, w64, cast_unsigned, to_le_bytes}
 use Rattle.std.specs.Float.{Float, binary64}
 use Rattle.fast_float.specs.Rounding.{nearest_to_decimal}

@@ -10,7 +10,8 @@ joined (x ∷ xs) = x ++ joined xs
 
 abbrev pub typed_option : List ℕ → List ℕ → List ℕ → List ℕ
 typed_option type name value = joined
-    (codes "<Option name=\"" ∷ name ∷ codes "\" value=\"" ∷ value ∷ codes "\" type=\"" ∷ type ∷ codes "\"/>" ∷ [])
+    (codes "<Option name=\"" ∷ name ∷ codes "\" value=\"" ∷ value ∷ codes "\" type=\"" ∷ type
+    ∷ codes "\"/>" ∷ [])
 
 abbrev pub option : List ℕ → List ℕ → List ℕ
 option name value = typed_option (codes "QString") name value

@@ -80,7 +80,8 @@ fn tile_identity_row(
     column: i64,
     row: i64,
 ) -> Result<String, AllocError>
-    ensures { IfOk result (λ text. string_bytes text ≡ tile_identity_row number geometry.now identity zoom column row) }
+    ensures { IfOk result (λ text. string_bytes text ≡ tile_identity_row number geometry.now identity zoom column
+        row) }
 {
     let identity = UuidLiteral(identity);
     let place = place(alloc, zoom, column, row)?;

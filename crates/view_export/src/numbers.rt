@@ -1,5 +1,6 @@
 //! The numbers of items in an export.
-ghost use Rattle.std.specs.Prelude.{◌≡◌, ◌<◌, ◌-◌, ◌^◌, ℕ, List, Some, IfOk, OnOk, if◌then◌else◌, bytes_eq, unwrap_or};
+ghost use Rattle.std.specs.Prelude.{◌≡◌, ◌<◌, ◌-◌, ◌^◌, ℕ, List, Some, IfOk, OnOk};
+ghost use Rattle.std.specs.Prelude.{if◌then◌else◌, bytes_eq, unwrap_or};
 ghost use Rattle.sheet_types.specs.declared.command.Item.{Item as ModelItem};
 ghost use Rattle.view_export.specs.Numbers.{AreNumbersOf, count_of, counted, no_counts, noted_in, number_of};
 

@@ -1,5 +1,6 @@
 -- The page of a folder that does not open (HTML 5). Profile.
-use Rattle.std.specs.Prelude.{ℕ, zero, suc, ◌==◌, nat_lt, List, [], ◌∷◌, ◌++◌, Option, Some, None, option_map}
+use Rattle.std.specs.Prelude.{ℕ, zero, suc, ◌==◌, nat_lt, List, [], ◌∷◌, ◌++◌, Option, Some, None}
+use Rattle.std.specs.Prelude.{option_map}
 use Rattle.std.specs.Prelude.{if◌then◌else◌, codes, slice_index_or}
 use Rattle.command_faults.specs.Texts.{fault_text}
 use Rattle.opening_faults.specs.declared.faults.RecoverFault.{RecoverFault}

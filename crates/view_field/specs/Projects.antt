@@ -27,19 +27,23 @@ module _ {W : Type 0} (writer writer' : W) (before after : Option (List ℕ)) wh
 
 module _ {S : Type 0} (g : Ghosts S) {W : Type 0} where
   -- the same of each world that a value stands for
-  abbrev pub EndsProject : List ℕ → List ℕ → Seen S → W → W → Option (List ℕ) → Option (List ℕ) → Ending
+  abbrev pub EndsProject : List ℕ → List ℕ → Seen S → W → W → Option (List ℕ) → Option (List ℕ)
+      → Ending
       → Type 0
   EndsProject p name old writer writer' before after ending =
       (w : World) → StandsFor g old w → PrintsProject writer writer' before after w p name ending
 
   -- The folder was not opened, and nothing was printed; or its world was.
-  abbrev pub OpensProject : List ℕ → List ℕ → W → W → Option (List ℕ) → Option (List ℕ) → Ending → Type 0
+  abbrev pub OpensProject : List ℕ → List ℕ → W → W → Option (List ℕ) → Option (List ℕ) → Ending
+      → Type 0
   OpensProject p name writer writer' before after ending =
       ((fault : OpenFault) × (ending ≡ Unopened fault) × (writer' ≡ writer))
       ⊎ ((old : Seen S) × IsFolderWorld g old × EndsProject p name old writer writer' before after ending)
 
   -- The word is no UUID, and nothing was opened; or it is that of a package.
-  abbrev pub AsksProject : List ℕ → List ℕ → W → W → Option (List ℕ) → Option (List ℕ) → Ending → Type 0
+  abbrev pub AsksProject : List ℕ → List ℕ → W → W → Option (List ℕ) → Option (List ℕ) → Ending
+      → Type 0
   AsksProject word name writer writer' before after ending =
       ((parsed_hyphenated word ≡ None) × (ending ≡ Usual (Refused BadUuid)) × (writer' ≡ writer))
-      ⊎ ((p : List ℕ) × (parsed_hyphenated word ≡ Some p) × OpensProject p name writer writer' before after ending)
+      ⊎ ((p : List ℕ) × (parsed_hyphenated word ≡ Some p) × OpensProject p name writer writer' before after
+      ending)

@@ -1,5 +1,6 @@
 -- Stores that are asked one after the other, and what the first ones answered.
-use Rattle.std.specs.Prelude.{◌≡◌, ℕ, zero, suc, ◌+◌, ◌<◌, ◌≤◌, List, [], ◌∷◌, ◌++◌, length, refl, Some, Result, Ok}
+use Rattle.std.specs.Prelude.{◌≡◌, ℕ, zero, suc, ◌+◌, ◌<◌, ◌≤◌, List, [], ◌∷◌, ◌++◌}
+use Rattle.std.specs.Prelude.{length, refl, Some, Result, Ok}
 use Rattle.std.specs.Prelude.{Err, IsErr, slice_get, slice_set}
 use Rattle.std.specs.List.{AllZip, AllByRecursion}
 use Rattle.std.proofs.Common.{sym, ap, subst, ◌∙◌, arith, drop, take, get_or}
@@ -23,14 +24,16 @@ use Rattle.view_history.specs.Stores.{AreClean, AreAtRest, AreOnlyRead, AreRead,
 
 -- ---- lists, place by place
 
-zip_append : {A B : Type 0} (R : A → B → Type 0) (xs us : List A) (ys vs : List B) → AllZip R xs ys → AllZip R us vs
+zip_append : {A B : Type 0} (R : A → B → Type 0) (xs us : List A) (ys vs : List B) → AllZip R xs ys
+    → AllZip R us vs
     → AllZip R (xs ++ us) (ys ++ vs)
 zip_append R [] us [] vs one two = two
 zip_append R [] us (y ∷ ys) vs one two = absurd one
 zip_append R (x ∷ xs) us [] vs one two = absurd one
 zip_append R (x ∷ xs) us (y ∷ ys) vs one two = (one.0, zip_append R xs us ys vs one.1 two)
 
-zip_last : {A B : Type 0} (R : A → B → Type 0) (xs : List A) (ys : List B) (x : A) (y : B) → AllZip R xs ys → R x y
+zip_last : {A B : Type 0} (R : A → B → Type 0) (xs : List A) (ys : List B) (x : A) (y : B) → AllZip R xs ys
+    → R x y
     → AllZip R (xs ++ x ∷ []) (ys ++ y ∷ [])
 zip_last R xs ys x y zip here = zip_append R xs (x ∷ []) ys (y ∷ []) zip (here, tt)
 
@@ -77,7 +80,11 @@ zip_through R Q T f [] [] (z ∷ zs) one two = absurd two
 zip_through R Q T f [] (y ∷ ys) zs one two = absurd one
 zip_through R Q T f (x ∷ xs) [] zs one two = absurd one
 zip_through R Q T f (x ∷ xs) (y ∷ ys) [] one two = absurd two
-zip_through R Q T f (x ∷ xs) (y ∷ ys) (z ∷ zs) one two = (f x y z one.0 two.0, zip_through R Q T f xs ys zs one.1 two.1)
+zip_through R Q T f (x ∷ xs) (y ∷ ys) (z ∷ zs) one two = (
+  f x y z one.0 two.0,
+  zip_through R Q T f xs ys zs
+      one.1 two.1,
+)
 
 -- ---- stores
 
@@ -93,12 +100,12 @@ module _ {S : Type 0} (g : Ghosts S) where
   still shuts settles h rests = record {
     rests = rests;
     was_open = λ is_open. is_open;
-    holds =
-        λ is_open. at_rest g shuts settles h rests is_open;
+    holds = λ is_open. at_rest g shuts settles h rests is_open;
     survives = same_survives (state g h);
   }
 
-  pub all_still : Shuts g → Settles g → (stores : List (Held S)) → AreAtRest g stores → AreOnlyRead g stores stores
+  pub all_still : Shuts g → Settles g → (stores : List (Held S)) → AreAtRest g stores
+      → AreOnlyRead g stores stores
   all_still shuts settles stores rests = zip_itself Resting (StaysStore g) (λ h rest. still shuts settles h rest)
       stores (recursion_from_All Resting stores rests)
 
@@ -116,8 +123,7 @@ module _ {S : Type 0} (g : Ghosts S) where
   asks_so Given (Ok x) so it = record {
     rests = it.rests;
     read = it.read;
-    told =
-        λ clean f packages are. so packages x (it.told clean f packages are);
+    told = λ clean f packages are. so packages x (it.told clean f packages are);
   }
   asks_so Given (Err e) so it = record { rests = it.rests; read = it.read; told = λ clean. tt }
 
@@ -230,8 +236,7 @@ module _ {S : Type 0} (g : Ghosts S) where
       now_is = refl;
       read = tt;
       rests = rests;
-      told =
-          λ clean. tt;
+      told = λ clean. tt;
     }
 
     module _ {E : Type 0} (old now new : List (Held S)) (n : ℕ) (answers : List A) (r : Result A E)
@@ -312,7 +317,8 @@ module _ {S : Type 0} (g : Ghosts S) where
           (drop (n + 1) old) done_read
           (zip_itself Resting (StaysStore g) (λ h rests. still shuts settles h rests) (drop (n + 1) old) rest)))
 
-      pub asks_broken : {Y E' : Type 0} (Answer : List Package → Y → Type 0) → Shuts g → Settles g → (q : Result Y E')
+      pub asks_broken : {Y E' : Type 0} (Answer : List Package → Y → Type 0) → Shuts g → Settles g
+          → (q : Result Y E')
           → IsErr q → AsksStores g {X = Y} {E = E'} Answer old new q
       asks_broken Answer shuts settles q failed = asks_failed q failed rests_new (read_failed shuts settles)
 

@@ -1,9 +1,12 @@
 -- The moment of the receipt of a number: by the next row above the number before it, and over all packages.
 use Rattle.std.proofs.Math.Seq.{take-suc}
-use Rattle.std.proofs.Common.{Ordering, Less, ◌≡◌, ◌+◌, take, length, ◌≢◌, ◌∙◌, ℕ, zero, suc, ℤ, pos, negsuc, List}
-use Rattle.std.proofs.Common.{[], ◌∷◌, ◌++◌, map, Bool, true, false, cond, Option, Some, None, refl, sym, ap, subst}
+use Rattle.std.proofs.Common.{Ordering, Less, ◌≡◌, ◌+◌, take, length, ◌≢◌, ◌∙◌, ℕ, zero, suc}
+use Rattle.std.proofs.Common.{ℤ, pos, negsuc, List}
+use Rattle.std.proofs.Common.{[], ◌∷◌, ◌++◌, map, Bool, true, false, cond, Option, Some, None, refl, sym}
+use Rattle.std.proofs.Common.{ap, subst}
 use Rattle.std.proofs.Common.{inl, inr, arith}
-use Rattle.std.specs.Prelude.{◌≤ℤ◌, ◌-◌, ◌≤◌, ◌<◌, ◌⊎◌, bytes_eq, filter, find, flat_map, fold, nat_lt, slice_index}
+use Rattle.std.specs.Prelude.{◌≤ℤ◌, ◌-◌, ◌≤◌, ◌<◌, ◌⊎◌, bytes_eq, filter, find, flat_map}
+use Rattle.std.specs.Prelude.{fold, nat_lt, slice_index}
 use Rattle.std.specs.Prelude.{◌==◌, option_map}
 use Rattle.std.specs.List.{AllByRecursion, AllZip, list_any}
 use Rattle.std.specs.Ordering.{int_cmp, int_eq, is_gt, ordering_reverse}
@@ -50,12 +53,14 @@ entry-put : {X : Type 0} (key : X → List ℕ) (k : List ℕ) (x : X) (xs : Lis
 entry-put key k x [] = refl
 entry-put {X} key k x (y ∷ ys) = by_order (entry-put key k x ys) (is_before (key y) (key x)) refl
   where
-    apart : (b c : Bool) → bytes_eq (key x) k ≡ b → bytes_eq (key y) k ≡ c → is_before (key y) (key x) ≡ true
+    apart : (b c : Bool) → bytes_eq (key x) k ≡ b → bytes_eq (key y) k ≡ c
+        → is_before (key y) (key x) ≡ true
         → cond c (Some y) (cond b (Some x) (entry key k ys)) ≡ cond b (Some x) (cond c (Some y) (entry key k ys))
     apart true true hx hy before =
         let ex : key x ≡ k = (bytes_eq-Decides (key x) k).0 hx in
         let ey : key y ≡ k = (bytes_eq-Decides (key y) k).0 hy in
-        let same : bytes_eq (key y) (key x) ≡ true = ap (bytes_eq (key y)) (ex ∙ sym ey) ∙ bytes_eq_itself (key y) in
+        let same : bytes_eq (key y) (key x) ≡ true = ap (bytes_eq (key y)) (ex ∙ sym ey)
+        ∙ bytes_eq_itself (key y) in
         absurd (true≢false (sym same ∙ before-differs (key y) (key x) before))
     apart true false hx hy before = refl
     apart false true hx hy before = refl
@@ -95,7 +100,8 @@ either-next None b c = refl
 -- what comes first stays first
 first_of : {X : Type 0} (a : Option X) (os : List (Option X)) → fold either a os ≡ either a (first_found os)
 first_of a [] = sym (either-none a)
-first_of a (o ∷ os) = first_of (either a o) os ∙ either-next a o (first_found os) ∙ ap (either a) (sym (first_of o os))
+first_of a (o ∷ os) = first_of (either a o) os ∙ either-next a o (first_found os)
+    ∙ ap (either a) (sym (first_of o os))
 
 -- two elements of one key are one
 one_of_key : {X : Type 0} (key : X → List ℕ) (a b : X) (xs : List X) → IsArranged key xs → In a xs → In b xs
@@ -104,10 +110,12 @@ one_of_key key a b [] order i j e = absurd i
 one_of_key {X} key a b (x ∷ xs) order i j e = elim i [
   | inl e' ↦ elim j [
     | inl g ↦ sym e' ∙ g
-    | inr later ↦ absurd (apart b (All-In (λ y. is_before (key x) (key y) ≡ true) b xs order.0 later) (ap key e' ∙ e))
+    | inr later ↦ absurd (apart b (All-In (λ y. is_before (key x) (key y) ≡ true) b xs order.0 later)
+        (ap key e' ∙ e))
   ]
   | inr later ↦ elim j [
-    | inl g ↦ absurd (apart a (All-In (λ y. is_before (key x) (key y) ≡ true) a xs order.0 later) (ap key g ∙ sym e))
+    | inl g ↦ absurd (apart a (All-In (λ y. is_before (key x) (key y) ≡ true) a xs order.0 later)
+        (ap key g ∙ sym e))
     | inr later' ↦ one_of_key key a b xs order.1 later later' e
   ]
 ]
@@ -162,7 +170,8 @@ one_number k n e = pos_same k n ∙ eq-eqb k n e
 -- ---- one package
 
 key_says : (r : Receipt) (n : ℕ) → bytes_eq (receipt_key r) (n ∷ []) ≡ true → r.seq ≡ n
-key_says r n e = let same : r.seq ∷ [] ≡ n ∷ [] = (bytes_eq-Decides (receipt_key r) (n ∷ [])).0 e in head_same same
+key_says r n e = let same : r.seq ∷ [] ≡ n ∷ [] = (bytes_eq-Decides (receipt_key r) (n ∷ [])).0 e in head_same
+    same
   where
     head_same : {a b : ℕ} → a ∷ [] ≡ b ∷ [] → a ≡ b
     head_same e = ap (λ l. first l) e
@@ -191,7 +200,8 @@ module _ (f : Frame) (p : Package) (t : Tables) (says : Says f p t) (n : ℕ) (b
       row (subst (In row) says.receipts i)) in
       (it.0, subst (In it.0) (sym says.kept) (to_arranged receipt_key it.0 says.entered it.1), it.2)
 
-  passing : (r : Receipt) → In r p.receipts → r.seq ≡ n → In (receipt_row r) (filter (is_after before) t.receipts)
+  passing : (r : Receipt) → In r p.receipts → r.seq ≡ n → In (receipt_row r)
+      (filter (is_after before) t.receipts)
   passing r i e =
       let above : is_after before (receipt_row r) ≡ true = ap (λ z. is_gt (int_cmp (pos r.seq) z)) is_before_it
       ∙ above_before n r.seq (omega (arith, e)) in
@@ -234,7 +244,8 @@ module _ (f : Frame) (p : Package) (t : Tables) (says : Says f p t) (n : ℕ) (b
 
       is_above : is_after before row ≡ true
       is_above = All-In (λ x. is_after before x ≡ true) row (filter (is_after before) t.receipts)
-          (All-taken (λ x. is_after before x ≡ true) (is_after before) t.receipts (All-each _ (λ x e. e) t.receipts))
+          (All-taken (λ x. is_after before x ≡ true) (is_after before) t.receipts
+          (All-each _ (λ x e. e) t.receipts))
           there
 
       it : (r : Receipt) × In r p.receipts × (receipt_row r ≡ row)
@@ -266,9 +277,11 @@ pub moment_among : (n : ℕ) (packages : List Package) (answers : List (Option (
     → AllZip (λ p x. x ≡ moment_of p.receipts n) packages answers
     → first_found answers ≡ moment_of (ledger_of packages) n
 moment_among n packages answers each = in_turn packages answers each
-    ∙ sym (ap (option_map (λ r. r.at)) (entry-arranged receipt_key (n ∷ []) (flat_map (λ p. p.receipts) packages)))
+    ∙ sym (ap (option_map (λ r. r.at)) (entry-arranged receipt_key (n ∷ [])
+    (flat_map (λ p. p.receipts) packages)))
   where
-    in_turn : (ps : List Package) (xs : List (Option (List ℕ))) → AllZip (λ p x. x ≡ moment_of p.receipts n) ps xs
+    in_turn : (ps : List Package) (xs : List (Option (List ℕ)))
+        → AllZip (λ p x. x ≡ moment_of p.receipts n) ps xs
         → first_found xs ≡ moment_of (flat_map (λ p. p.receipts) ps) n
     in_turn [] [] each = refl
     in_turn [] (x ∷ xs) each = absurd each
@@ -282,11 +295,13 @@ moment_among n packages answers each = in_turn packages answers each
 
 -- one answer more, of the number at a place
 pub map_next : {Y : Type 0} (h : ℕ → Y) (numbers : List ℕ) (i : ℕ) (y : Y) (ys : List Y) → i < length numbers
-    → ys ≡ map h (take i numbers) → y ≡ h (slice_index numbers i) → ys ++ y ∷ [] ≡ map h (take (i + 1) numbers)
+    → ys ≡ map h (take i numbers) → y ≡ h (slice_index numbers i)
+    → ys ++ y ∷ [] ≡ map h (take (i + 1) numbers)
 map_next {Y} h numbers i y ys lt so is =
     ap (λ l. l ++ y ∷ []) so ∙ ap (λ z. map h (take i numbers) ++ z ∷ []) is
     ∙ sym (snoc (take i numbers) (slice_index numbers i))
-    ∙ ap (map h) (sym (ap (λ k. take k numbers) (let e : i + 1 ≡ suc i = omega arith in e) ∙ take-suc numbers i 0 lt))
+    ∙ ap (map h) (sym (ap (λ k. take k numbers) (let e : i + 1 ≡ suc i = omega arith in e)
+    ∙ take-suc numbers i 0 lt))
   where
     snoc : (xs : List ℕ) (x : ℕ) → map h (xs ++ x ∷ []) ≡ map h xs ++ h x ∷ []
     snoc [] x = refl

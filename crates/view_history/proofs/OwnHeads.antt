@@ -30,7 +30,8 @@ loan_is f p t says found loan all one =
     nat_of loan p.loan (sym one.2 ∙ ap (λ x. x.loan) same)
 
 -- answers in turn are a map
-pub zip_map : {X Y : Type 0} (h : X → Y) (xs : List X) (ys : List Y) → AllZip (λ x y. y ≡ h x) xs ys → ys ≡ map h xs
+pub zip_map : {X Y : Type 0} (h : X → Y) (xs : List X) (ys : List Y) → AllZip (λ x y. y ≡ h x) xs ys
+    → ys ≡ map h xs
 zip_map h [] [] each = refl
 zip_map h [] (y ∷ ys) each = absurd each
 zip_map h (x ∷ xs) [] each = absurd each

@@ -1,5 +1,6 @@
 -- The receipts that the tables of a package say are the package's, and those of all packages.
-use Rattle.std.proofs.Common.{◌≡◌, ◌∙◌, List, [], ◌∷◌, ◌++◌, refl, sym, ap, append-nil, append_assoc}
+use Rattle.std.proofs.Common.{◌≡◌, ◌∙◌, List, [], ◌∷◌, ◌++◌, refl, sym, ap, append-nil}
+use Rattle.std.proofs.Common.{append_assoc}
 use Rattle.std.specs.Prelude.{flat_map}
 use Rattle.std.specs.List.{AllZip}
 use Rattle.sheet_types.specs.World.{Package}
@@ -35,7 +36,8 @@ whole f p t says found said = sym (ap (λ q. q.receipts) (one_package f t p (rec
 
 -- lists in turn, each of a package
 pub zip_lists : {L : Type 0} (items : L → List Receipt) (packages : List Package) (lists : List L)
-    → AllZip (λ p l. items l ≡ p.receipts) packages lists → flat_map items lists ≡ flat_map (λ p. p.receipts) packages
+    → AllZip (λ p l. items l ≡ p.receipts) packages lists → flat_map items lists
+    ≡ flat_map (λ p. p.receipts) packages
 zip_lists items [] [] each = refl
 zip_lists items [] (l ∷ ls) each = absurd each
 zip_lists items (p ∷ ps) [] each = absurd each

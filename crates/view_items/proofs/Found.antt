@@ -1,5 +1,6 @@
 -- Items found one after the other, and what is kept of them.
-use Rattle.std.proofs.Common.{◌≡◌, ◌<◌, ◌≤◌, ◌+◌, ◌∙◌, ◌++◌, ◌∷◌, [], Bool, true, false, ℕ, List, Some, unwrap_or, ap}
+use Rattle.std.proofs.Common.{◌≡◌, ◌<◌, ◌≤◌, ◌+◌, ◌∙◌, ◌++◌, ◌∷◌, [], Bool, true}
+use Rattle.std.proofs.Common.{false, ℕ, List, Some, unwrap_or, ap}
 use Rattle.std.proofs.Common.{arith, get_or, length, map, subst, sym, take, inl, inr}
 use Rattle.std.specs.Bool.{then_some}
 use Rattle.std.specs.Prelude.{flat_map}

@@ -13,6 +13,7 @@ abbrev pub ArePartsOf : {A : Type 0} → (Item → List A) → Package → List 
 ArePartsOf parts p kept links = (kept ≡ flat_map parts p.items) × (links ≡ p.links)
 
 -- this is so of the items of the package, where it is they that are told of
-abbrev pub OfTold : {S : Type 0} → Ghosts S → List ℕ → List Moved → Seen S → Seen S → (List Item → Type 0) → Type 0
+abbrev pub OfTold : {S : Type 0} → Ghosts S → List ℕ → List Moved → Seen S → Seen S
+    → (List Item → Type 0) → Type 0
 OfTold g p told old new Fact = AllClean g new.members → (w : World) → StandsFor g old w
     → told ≡ map item_moved (holdings w p).items → Fact (holdings w p).items

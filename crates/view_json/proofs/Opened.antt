@@ -1,5 +1,6 @@
 -- One object more behind those of an open array.
-use Rattle.std.proofs.Common.{◌≡◌, ◌∙◌, ◌+◌, ◌<◌, ℕ, List, [], ◌∷◌, ◌++◌, refl, sym, ap, subst, length, take, get_or}
+use Rattle.std.proofs.Common.{◌≡◌, ◌∙◌, ◌+◌, ◌<◌, ℕ, List, [], ◌∷◌, ◌++◌, refl, sym}
+use Rattle.std.proofs.Common.{ap, subst, length, take, get_or}
 use Rattle.std.specs.Prelude.{true, false, cond, filter, map}
 use Rattle.std.specs.Borrow.{Bor}
 use Rattle.std.proofs.lemmas.List.{append_assoc, append-nil, map-append, take_more}
@@ -16,7 +17,8 @@ use Rattle.view_json.specs.declared.arrays.Lines.{Lines}
 
 -- ---- one line more
 
-lines_more : (ds : List Data) (d : Data) → lines true (ds ++ d ∷ []) ≡ lines true ds ++ (44 ∷ 10 ∷ compact_text d)
+lines_more : (ds : List Data) (d : Data) → lines true (ds ++ d ∷ []) ≡ lines true ds
+    ++ (44 ∷ 10 ∷ compact_text d)
 lines_more [] d = ap (λ l. 44 ∷ 10 ∷ l) (append-nil (compact_text d))
 lines_more (x ∷ ds) d =
     ap (λ l. 44 ∷ 10 ∷ (compact_text x ++ l)) (lines_more ds d)
@@ -80,7 +82,8 @@ wayed id xs i r within is =
     ∙ ap (way_datas id) (taken xs i r within is)
 
 pub way_behind : (id : List ℕ) (ds : List Data) (xs : List Receipt) (i : ℕ) (r : Receipt) (it : Lines)
-    → i < length xs → r ≡ get_or xs i r → IsOpen ((ds ++ way_datas id (take i xs)) ++ way_datas id (r ∷ [])) it
+    → i < length xs → r ≡ get_or xs i r → IsOpen ((ds ++ way_datas id (take i xs)) ++ way_datas id (r ∷ []))
+    it
     → IsOpen (ds ++ way_datas id (take (i + 1) xs)) it
 way_behind id ds xs i r it within is given =
     open_same _ _ it (append_assoc ds (way_datas id (take i xs)) (way_datas id (r ∷ []))

@@ -1,5 +1,6 @@
 -- The whole text of a custody page (HTML 5), and of which loan there is one. Profile.
-use Rattle.std.specs.Prelude.{◌≡◌, ℕ, bytes_eq, List, [], ◌∷◌, ◌++◌, length, Option, Some, None, option_map, codes}
+use Rattle.std.specs.Prelude.{◌≡◌, ℕ, bytes_eq, List, [], ◌∷◌, ◌++◌, length, Option, Some, None}
+use Rattle.std.specs.Prelude.{option_map, codes}
 use Rattle.std.specs.Prelude.{decimal, filter, flat_map}
 use Rattle.std.specs.Option.{option_and_then, option_map_or}
 use Rattle.sheet_ledger.specs.Flows.{flow_by}

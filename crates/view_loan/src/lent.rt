@@ -28,7 +28,8 @@ fn put_link_keeper(
     base: Uuid,
     other: Uuid,
 ) -> Result<(), AllocError>
-    ensures { IfOk result (λ _. string_bytes text.new ≡ string_bytes text.old ++ link_keeper register.now base other) }
+    ensures { IfOk result (λ _. string_bytes text.new ≡ string_bytes text.old
+        ++ link_keeper register.now base other) }
 {
     match tie_found(&register.ties, base, other) {
         Some(found) => put_keeper(text, register, found.holder),

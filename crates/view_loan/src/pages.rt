@@ -129,7 +129,8 @@ fn put_told_if(
     live: &Live,
     lender: Uuid,
 ) -> Result<(), OutOfMemory>
-    ensures { IfOk result (λ _. string_bytes text.new ≡ string_bytes text.old ++ told_if register.now live.now lender) }
+    ensures { IfOk result (λ _. string_bytes text.new ≡ string_bytes text.old
+        ++ told_if register.now live.now lender) }
 {
     match receipt_found(&register.receipts, live.loan) {
         Some(receipt) => put_told(alloc, text, register, live, lender, receipt),

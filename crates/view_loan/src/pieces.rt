@@ -29,7 +29,8 @@ pub(crate) fn put_keeper_or(
     end: Option<Uuid>,
     none: &str,
 ) -> Result<(), AllocError>
-    ensures { IfOk result (λ _. string_bytes text.new ≡ string_bytes text.old ++ keeper_or register.now end none.now) }
+    ensures { IfOk result (λ _. string_bytes text.new ≡ string_bytes text.old
+        ++ keeper_or register.now end none.now) }
 {
     match end {
         Some(id) => put_keeper(text, register, id),

@@ -39,7 +39,8 @@ fn put_what(text: &mut String, register: &Register, receipt: &Receipt) -> Result
 
 /// Puts the row of a receipt.
 fn put_row(text: &mut String, register: &Register, receipt: &Receipt) -> Result<(), AllocError>
-    ensures { IfOk result (λ _. string_bytes text.new ≡ string_bytes text.old ++ receipt_row register.now receipt.now) }
+    ensures { IfOk result (λ _. string_bytes text.new ≡ string_bytes text.old
+        ++ receipt_row register.now receipt.now) }
 {
     put(text, "<tr id=\"r")?;
     put_count(text, receipt.seq)?;

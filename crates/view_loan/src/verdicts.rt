@@ -140,7 +140,8 @@ fn put_amounts(text: &mut String, live: &Live, receipt: &Receipt) -> Result<(), 
 
 /// Puts by which request it was made, and the digest of the ledger.
 fn put_request(text: &mut String, receipt: &Receipt, digest: &[u8; 32]) -> Result<(), AllocError>
-    ensures { IfOk result (λ _. string_bytes text.new ≡ string_bytes text.old ++ request_text receipt.now digest.now) }
+    ensures { IfOk result (λ _. string_bytes text.new ≡ string_bytes text.old
+        ++ request_text receipt.now digest.now) }
 {
     let mut letters = [0; 64];
     put(

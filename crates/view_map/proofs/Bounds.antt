@@ -1,5 +1,6 @@
 -- Sizes between bounds.
-use Rattle.std.specs.Prelude.{◌≡◌, ℕ, ◌*◌, ◌/◌, ◌^◌, ◌<◌, ◌≤◌, ℤ, pos, negsuc, ◌*ℤ◌, ◌≤ℤ◌, min, unsigned_abs}
+use Rattle.std.specs.Prelude.{◌≡◌, ℕ, ◌*◌, ◌/◌, ◌^◌, ◌<◌, ◌≤◌, ℤ, pos, negsuc}
+use Rattle.std.specs.Prelude.{◌*ℤ◌, ◌≤ℤ◌, min, unsigned_abs}
 use Rattle.std.proofs.Common.{ap, arith}
 use Rattle.std.proofs.lemmas.Int.{ints}
 use Rattle.std.proofs.Math.Nat.{mul-le-mul, mul-le-mul_left, mul-le-mul_right, div-le_self}
@@ -10,7 +11,8 @@ use Rattle.view_map.specs.Layout.{layout_of, side}
 use Rattle.view_map.specs.declared.layout.Layout.{Layout}
 
 -- a span of the ground, as a number that is not negative
-pub span_range : (z : ℤ) → pos 1 ≤ℤ z → z ≤ℤ pos 2000000000000 → (1 ≤ unsigned_abs z) × (unsigned_abs z ≤ 2000000000000)
+pub span_range : (z : ℤ) → pos 1 ≤ℤ z → z ≤ℤ pos 2000000000000 → (1 ≤ unsigned_abs z)
+    × (unsigned_abs z ≤ 2000000000000)
 span_range (pos n) low high = (omega (arith, ints, low), omega (arith, ints, high))
 span_range (negsuc n) low high = absurd (omega (arith, ints, low))
 

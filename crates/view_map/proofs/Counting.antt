@@ -1,5 +1,6 @@
 -- How many rectangles there are of a package at a place.
-use Rattle.std.specs.Prelude.{◌≡◌, ◌≢◌, ℕ, zero, suc, ◌+◌, ◌<◌, ◌==◌, Bool, true, false, not, ◌&&◌, if◌then◌else◌}
+use Rattle.std.specs.Prelude.{◌≡◌, ◌≢◌, ℕ, zero, suc, ◌+◌, ◌<◌, ◌==◌, Bool, true, false}
+use Rattle.std.specs.Prelude.{not, ◌&&◌, if◌then◌else◌}
 use Rattle.std.specs.Prelude.{List, [], ◌∷◌, ◌++◌, map, filter, refl, Some, None, slice_get, count_by, nat_lt}
 use Rattle.std.proofs.Common.{◌∙◌, ap, sym, cond, arith}
 use Rattle.std.proofs.lemmas.Bool.{and_parts, eqb-true, eq-eqb, ne_eqb}
@@ -37,7 +38,8 @@ same_on l p q same =
     ap (λ c. nat_lt c l.columns && nat_lt q.row l.rows) (sym column)
     ∙ ap (λ r. nat_lt p.column l.columns && nat_lt r l.rows) (sym row)
 
-other_place : (l : Layout) (p q : Place) (b : Bool) → is_on l p ≡ true → is_on l q ≡ false → is_place p q ≡ b
+other_place : (l : Layout) (p q : Place) (b : Bool) → is_on l p ≡ true → is_on l q ≡ false
+    → is_place p q ≡ b
     → b ≡ false
 other_place l p q false on off same = refl
 other_place l p q true on off same = sym on ∙ sym (same_on l p q same) ∙ off
@@ -53,8 +55,10 @@ none_more false x y rest = rest
 
 -- the sheets of one package at a place of the zoom
 of_package : (l : Layout) (i n : ℕ) (u : List ℕ) (p : Place) → is_on l p ≡ true → (qs : List Place)
-    → count_by (is_sheet_at i p) (map (sheet_of n u) (filter (is_on l) qs)) ≡ cond (n == i) (count_by (is_place p) qs) 0
-of_package l i n u p on [] = elim (n == i) as (λ b. ◌≡◌ {A = ℕ} 0 (cond b 0 0)) [ true ↦ refl | false ↦ refl ]
+    → count_by (is_sheet_at i p) (map (sheet_of n u) (filter (is_on l) qs))
+    ≡ cond (n == i) (count_by (is_place p) qs) 0
+of_package l i n u p on [] = elim (n == i) as (λ b. ◌≡◌ {A = ℕ} 0 (cond b 0 0))
+    [ true ↦ refl | false ↦ refl ]
 of_package l i n u p on (q ∷ qs) = go (of_package l i n u p on qs) (is_on l q) refl
     ∙ ap (λ x. cond (n == i) x 0) (sym (count-cons (is_place p) q qs (is_place p q) refl))
   where
@@ -88,7 +92,8 @@ no_head true x none = refl
 no_head false x none = refl
 
 -- one package more
-where_cons : (l : Layout) (loans : Bool) (i n : ℕ) (p : Place) (on : is_on l p ≡ true) (h : Holder) (hs : List Holder)
+where_cons : (l : Layout) (loans : Bool) (i n : ℕ) (p : Place) (on : is_on l p ≡ true) (h : Holder)
+    (hs : List Holder)
     (a : Bool) → (n == i) ≡ a
     → count_by (is_sheet_at i p) (sheets_where l loans n (h ∷ hs))
     ≡ cond (is_wanted loans h) (cond a (count_by (is_place p) h.places.items) 0) 0 + count_by (is_sheet_at i p)
@@ -115,7 +120,8 @@ apart : (n i : ℕ) → i ≢ n → (n == i) ≡ false
 apart n i ne = ne_eqb n i (λ e. ne (sym e))
 
 -- later packages have other numbers
-later_none : (l : Layout) (loans : Bool) (i n : ℕ) (p : Place) (on : is_on l p ≡ true) → i < n → (hs : List Holder)
+later_none : (l : Layout) (loans : Bool) (i n : ℕ) (p : Place) (on : is_on l p ≡ true) → i < n
+    → (hs : List Holder)
     → count_by (is_sheet_at i p) (sheets_where l loans n hs) ≡ 0
 unfolding sheets_where
 later_none l loans i n p on below [] = refl
@@ -156,7 +162,8 @@ both p (x ∷ xs) zero h there = either (is_loan x) ∙ ap (λ (y : Holder). cou
     either false = omega arith
 both p (x ∷ xs) (suc k) h there = both p xs k h there
 
-neither : (p : Place) (hs : List Holder) (k : ℕ) → slice_get hs k ≡ None → times false p hs k + times true p hs k ≡ 0
+neither : (p : Place) (hs : List Holder) (k : ℕ) → slice_get hs k ≡ None
+    → times false p hs k + times true p hs k ≡ 0
 neither p [] k there = refl
 neither p (x ∷ xs) zero there = absurd (cc)
 neither p (x ∷ xs) (suc k) there = neither p xs k there

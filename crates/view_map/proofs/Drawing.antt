@@ -1,5 +1,6 @@
 -- How many sheets were drawn at each place, and the rectangle of one more.
-use Rattle.std.specs.Prelude.{◌≡◌, ℕ, ◌+◌, ◌<◌, ◌≤◌, ◌==◌, Bool, true, false, if◌then◌else◌, List, [], ◌∷◌, ◌++◌, map}
+use Rattle.std.specs.Prelude.{◌≡◌, ℕ, ◌+◌, ◌<◌, ◌≤◌, ◌==◌, Bool, true, false}
+use Rattle.std.specs.Prelude.{if◌then◌else◌, List, [], ◌∷◌, ◌++◌, map}
 use Rattle.std.specs.Prelude.{length, min, refl, None, Some, nat_eq, nat_lt, unwrap_or, count_by}
 use Rattle.std.specs.List.{AllPass}
 use Rattle.std.specs.HashMap.{HashMap, Updates, get}
@@ -122,13 +123,15 @@ layer_next m below l s n layer number_is counted layer_is = layer_is ∙ counted
 pub none_counted : {S : Type 0} (m : HashMap ℕ ℕ S) → ((n : ℕ) → get nat_eq m n ≡ None) → AreCounted m []
 none_counted m empty n = ap (λ o. unwrap_or o 0) (empty n)
 
-pub shapes_done : (l : Layout) (zoom : ℕ) (ss : List Sheet) (i : ℕ) (below text whole : List ℕ) → length ss ≤ i
+pub shapes_done : (l : Layout) (zoom : ℕ) (ss : List Sheet) (i : ℕ) (below text whole : List ℕ)
+    → length ss ≤ i
     → text ++ shapes_text l zoom (layered l below (drop i ss)) ≡ whole → text ≡ whole
 unfolding layered
 shapes_done l zoom ss i below text whole past so_far = sym (ap (λ xs. text ++ shapes_text l zoom (layered l below xs))
     (drop_all i ss past) ∙ append-nil text) ∙ so_far
 
-pub item_passes : {X : Type 0} (p : X → Bool) (xs : List X) (i : ℕ) (x : X) → i < length xs → x ≡ get_or xs i x
+pub item_passes : {X : Type 0} (p : X → Bool) (xs : List X) (i : ℕ) (x : X) → i < length xs
+    → x ≡ get_or xs i x
     → AllPass p xs → p x ≡ true
 item_passes p xs i x within is all = ap p is ∙ all i x within
 

@@ -1,5 +1,6 @@
 -- Walking up from the finest zoom.
-use Rattle.std.specs.Prelude.{◌≡◌, ℕ, suc, ◌-◌, ◌*◌, ◌<◌, ◌≤◌, nat_le, true, false, refl, ℤ, pos, negsuc, ◌+ℤ◌, ◌-ℤ◌}
+use Rattle.std.specs.Prelude.{◌≡◌, ℕ, suc, ◌-◌, ◌*◌, ◌<◌, ◌≤◌, nat_le, true, false, refl}
+use Rattle.std.specs.Prelude.{ℤ, pos, negsuc, ◌+ℤ◌, ◌-ℤ◌}
 use Rattle.std.specs.Prelude.{◌≤ℤ◌, unsigned_abs}
 use Rattle.std.proofs.Common.{arith, ◌∙◌, ap}
 use Rattle.std.proofs.lemmas.Int.{ints}
@@ -25,7 +26,8 @@ small_here : (f : Frame) (k : ℕ) → is_small f k ≡ true → k ≡ finest_sm
 unfolding finest_small
 small_here f k small = rw small refl
 
-pub small_below : (f : Frame) (level : ℕ) → 0 < level → is_small f (level - 1) ≡ true → level - 1 ≡ finest_small f level
+pub small_below : (f : Frame) (level : ℕ) → 0 < level → is_small f (level - 1) ≡ true
+    → level - 1 ≡ finest_small f level
 small_below f level some small = small_here f (level - 1) small ∙ ap (finest_small f) (omega arith)
 
 -- it is not, and so the finest that is lies above

@@ -1,5 +1,6 @@
 -- What a map says: each sheet that is held is drawn, once for each time that it is held, and nothing else is.
-use Rattle.std.specs.Prelude.{◌≡◌, ℕ, ◌==◌, Bool, true, false, ◌&&◌, List, Some, None, slice_get, count_by}
+use Rattle.std.specs.Prelude.{◌≡◌, ℕ, ◌==◌, Bool, true, false, ◌&&◌, List, Some, None, slice_get}
+use Rattle.std.specs.Prelude.{count_by}
 use Rattle.view_map.specs.Layout.{is_on}
 use Rattle.view_map.specs.Sheets.{shapes}
 use Rattle.view_map.specs.declared.holders.Place.{Place}
@@ -26,8 +27,10 @@ EachIsDrawn = (l : Layout) (hs : List Holder) (i : ℕ) (h : Holder) (p : Place)
 
 -- There is none of a package that is not in the list,
 abbrev pub NoOtherIsDrawn : Type 0
-NoOtherIsDrawn = (l : Layout) (hs : List Holder) (i : ℕ) (p : Place) → slice_get hs i ≡ None → drawn_at l hs i p ≡ 0
+NoOtherIsDrawn = (l : Layout) (hs : List Holder) (i : ℕ) (p : Place) → slice_get hs i ≡ None
+    → drawn_at l hs i p ≡ 0
 
 -- and none at a place that the zoom does not have.
 abbrev pub NoneIsDrawnBeside : Type 0
-NoneIsDrawnBeside = (l : Layout) (hs : List Holder) (i : ℕ) (p : Place) → is_on l p ≡ false → drawn_at l hs i p ≡ 0
+NoneIsDrawnBeside = (l : Layout) (hs : List Holder) (i : ℕ) (p : Place) → is_on l p ≡ false
+    → drawn_at l hs i p ≡ 0

@@ -1,5 +1,6 @@
 -- How large a map is: the places of a zoom, and the size at which each is drawn. Profile.
-use Rattle.std.specs.Prelude.{ℕ, ◌+◌, ◌*◌, ◌/◌, ◌≤◌, ℤ, Bool, ◌&&◌, min, nat_lt, count_by, unsigned_abs}
+use Rattle.std.specs.Prelude.{ℕ, ◌+◌, ◌*◌, ◌/◌, ◌≤◌, ℤ, Bool, ◌&&◌, min, nat_lt, count_by}
+use Rattle.std.specs.Prelude.{unsigned_abs}
 use Rattle.sheet_types.specs.declared.frame.Frame.{Frame}
 use Rattle.sheet_types.specs.Matrix.{width_at, height_at, level_of, tile_span_x, tile_span_y}
 use Rattle.view_map.specs.declared.holders.Place.{Place}

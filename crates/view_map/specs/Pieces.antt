@@ -1,5 +1,6 @@
 -- The texts of which a map is made (SVG 1.1). Profile.
-use Rattle.std.specs.Prelude.{ℕ, zero, suc, ◌+◌, ◌-◌, ◌*◌, ◌%◌, Bool, ◌&&◌, nat_le, if◌then◌else◌, List, [], ◌∷◌}
+use Rattle.std.specs.Prelude.{ℕ, zero, suc, ◌+◌, ◌-◌, ◌*◌, ◌%◌, Bool, ◌&&◌, nat_le}
+use Rattle.std.specs.Prelude.{if◌then◌else◌, List, [], ◌∷◌}
 use Rattle.std.specs.Prelude.{◌++◌, max, codes, decimal, slice_index_or}
 use Rattle.std.specs.List.{flat_map}
 use Rattle.sheet_types.specs.Texts.{uuid_text}
@@ -13,7 +14,8 @@ use Rattle.view_map.specs.declared.layout.Layout.{Layout}
 abbrev pub palette : List (List ℕ)
 palette =
     codes "#eedd66" ∷ codes "#7799ee" ∷ codes "#ee7788" ∷ codes "#006644" ∷ codes "#00ddee" ∷ codes "#994400"
-    ∷ codes "#bbeebb" ∷ codes "#664499" ∷ codes "#aa9933" ∷ codes "#cc77aa" ∷ codes "#778844" ∷ codes "#884477" ∷ []
+    ∷ codes "#bbeebb" ∷ codes "#664499" ∷ codes "#aa9933" ∷ codes "#cc77aa" ∷ codes "#778844"
+    ∷ codes "#884477" ∷ []
 
 -- the colour of the n-th package: the twelve in turn
 abbrev pub colour : ℕ → List ℕ

@@ -1,5 +1,6 @@
 -- Which sheets are drawn, in which order and over how many others. Profile.
-use Rattle.std.specs.Prelude.{ℕ, ◌+◌, ◌==◌, Bool, true, false, not, List, [], ◌∷◌, ◌++◌, map, filter, min, nat_lt}
+use Rattle.std.specs.Prelude.{ℕ, ◌+◌, ◌==◌, Bool, true, false, not, List, [], ◌∷◌, ◌++◌, map}
+use Rattle.std.specs.Prelude.{filter, min, nat_lt}
 use Rattle.std.specs.Prelude.{count_by, if◌then◌else◌}
 use Rattle.view_map.specs.Layout.{is_on, number}
 use Rattle.view_map.specs.declared.holders.Place.{Place}

@@ -1,5 +1,6 @@
 -- Which zoom is drawn where none is asked for. Profile.
-use Rattle.std.specs.Prelude.{ℕ, zero, suc, ◌*◌, Bool, nat_le, if◌then◌else◌, ℤ, pos, ◌+ℤ◌, unsigned_abs}
+use Rattle.std.specs.Prelude.{ℕ, zero, suc, ◌*◌, Bool, nat_le, if◌then◌else◌, ℤ, pos, ◌+ℤ◌}
+use Rattle.std.specs.Prelude.{unsigned_abs}
 use Rattle.sheet_types.specs.declared.frame.Frame.{Frame}
 use Rattle.sheet_types.specs.Matrix.{width_at, height_at}
 

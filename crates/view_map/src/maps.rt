@@ -1,5 +1,6 @@
 //! A whole map.
-ghost use Rattle.std.specs.Prelude.{◌≡◌, ◌^◌, ◌<◌, ◌≤◌, ◌++◌, [], IfOk, IsTrue, OnOk, length, string_bytes};
+ghost use Rattle.std.specs.Prelude.{◌≡◌, ◌^◌, ◌<◌, ◌≤◌, ◌++◌, [], IfOk, IsTrue, OnOk, length};
+ghost use Rattle.std.specs.Prelude.{string_bytes};
 ghost use Rattle.std.specs.List.{AllPass};
 ghost use Rattle.sheet_types.specs.Matrix.{has_level, is_good_frame};
 ghost use Rattle.view_map.specs.Layout.{IsLayout, is_on};
@@ -48,7 +49,8 @@ fn add_picture(
     holders: &[Holder],
 ) -> Result<(), OutOfMemory>
     requires { IsLayout layout.now }
-    ensures { OnOk result (string_bytes text.new ≡ string_bytes text.old ++ picture_text layout.now zoom holders.now) }
+    ensures { OnOk result (string_bytes text.new ≡ string_bytes text.old
+        ++ picture_text layout.now zoom holders.now) }
 {
     let sheets = all_sheets(alloc, layout, holders)?;
     let grid = grid_text(alloc, layout)?;

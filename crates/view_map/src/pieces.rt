@@ -1,5 +1,6 @@
 //! The texts of which a map is made (SVG 1.1).
-ghost use Rattle.std.specs.Prelude.{◌≡◌, ◌^◌, ◌*◌, ◌<◌, ◌≤◌, ◌-◌, ◌++◌, IfOk, OnOk, string_bytes};
+ghost use Rattle.std.specs.Prelude.{◌≡◌, ◌^◌, ◌*◌, ◌<◌, ◌≤◌, ◌-◌, ◌++◌, IfOk, OnOk};
+ghost use Rattle.std.specs.Prelude.{string_bytes};
 ghost use Rattle.view_map.specs.Layout.{IsLayout, column_left, line_at, map_height, map_width, row_top, sheets_on};
 ghost use Rattle.view_map.specs.Pieces.{box_text, column_line, first_lines, grid_text, has_grid, head_text};
 ghost use Rattle.view_map.specs.Pieces.{legend_line, mark_text, outline_text, owner_text, page_text, page_width};

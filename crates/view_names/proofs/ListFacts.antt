@@ -1,5 +1,6 @@
 -- The header of a list, and its records one after the other.
-use Rattle.std.proofs.Common.{◌≡◌, ◌⊎◌, ◌<◌, ◌+◌, ◌++◌, ℕ, zero, suc, Bool, true, false, List, [], ◌∷◌, Some, map}
+use Rattle.std.proofs.Common.{◌≡◌, ◌⊎◌, ◌<◌, ◌+◌, ◌++◌, ℕ, zero, suc, Bool, true, false}
+use Rattle.std.proofs.Common.{List, [], ◌∷◌, Some, map}
 use Rattle.std.proofs.Common.{length, get_or, IsTrue, Bor, refl, inl, inr, arith}
 use Rattle.std.specs.Bool.{MatchBool}
 use Rattle.std.specs.List.{AllWithin, AllZip, HoldsAt, enumerate_from}
@@ -40,12 +41,14 @@ entry texts k d low =
     rw place at (get_or-enumerate_from 0 texts k (0, d) low)
 
 -- a test of each place decides whether fields are these texts
-pub fields_decided : (r : Bool) (fields : List (List ℕ)) (texts : List (Bor (List ℕ))) → length fields ≡ length texts
+pub fields_decided : (r : Bool) (fields : List (List ℕ)) (texts : List (Bor (List ℕ)))
+    → length fields ≡ length texts
     → MatchBool r (AllWithin (λ p. IsTextAt fields p.0 p.1.now) (enumerate_from 0 texts) 0
     (length (enumerate_from 0 texts)))
     ((k : ℕ) × (k < length (enumerate_from 0 texts)) × HoldsAt (λ p. ¬ IsTextAt fields p.0 p.1.now)
     (enumerate_from 0 texts) k)
-    → (IsTrue r → fields ≡ map (λ text. text.now) texts) × (fields ≡ map (λ text. text.now) texts → IsTrue r)
+    → (IsTrue r → fields ≡ map (λ text. text.now) texts) × (fields ≡ map (λ text. text.now) texts
+    → IsTrue r)
 fields_decided true fields texts long each = (λ _. same_fields fields texts long stands, λ _. search)
   where
     stands : (k : ℕ) (d : Bor (List ℕ)) → k < length texts → field_at fields k ≡ Some (get_or texts k d).now
@@ -81,7 +84,8 @@ fault_after number (b ∷ bs) (q ∷ qs) rest met asked fault =
 -- the fault of the record after those that are names, in the whole list
 pub fault_met : (before : List (List (List ℕ))) (names : List Name) (count : ℕ) (row : List (List ℕ))
     (rest all : List (List (List ℕ))) (met : ListFault) → AllZip Names before names → count ≡ length names
-    → all ≡ before ++ (row ∷ rest) → (met ≡ Memory) ⊎ IsFaultFrom (count + 1) (row ∷ []) met → (met ≡ Memory)
+    → all ≡ before ++ (row ∷ rest) → (met ≡ Memory) ⊎ IsFaultFrom (count + 1) (row ∷ []) met
+    → (met ≡ Memory)
     ⊎ IsFaultFrom 1 all met
 fault_met before names count row rest all met asked counted e (inl want) = inl want
 fault_met before names count row rest all met asked counted e (inr fault) =

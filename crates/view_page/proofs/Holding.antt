@@ -1,5 +1,6 @@
 -- What packages hold, one after the other.
-use Rattle.std.proofs.Common.{◌≡◌, ◌∙◌, ◌<◌, ◌+◌, ◌++◌, ◌∷◌, [], ℕ, List, Bool, true, false, refl, ap, sym, length}
+use Rattle.std.proofs.Common.{◌≡◌, ◌∙◌, ◌<◌, ◌+◌, ◌++◌, ◌∷◌, [], ℕ, List, Bool, true}
+use Rattle.std.proofs.Common.{false, refl, ap, sym, length}
 use Rattle.std.proofs.Common.{take, get_or, map}
 use Rattle.std.specs.Prelude.{flat_map, if◌then◌else◌}
 use Rattle.std.proofs.lemmas.List.{append-nil}
@@ -28,7 +29,8 @@ one_held w p c things ties = record {
 -- what one package more holds stands behind what the others hold
 pub more_held : (w : World) (sights : List PackageSight) (i : ℕ) (s : PackageSight) (so_far more all : Contents)
     → i < length sights → s ≡ get_or sights i s
-    → AreContents w (λ (x : PackageSight). x.uuid) (take i sights) so_far → AreContents w (λ u. u) (s.uuid ∷ []) more
+    → AreContents w (λ (x : PackageSight). x.uuid) (take i sights) so_far
+    → AreContents w (λ u. u) (s.uuid ∷ []) more
     → all.things.items ≡ so_far.things.items ++ more.things.items
     → all.ties.items ≡ so_far.ties.items ++ more.ties.items
     → AreContents w (λ (x : PackageSight). x.uuid) (take (i + 1) sights) all
@@ -69,8 +71,10 @@ sorted_sights (s ∷ sights) = put_mapped s (arranged (λ x. x.depth ∷ []) sig
     ∙ ap (put depth_key (sight_of s)) (sorted_sights sights)
 
 -- what the packages in that order hold is said of the world
-pub all_held : (w : World) (sights ordered : List PackageSight) (c : Contents) → map sight_of sights ≡ package_sights w
-    → map sight_of ordered ≡ by_depth (map sight_of sights) → AreContents w (λ (x : PackageSight). x.uuid) ordered c
+pub all_held : (w : World) (sights ordered : List PackageSight) (c : Contents)
+    → map sight_of sights ≡ package_sights w
+    → map sight_of ordered ≡ by_depth (map sight_of sights) → AreContents w (λ (x : PackageSight). x.uuid)
+    ordered c
     → AreContents w (λ (m : ModelSight). m.uuid) (by_depth (package_sights w)) c
 all_held w sights ordered c seen order held =
     let same : map sight_of ordered ≡ by_depth (package_sights w) = order ∙ ap by_depth seen in

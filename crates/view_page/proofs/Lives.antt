@@ -1,5 +1,6 @@
 -- The live packages are those of the world.
-use Rattle.std.proofs.Common.{◌≡◌, ◌∙◌, ◌+◌, ◌++◌, ◌∷◌, [], ℕ, List, Some, sym, ap, map, take, slice_get}
+use Rattle.std.proofs.Common.{◌≡◌, ◌∙◌, ◌+◌, ◌++◌, ◌∷◌, [], ℕ, List, Some, sym, ap, map}
+use Rattle.std.proofs.Common.{take, slice_get}
 use Rattle.sheet_types.proofs.Basics.{some_once}
 use Rattle.sheet_types.specs.Answers.{PackageSight as ModelSight, sums_held}
 use Rattle.sheet_types.specs.Custody.{ticket}
@@ -18,7 +19,8 @@ use Rattle.world.specs.declared.reading.PackageSight.{PackageSight}
 pub life_next : (w : World) (sights : List PackageSight) (sums : List Sums) (loans : List ℕ)
     (receipts : List Receipt) → AreKept w sights sums → loans ≡ map (λ p. p.loan) w.packages
     → receipts ≡ receipts_of w
-    → (i : ℕ) (s : PackageSight) (x : Sums) (l k : ℕ) → k ≡ number_of receipts l → slice_get sights i ≡ Some s
+    → (i : ℕ) (s : PackageSight) (x : Sums) (l k : ℕ) → k ≡ number_of receipts l
+    → slice_get sights i ≡ Some s
     → slice_get sums i ≡ Some x → slice_get loans i ≡ Some l
     → (lives : List Live) → lives ≡ map (live_of w) (take i w.packages)
     → lives ++ record {
@@ -35,8 +37,7 @@ life_next w sights sums loans receipts kept made told i s x l k counted is is_x 
       uuid = p.uuid;
       parent = p.parent;
       depth = p.depth;
-      ticket =
-          ticket w p.uuid;
+      ticket = ticket w p.uuid;
     }) sights w.packages i s kept.seen is in
     let p : Package = seen.0 in
     let of_sums = at_place sums_held sums w.packages i x kept.held is_x in

@@ -20,7 +20,8 @@ use Rattle.world_members.specs.declared.members.Member.{Member}
 use Rattle.world.specs.Worlds.{Seen, TellsOf, held}
 
 module _ {S : Type 0} (g : Ghosts S) where
-  clean_of : (xs : List (Member S)) → AllByRecursion (λ (h : Held S). HasCleanDisk (state g h)) (map (λ m. m.conn) xs)
+  clean_of : (xs : List (Member S)) → AllByRecursion (λ (h : Held S). HasCleanDisk (state g h))
+      (map (λ m. m.conn) xs)
       → AllByRecursion (λ (m : Member S). HasCleanDisk (state g m.conn)) xs
   clean_of [] each = tt
   clean_of (m ∷ ms) each = (each.0, clean_of ms each.1)

@@ -44,7 +44,8 @@ as_bytes bytes (Ok found) = Ok (option_map bytes found)
 as_bytes bytes (Err fault) = Err fault
 
 -- It is printed; or there is no such loan, or memory or a store gave out before, and nothing is.
-abbrev pub ShowsText : {W : Type 0} → Result (Option (List ℕ)) Fault → W → W → Option (List ℕ) → Option (List ℕ)
+abbrev pub ShowsText : {W : Type 0} → Result (Option (List ℕ)) Fault → W → W → Option (List ℕ)
+    → Option (List ℕ)
     → Ending → Type 0
 ShowsText (Ok (Some text)) writer writer' before after ending = Prints text done before after ending
 ShowsText (Ok None) writer writer' before after ending = (ending ≡ NoSuchPackage) × (writer' ≡ writer)
@@ -64,12 +65,14 @@ page_of_fault (Loan id) fault = text_of_fault fault
 page_of_fault Map fault = None
 
 -- It is printed, and the program ends as such a folder ends it; or memory gave out before.
-abbrev pub PrintsFault : {W : Type 0} → OpenFault → Option (List ℕ) → W → W → Option (List ℕ) → Option (List ℕ)
+abbrev pub PrintsFault : {W : Type 0} → OpenFault → Option (List ℕ) → W → W → Option (List ℕ)
+    → Option (List ℕ)
     → Ending → Type 0
 PrintsFault fault (Some text) writer writer' before after ending = Prints text (Unopened fault) before after ending
 PrintsFault fault None writer writer' before after ending = (ending ≡ Unopened fault) × (writer' ≡ writer)
 
-abbrev pub ShowsFault : {W : Type 0} → Paper → OpenFault → W → W → Option (List ℕ) → Option (List ℕ) → Ending → Type 0
+abbrev pub ShowsFault : {W : Type 0} → Paper → OpenFault → W → W → Option (List ℕ) → Option (List ℕ)
+    → Ending → Type 0
 ShowsFault paper fault writer writer' before after ending =
     PrintsFault fault (page_of_fault paper fault) writer writer' before after ending
     ⊎ ((ending ≡ Usual (Stopped OutOfMemory)) × (writer' ≡ writer))
@@ -91,7 +94,8 @@ module _ {S : Type 0} (g : Ghosts S) {W : Type 0} where
     pub shown : ShowsText found writer writer' before after ending
 
   -- The folder was not opened, and the page of the fault was printed; or what was asked of its world.
-  abbrev pub OpensPage : List Name → Paper → W → W → Option (List ℕ) → Option (List ℕ) → Ending → Type 0
+  abbrev pub OpensPage : List Name → Paper → W → W → Option (List ℕ) → Option (List ℕ) → Ending
+      → Type 0
   OpensPage names paper writer writer' before after ending =
       ((fault : OpenFault) × ShowsFault paper fault writer writer' before after ending)
       ⊎ ((old : Seen S) × (stores : List (Held S)) × IsFolderWorld g old

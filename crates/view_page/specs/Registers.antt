@@ -1,5 +1,6 @@
 -- The register that a page tells of, as a world has it. Profile.
-use Rattle.std.specs.Prelude.{◌≡◌, ℕ, List, [], ◌∷◌, flat_map, map, Option, Some, option_map, Result, IfOk, slice_get}
+use Rattle.std.specs.Prelude.{◌≡◌, ℕ, List, [], ◌∷◌, flat_map, map, Option, Some, option_map, Result}
+use Rattle.std.specs.Prelude.{IfOk, slice_get}
 use Rattle.sqlite.specs.Held.{Held}
 use Rattle.sqlite.specs.Store.{Ghosts}
 use Rattle.sheet_types.specs.Answers.{PackageSight as ModelSight, package_sights, sums_held}
@@ -58,7 +59,8 @@ abbrev pub loan_key : Live → List ℕ
 loan_key l = l.loan ∷ []
 
 -- What packages hold is what stands under their UUIDs, in turn.
-pub record AreContents {X : Type 0} (w : World) (uuid : X → List ℕ) (packages : List X) (c : Contents) : Type 0 where
+pub record AreContents {X : Type 0} (w : World) (uuid : X → List ℕ) (packages : List X) (c : Contents) :
+    Type 0 where
   pub things : c.things.items ≡ flat_map (λ x. things_under w (uuid x)) packages
   pub ties : c.ties.items ≡ flat_map (λ x. ties_under w (uuid x)) packages
 

@@ -8,12 +8,14 @@ use Rattle.std.proofs.lemmas.Option.{slice_get-get_or}
 use Rattle.sheet_types.specs.Ordered.{entry}
 
 -- the places of the entries from one on
-abbrev pub ArePlacesFrom : {X S : Type 0} → (X → List ℕ) → HashMap (List ℕ) ℕ S → List X → ℕ → Type 0
+abbrev pub ArePlacesFrom : {X S : Type 0} → (X → List ℕ) → HashMap (List ℕ) ℕ S → List X → ℕ
+    → Type 0
 ArePlacesFrom key places xs from =
     (id : List ℕ) → option_and_then (slice_get xs) (get bytes_eq places id) ≡ entry key id (drop from xs)
 
 -- with the place of the entry before them
-pub one_noted : {X S : Type 0} (key : X → List ℕ) (places new : HashMap (List ℕ) ℕ S) (xs : List X) (at : ℕ) (x : X)
+pub one_noted : {X S : Type 0} (key : X → List ℕ) (places new : HashMap (List ℕ) ℕ S) (xs : List X) (at : ℕ)
+    (x : X)
     → at < length xs
     → Updates bytes_eq places new (key (get_or xs at x)) (Some at) → ArePlacesFrom key places xs (at + 1)
     → ArePlacesFrom key new xs at

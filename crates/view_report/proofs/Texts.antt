@@ -11,7 +11,8 @@ unfolding levels_text
 no_level r total text = sym (append-nil text)
 
 -- one zoom more
-pub level_more : (r : Register) (total : ℕ) (start text new : List ℕ) (n : ℕ) → text ≡ start ++ levels_text r total n
+pub level_more : (r : Register) (total : ℕ) (start text new : List ℕ) (n : ℕ)
+    → text ≡ start ++ levels_text r total n
     → new ≡ text ++ level_if r total n → new ≡ start ++ levels_text r total (n + 1)
 unfolding levels_text
 level_more r total start text new n so_far grown =
@@ -19,14 +20,17 @@ level_more r total start text new n so_far grown =
     ∙ append_assoc start (levels_text r total n) (level_if r total n))
 
 -- a piece, and what comes behind it
-pub onward : (start : List ℕ) {text new : List ℕ} (piece rest : List ℕ) → text ≡ start ++ piece → new ≡ text ++ rest
+pub onward : (start : List ℕ) {text new : List ℕ} (piece rest : List ℕ) → text ≡ start ++ piece
+    → new ≡ text ++ rest
     → new ≡ start ++ (piece ++ rest)
 onward start piece rest first behind = behind ∙ ap (λ t. t ++ rest) first ∙ append_assoc start piece rest
 
 -- the text of one thing more
-pub one_more : {X : Type 0} (f : X → List ℕ) (xs : List X) (i : ℕ) (x : X) (start : List ℕ) {text new : List ℕ}
+pub one_more : {X : Type 0} (f : X → List ℕ) (xs : List X) (i : ℕ) (x : X) (start : List ℕ)
+    {text new : List ℕ}
     → i < length xs → x ≡ get_or xs i x
-    → text ≡ start ++ flat_map f (take i xs) → new ≡ text ++ f x → new ≡ start ++ flat_map f (take (i + 1) xs)
+    → text ≡ start ++ flat_map f (take i xs) → new ≡ text ++ f x
+    → new ≡ start ++ flat_map f (take (i + 1) xs)
 one_more f xs i x start within is so_far grown =
     grown ∙ ap (λ t. t ++ f x) so_far ∙ flat_map_more f start (take i xs) x
     ∙ ap (λ ys. start ++ flat_map f ys) (ap (λ y. take i xs ++ y ∷ []) is ∙ sym (take_more xs i x within))

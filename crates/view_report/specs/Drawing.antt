@@ -1,5 +1,6 @@
 -- The map of a page: all zooms nested, names of the first, and marks (SVG 1.1 in HTML 5). Profile.
-use Rattle.std.specs.Prelude.{ℕ, zero, suc, ◌+◌, min, List, [], ◌++◌, Option, Some, None, if◌then◌else◌, ℤ, ◌-ℤ◌}
+use Rattle.std.specs.Prelude.{ℕ, zero, suc, ◌+◌, min, List, [], ◌++◌, Option, Some, None}
+use Rattle.std.specs.Prelude.{if◌then◌else◌, ℤ, ◌-ℤ◌}
 use Rattle.std.specs.Prelude.{codes, decimal, flat_map, unsigned_abs}
 use Rattle.std.specs.Fmt.{signed_decimal}
 use Rattle.std.specs.Option.{option_map_or}

@@ -1,5 +1,6 @@
 -- Who holds what: the rows of live packages, and of loans that came home (HTML 5). Profile.
-use Rattle.std.specs.Prelude.{ℕ, Bool, bytes_eq, List, [], ◌++◌, Option, Some, None, if◌then◌else◌, codes, decimal}
+use Rattle.std.specs.Prelude.{ℕ, Bool, bytes_eq, List, [], ◌++◌, Option, Some, None, if◌then◌else◌, codes}
+use Rattle.std.specs.Prelude.{decimal}
 use Rattle.std.specs.Option.{option_map_or}
 use Rattle.sheet_types.specs.Texts.{uuid_text}
 use Rattle.sheet_types.specs.declared.receipt.Receipt.{Receipt}

@@ -1,5 +1,6 @@
 -- The zooms that a map draws, and where a sheet stands in one. Numbers stay within 64 bits. Profile.
-use Rattle.std.specs.Prelude.{ℕ, ◌+◌, ◌-◌, ◌*◌, ◌/◌, ◌^◌, ◌==◌, nat_lt, min, List, [], ◌∷◌, Option, Some, None}
+use Rattle.std.specs.Prelude.{ℕ, ◌+◌, ◌-◌, ◌*◌, ◌/◌, ◌^◌, ◌==◌, nat_lt, min, List, []}
+use Rattle.std.specs.Prelude.{◌∷◌, Option, Some, None}
 use Rattle.std.specs.Prelude.{if◌then◌else◌, ℤ, pos, ◌+ℤ◌, ◌-ℤ◌, slice_index_or, unsigned_abs}
 use Rattle.sheet_types.specs.declared.frame.Frame.{Frame}
 use Rattle.view_map.specs.Layout.{layout_of}
@@ -45,8 +46,7 @@ level_of f total index zoom = record {
   index = index;
   finer = total - plus index 1;
   zoom = zoom;
-  layout =
-      layout_of f zoom;
+  layout = layout_of f zoom;
 }
 
 -- the zoom with so many coarser ones

@@ -8,7 +8,8 @@ all_lines =
     [] ∷ codes "<path class=\"s\" d=\"M-2 2L2 -2M0 8L8 0M6 10L10 6\"/>"
     ∷ codes "<path class=\"d\" d=\"M1 1h2v2h-2zM5 5h2v2h-2z\"/>"
     ∷ codes "<path class=\"s\" d=\"M0 2h8M0 6h8\"/>" ∷ codes "<path class=\"s\" d=\"M0 4h8M4 0v8\"/>"
-    ∷ codes "<path class=\"s\" d=\"M-2 6L2 10M0 0L8 8M6 -2L10 2\"/>" ∷ codes "<path class=\"s\" d=\"M2 0v8M6 0v8\"/>"
+    ∷ codes "<path class=\"s\" d=\"M-2 6L2 10M0 0L8 8M6 -2L10 2\"/>"
+    ∷ codes "<path class=\"s\" d=\"M2 0v8M6 0v8\"/>"
     ∷ []
 
 abbrev pub lines_of : ℕ → List ℕ

@@ -6,4 +6,5 @@ use Rattle.sheet_types.specs.Ordered.{entry}
 
 -- a map has for each key the place of the first entry that has it
 abbrev pub ArePlaces : {X S : Type 0} → (X → List ℕ) → HashMap (List ℕ) ℕ S → List X → Type 0
-ArePlaces key places xs = (id : List ℕ) → option_and_then (slice_get xs) (get bytes_eq places id) ≡ entry key id xs
+ArePlaces key places xs = (id : List ℕ) → option_and_then (slice_get xs) (get bytes_eq places id)
+    ≡ entry key id xs

@@ -24,8 +24,7 @@ thing_of holder i = record {
   holder = holder;
   identity = i.identity;
   about = about_of i.content;
-  size =
-      size i.content;
+  size = size i.content;
   fingerprint = fingerprint i.content;
 }
 

@@ -94,7 +94,8 @@ fn hashed_line(mut line: Vec<u8>, receipt: &Receipt) -> Result<Vec<u8>, AllocErr
 
 /// Hashes one receipt more, in the room of the line before it.
 fn add_receipt(line: Vec<u8>, hasher: &mut Sha256, receipt: &Receipt) -> Result<Vec<u8>, AllocError>
-    ensures { OnOk result ((m : List ℕ) → Holds256 hasher.old m → Holds256 hasher.new (m ++ hashed_line receipt.now)) }
+    ensures { OnOk result ((m : List ℕ) → Holds256 hasher.old m
+        → Holds256 hasher.new (m ++ hashed_line receipt.now)) }
 {
     let next = hashed_line(line, receipt)?;
     hasher.update(next.as_slice());

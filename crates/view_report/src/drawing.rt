@@ -1,5 +1,6 @@
 //! The map of a page: all zooms nested, names of the first, and marks (SVG 1.1 in HTML 5).
-ghost use Rattle.std.specs.Prelude.{◌≡◌, ◌++◌, ◌-ℤ◌, IfOk, IsTrue, flat_map, string_bytes, unsigned_abs};
+ghost use Rattle.std.specs.Prelude.{◌≡◌, ◌++◌, ◌-ℤ◌, IfOk, IsTrue, flat_map, string_bytes};
+ghost use Rattle.std.specs.Prelude.{unsigned_abs};
 ghost use Rattle.view_map.specs.Layout.{layout_of};
 ghost use Rattle.view_map.specs.Zooms.{default_zoom};
 ghost use Rattle.view_report.specs.Levels.{extent, inset_of, plus, share, start};
@@ -293,7 +294,8 @@ pub fn put_sides(
     by: u64,
     between: &str,
 ) -> Result<(), AllocError>
-    ensures { IfOk result (λ _. string_bytes text.new ≡ string_bytes text.old ++ sides_text layout.now by between.now) }
+    ensures { IfOk result (λ _. string_bytes text.new ≡ string_bytes text.old
+        ++ sides_text layout.now by between.now) }
 {
     put_count(text, times(by, times(layout.columns, layout.width)))?;
     put(text, between)?;
@@ -336,7 +338,8 @@ fn put_level_if(
 /// Puts all zooms that are drawn.
 fn put_levels(text: &mut String, register: &Register, total: u64) -> Result<(), AllocError>
     requires { IsTrue (is_good_frame register.now.frame) }
-    ensures { IfOk result (λ _. string_bytes text.new ≡ string_bytes text.old ++ levels_text register.now total total) }
+    ensures { IfOk result (λ _. string_bytes text.new ≡ string_bytes text.old
+        ++ levels_text register.now total total) }
 {
     for index in 0..total {
         put_level_if(text, register, total, index)?;
@@ -472,14 +475,16 @@ fn put_names(
 
 /// Where a point stands from the left of the map.
 pub fn x_share(frame: &Frame, x: i64) -> u64
-    ensures { result ≡ share (unsigned_abs (x -ℤ frame.now.min_x)) (unsigned_abs (frame.now.max_x -ℤ frame.now.min_x)) }
+    ensures { result ≡ share (unsigned_abs (x -ℤ frame.now.min_x))
+        (unsigned_abs (frame.now.max_x -ℤ frame.now.min_x)) }
 {
     share(x.abs_diff(frame.min_x), frame.max_x.abs_diff(frame.min_x))
 }
 
 /// Where it stands from the top.
 pub fn y_share(frame: &Frame, y: i64) -> u64
-    ensures { result ≡ share (unsigned_abs (frame.now.max_y -ℤ y)) (unsigned_abs (frame.now.max_y -ℤ frame.now.min_y)) }
+    ensures { result ≡ share (unsigned_abs (frame.now.max_y -ℤ y))
+        (unsigned_abs (frame.now.max_y -ℤ frame.now.min_y)) }
 {
     share(frame.max_y.abs_diff(y), frame.max_y.abs_diff(frame.min_y))
 }

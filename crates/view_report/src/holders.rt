@@ -84,7 +84,8 @@ pub(crate) fn put_end(
     end: Option<Uuid>,
     none: &str,
 ) -> Result<(), AllocError>
-    ensures { IfOk result (λ _. string_bytes text.new ≡ string_bytes text.old ++ end_text register.now end none.now) }
+    ensures { IfOk result (λ _. string_bytes text.new ≡ string_bytes text.old
+        ++ end_text register.now end none.now) }
 {
     match end {
         Some(id) => put_holder(text, register, id),

@@ -129,7 +129,8 @@ fn put_tie_if(
     holder: Uuid,
     tie: &Tie,
 ) -> Result<(), AllocError>
-    ensures { IfOk result (λ _. string_bytes text.new ≡ string_bytes text.old ++ tie_if register.now holder tie.now) }
+    ensures { IfOk result (λ _. string_bytes text.new ≡ string_bytes text.old
+        ++ tie_if register.now holder tie.now) }
 {
     if is_same(tie.holder, holder) {
         put_tie(text, register, tie)
@@ -160,7 +161,8 @@ pub fn put_ties(
 
 /// Puts all that a package holds.
 fn put_holding(text: &mut String, register: &Register, live: &Live) -> Result<(), AllocError>
-    ensures { IfOk result (λ _. string_bytes text.new ≡ string_bytes text.old ++ holding_text register.now live.now) }
+    ensures { IfOk result (λ _. string_bytes text.new ≡ string_bytes text.old
+        ++ holding_text register.now live.now) }
 {
     put(text, "<details id=\"d-")?;
     put_uuid(text, live.uuid)?;

@@ -267,7 +267,8 @@ fn put_some(text: &mut String, number: u64, one: &str, many: &str) -> Result<(),
 
 /// Puts it, where there are any.
 fn put_amount(text: &mut String, number: u64, one: &str, many: &str) -> Result<(), AllocError>
-    ensures { IfOk result (λ _. string_bytes text.new ≡ string_bytes text.old ++ amount_text number one.now many.now) }
+    ensures { IfOk result (λ _. string_bytes text.new ≡ string_bytes text.old
+        ++ amount_text number one.now many.now) }
 {
     if number == 0 {
         Ok(())

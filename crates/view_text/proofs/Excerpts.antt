@@ -1,5 +1,6 @@
 -- Receipts that were chosen by their places are those that are asked for.
-use Rattle.std.proofs.Common.{◌≡◌, ◌∙◌, ℕ, List, [], ◌∷◌, ◌++◌, refl, ap, sym, map, length, drop}
+use Rattle.std.proofs.Common.{◌≡◌, ◌∙◌, ℕ, List, [], ◌∷◌, ◌++◌, refl, ap, sym, map, length}
+use Rattle.std.proofs.Common.{drop}
 use Rattle.std.specs.Borrow.{Bor}
 use Rattle.std.specs.Prelude.{Option, flat_map}
 use Rattle.std.proofs.lemmas.List.{drop-map, length-map}
@@ -19,4 +20,5 @@ pub last_behind : (found : List (Bor Receipt)) (asked : List Receipt) (last : Op
 last_behind found asked last are =
     let start = passed last (length found) in
     sym (drop-map (λ (r : Bor Receipt). r.now) start found) ∙ ap (drop start) are
-    ∙ ap (λ n. drop n asked) (ap (passed last) (sym (length-map found (λ (r : Bor Receipt). r.now)) ∙ ap length are))
+    ∙ ap (λ n. drop n asked) (ap (passed last) (sym (length-map found (λ (r : Bor Receipt). r.now))
+    ∙ ap length are))

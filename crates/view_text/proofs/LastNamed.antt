@@ -18,14 +18,16 @@ last_of-snoc y [] = refl
 last_of-snoc y (x ∷ xs) = ap Some (last_or-snoc x y xs)
 
 -- one that passes is the last
-pub last_passes : {X : Type 0} (p : X → Bool) (xs : List X) (x : X) → p x ≡ true → last_where p (xs ++ x ∷ []) ≡ Some x
+pub last_passes : {X : Type 0} (p : X → Bool) (xs : List X) (x : X) → p x ≡ true
+    → last_where p (xs ++ x ∷ []) ≡ Some x
 last_passes p xs x e = ap last_of (filter-append p xs (x ∷ [])
     ∙ ap (λ b. filter p xs ++ (if b then x ∷ [] else [])) e) ∙ last_of-snoc x (filter p xs)
 
 -- one that does not leaves the last as it was
 pub last_stays : {X : Type 0} (p : X → Bool) (xs : List X) (x : X) → p x ≡ false
     → last_where p (xs ++ x ∷ []) ≡ last_where p xs
-last_stays p xs x e = ap last_of (filter-append p xs (x ∷ []) ∙ ap (λ b. filter p xs ++ (if b then x ∷ [] else [])) e
+last_stays p xs x e = ap last_of (filter-append p xs (x ∷ [])
+    ∙ ap (λ b. filter p xs ++ (if b then x ∷ [] else [])) e
     ∙ append-nil (filter p xs))
 
 pub place_moves : (id : List ℕ) (rs : List Receipt) (r : Receipt) → names_identity id r ≡ true

@@ -1,6 +1,7 @@
 -- In a register, the last receipt that names an item is the last that names the thing of which custody is kept.
 use Rattle.std.proofs.Common.{◌≡◌, ◌∙◌, ℕ, List, [], ◌∷◌, ◌++◌, refl, sym, ap, subst}
-use Rattle.std.specs.Prelude.{◌↔◌, ◌&&◌, ◌||◌, Bool, true, bytes_eq, cond, filter, is_some, IsTrue, MatchBool, None}
+use Rattle.std.specs.Prelude.{◌↔◌, ◌&&◌, ◌||◌, Bool, true, bytes_eq, cond, filter, is_some, IsTrue}
+use Rattle.std.specs.Prelude.{MatchBool, None}
 use Rattle.std.specs.Prelude.{Option, Some, unwrap_or}
 use Rattle.std.specs.List.{AllByRecursion, list_any}
 use Rattle.std.specs.Option.{option_and_then}
@@ -29,7 +30,8 @@ as_item id base other none = ap (λ l. bytes_eq l id) (sym (append-nil base))
 by_kind : (id : List ℕ) (kind : MovedKind) (base : List ℕ) (other print : Option (List ℕ)) (size : ℕ)
     → MatchBool (is_item_kind kind) ((other ≡ None) × (is_some print ≡ true))
     ((is_some other ≡ true) × (size ≡ 0) × (print ≡ None))
-    → (is_item_kind kind && bytes_eq base id) ≡ bytes_eq (thing_number kind ∷ base ++ unwrap_or other []) (0 ∷ id)
+    → (is_item_kind kind && bytes_eq base id) ≡ bytes_eq (thing_number kind ∷ base ++ unwrap_or other [])
+    (0 ∷ id)
 by_kind id TileItem base other print size is = as_item id base other is.0
 by_kind id MediaItem base other print size is = as_item id base other is.0
 by_kind id RowItem base other print size is = as_item id base other is.0
@@ -54,7 +56,8 @@ named_same : (id : List ℕ) (rs : List Receipt) → AllByRecursion (λ r. AllBy
     → AllByRecursion (λ r. names_identity id r ≡ names (0 ∷ id) r) rs
 named_same id rs things =
     All-weaker (λ r. AllByRecursion IsThing r.items) (λ r. names_identity id r ≡ names (0 ∷ id) r)
-    (λ r is. any_same (λ m. is_item_kind m.kind && bytes_eq m.base id) (λ m. bytes_eq (moved_thing m) (0 ∷ id)) r.items
+    (λ r is. any_same (λ m. is_item_kind m.kind && bytes_eq m.base id) (λ m. bytes_eq (moved_thing m) (0 ∷ id))
+    r.items
     (All-weaker IsThing (λ m. (is_item_kind m.kind && bytes_eq m.base id) ≡ bytes_eq (moved_thing m) (0 ∷ id))
     (λ m thing. by_kind id m.kind m.base m.other m.fingerprint m.size thing) r.items is)) rs things
 

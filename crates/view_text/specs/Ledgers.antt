@@ -1,5 +1,6 @@
 -- The ledger as a table: a line of headings, and a line for each receipt that is asked for. Profile.
-use Rattle.std.specs.Prelude.{ℕ, ◌-◌, Bool, true, false, ◌&&◌, ◌||◌, nat_le, List, ◌++◌, codes, decimal, drop, filter}
+use Rattle.std.specs.Prelude.{ℕ, ◌-◌, Bool, true, false, ◌&&◌, ◌||◌, nat_le, List, ◌++◌, codes}
+use Rattle.std.specs.Prelude.{decimal, drop, filter}
 use Rattle.std.specs.Prelude.{flat_map, length, Option, Some, None}
 use Rattle.sheet_types.specs.Texts.{uuid_text}
 use Rattle.sheet_types.specs.declared.receipt.Receipt.{Receipt}

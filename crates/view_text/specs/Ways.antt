@@ -1,6 +1,7 @@
 -- The way of an item through the packages: a line for each receipt that names its identity, and where it stands now.
 -- Profile.
-use Rattle.std.specs.Prelude.{ℕ, Bool, not, ◌&&◌, ◌||◌, ◌==◌, bytes_eq, if◌then◌else◌, List, ◌++◌, codes, decimal}
+use Rattle.std.specs.Prelude.{ℕ, Bool, not, ◌&&◌, ◌||◌, ◌==◌, bytes_eq, if◌then◌else◌, List}
+use Rattle.std.specs.Prelude.{◌++◌, codes, decimal}
 use Rattle.std.specs.Prelude.{filter, flat_map, Option}
 use Rattle.std.specs.List.{list_any, before_first}
 use Rattle.std.specs.Option.{option_and_then, option_map_or}

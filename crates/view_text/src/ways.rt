@@ -1,5 +1,6 @@
 //! The way of an item through the packages, as receipts tell it.
-ghost use Rattle.std.specs.Prelude.{◌≡◌, ◌++◌, ◌∷◌, [], ℕ, List, true, false, IfOk, MatchOption, string_bytes};
+ghost use Rattle.std.specs.Prelude.{◌≡◌, ◌++◌, ◌∷◌, [], ℕ, List, true, false, IfOk, MatchOption};
+ghost use Rattle.std.specs.Prelude.{string_bytes};
 ghost use Rattle.std.specs.List.{before_first, list_any};
 ghost use Rattle.sheet_types.specs.Balance.{names_identity};
 ghost use Rattle.sheet_types.specs.Custody.{ends_at};

@@ -1,5 +1,6 @@
 -- What packages answered, one after the other.
-use Rattle.std.proofs.Common.{◌≡◌, ◌∙◌, ◌<◌, ◌+◌, ◌++◌, ◌∷◌, [], ℕ, List, Result, Ok, Err, IfOk, ap, subst, sym}
+use Rattle.std.proofs.Common.{◌≡◌, ◌∙◌, ◌<◌, ◌+◌, ◌++◌, ◌∷◌, [], ℕ, List, Result, Ok}
+use Rattle.std.proofs.Common.{Err, IfOk, ap, subst, sym}
 use Rattle.std.proofs.Common.{length, take, get_or, map, arith}
 use Rattle.std.specs.List.{AllByRecursion, AllZip}
 use Rattle.std.proofs.lemmas.List.{take_more}
@@ -39,7 +40,8 @@ module _ {A : Type 0} (Tells : Package → A → Type 0) where
       (one_behind w (take i sights) xs s x so_far here)
 
   -- a package of a world is what the world has under its UUID
-  each_held : (w : World) → IsArranged package_key w.packages → AllByRecursion (λ x. holdings w x.uuid ≡ x) w.packages
+  each_held : (w : World) → IsArranged package_key w.packages
+      → AllByRecursion (λ x. holdings w x.uuid ≡ x) w.packages
   each_held w order = all_live_at w (λ x. holdings w x.uuid ≡ x) order (λ p live.
       let own : (holdings w p).uuid ≡ p =
       (at_all w (λ _. Unit {0}) p (All-each (λ _. Unit {0}) (λ _. tt) w.packages) live).1 in

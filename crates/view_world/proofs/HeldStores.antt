@@ -1,5 +1,6 @@
 -- The stores of a world that can be used are those of its packages.
-use Rattle.std.proofs.Common.{◌≡◌, ◌∙◌, suc, List, [], ◌∷◌, ◌++◌, map, length, length-append, refl, sym, ap, subst}
+use Rattle.std.proofs.Common.{◌≡◌, ◌∙◌, suc, List, [], ◌∷◌, ◌++◌, map, length, length-append}
+use Rattle.std.proofs.Common.{refl, sym, ap, subst}
 use Rattle.std.proofs.Common.{inr, Result, Ok, Err, IsErr, arith}
 use Rattle.std.specs.Prelude.{IfOk}
 use Rattle.std.specs.List.{AllZip}
@@ -43,7 +44,8 @@ module _ {S : Type 0} (g : Ghosts S) where
       (read_members w seen.members w.packages stands.members.each)
 
   -- what was asked of them is true of the world
-  pub looks_into : {X E : Type 0} (Given : List Package → X → Type 0) {Answer : World → X → Type 0} (seen : Seen S)
+  pub looks_into : {X E : Type 0} (Given : List Package → X → Type 0) {Answer : World → X → Type 0}
+      (seen : Seen S)
       (stores : List (Held S)) (r : Result X E)
       → IfOk r (λ x. (w : World) → StandsFor g seen w → length (held g seen) ≡ length w.packages)
       → ((w : World) (x : X) → StandsFor g seen w → Given w.packages x → Answer w x)

@@ -1,5 +1,6 @@
 -- The rows of the table are those of the world's packages.
-use Rattle.std.proofs.Common.{◌≡◌, ◌∙◌, ℕ, zero, suc, ◌+◌, ◌<◌, List, [], ◌∷◌, ◌++◌, map, refl, sym, ap, subst}
+use Rattle.std.proofs.Common.{◌≡◌, ◌∙◌, ℕ, zero, suc, ◌+◌, ◌<◌, List, [], ◌∷◌, ◌++◌}
+use Rattle.std.proofs.Common.{map, refl, sym, ap, subst}
 use Rattle.std.proofs.Common.{length, take, get_or, arith}
 use Rattle.std.specs.Prelude.{true, Option, Some, None, slice_get}
 use Rattle.std.specs.List.{AllByRecursion}
@@ -39,7 +40,8 @@ pub at_both : {A P X : Type 0} (h : A → X) (f : P → X) (xs : List A) (ps : L
     → map h xs ≡ map f ps → slice_get xs i ≡ Some x → (p : P) × (slice_get ps i ≡ Some p) × (h x ≡ f p)
 unfolding front behind
 at_both h f [] ps i x e is = absurd (None≢Some is)
-at_both h f (a ∷ rest) [] i x e is = absurd (let long : length (h a ∷ map h rest) ≡ 0 = ap length e in omega arith)
+at_both h f (a ∷ rest) [] i x e is = absurd (let long : length (h a ∷ map h rest) ≡ 0 =
+    ap length e in omega arith)
 at_both h f (a ∷ rest) (p ∷ ps) zero x e is = (p, refl, ap h (some_same (sym is)) ∙ ap (front (h a)) e)
 at_both h f (a ∷ rest) (p ∷ ps) (suc i) x e is = at_both h f rest ps i x (ap behind e) is
 
@@ -74,15 +76,18 @@ each_itself w order = all_live_at w (λ x. sums_of w x.uuid ≡ Some (sums_held 
     (at_all w (λ _. Unit {0}) p (All-each (λ _. Unit {0}) (λ _. tt) w.packages) live).1 in
     ap (sums_of w) own ∙ ap (λ b. then_some b (sums_held (holdings w p))) live)
 
-map_each : {X Y : Type 0} (f h : X → Y) (xs : List X) → AllByRecursion (λ x. f x ≡ h x) xs → map f xs ≡ map h xs
+map_each : {X Y : Type 0} (f h : X → Y) (xs : List X) → AllByRecursion (λ x. f x ≡ h x) xs
+    → map f xs ≡ map h xs
 map_each f h [] each = refl
 map_each f h (x ∷ xs) each = let rest : map f xs ≡ map h xs = map_each f h xs each.1 in λ n. each.0 n ∷ rest n
 
 all_some : {X : Type 0} (xs ys : List X) → map (λ x. Some x) xs ≡ map (λ x. Some x) ys → xs ≡ ys
 unfolding front behind
 all_some [] [] e = refl
-all_some [] (y ∷ ys) e = absurd (let long : 0 ≡ length (Some y ∷ map (λ z. Some z) ys) = ap length e in omega arith)
-all_some (x ∷ xs) [] e = absurd (let long : length (Some x ∷ map (λ z. Some z) xs) ≡ 0 = ap length e in omega arith)
+all_some [] (y ∷ ys) e = absurd (let long : 0 ≡ length (Some y ∷ map (λ z. Some z) ys) =
+    ap length e in omega arith)
+all_some (x ∷ xs) [] e = absurd (let long : length (Some x ∷ map (λ z. Some z) xs) ≡ 0 =
+    ap length e in omega arith)
 all_some {X} (x ∷ xs) (y ∷ ys) e =
     let here : x ≡ y = some_same (ap (front (Some x)) e) in
     let rest : xs ≡ ys = all_some xs ys (ap behind e) in

@@ -20,7 +20,8 @@ fn ask_one<S: Alter + Drop, A: Drop, Q: Question<S, A>>(
     package: Uuid,
     question: &Q,
 ) -> Result<A, Fault>
-    ensures told { TellsOf S.Store (λ w x. Q.tells question.now (holdings w «package») x) world.old world.new result }
+    ensures told { TellsOf S.Store (λ w x. Q.tells question.now (holdings w «package») x) world.old world.new
+        result }
     ensures read { IsRead S.Store world.old world.new }
 {
     match world.ask(alloc, package, question)? {

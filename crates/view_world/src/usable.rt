@@ -21,7 +21,8 @@ pub fn usable<S: Alter + Drop>(world: &World<S>) -> Result<(), Fault> {
 
 /// How many packages a world has that has not failed.
 pub(crate) fn count_of<S: Alter + Drop>(alloc: Global, world: &World<S>) -> Result<usize, Fault>
-    ensures { IfOk result (λ count. (w : ModelWorld) → StandsFor S.Store world.now w → count ≡ length w.packages) }
+    ensures { IfOk result (λ count. (w : ModelWorld) → StandsFor S.Store world.now w
+        → count ≡ length w.packages) }
 {
     usable(world)?;
     let sights = world.packages(alloc)?;

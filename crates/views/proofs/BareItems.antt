@@ -1,5 +1,6 @@
 -- Items of the same kinds and identities have the same numbers.
-use Rattle.std.proofs.Common.{◌≡◌, ◌<◌, ◌∙◌, refl, ℕ, length, take, List, [], ◌∷◌, ◌++◌, ◌+◌, map, true, ap, sym}
+use Rattle.std.proofs.Common.{◌≡◌, ◌<◌, ◌∙◌, refl, ℕ, length, take, List, [], ◌∷◌, ◌++◌}
+use Rattle.std.proofs.Common.{◌+◌, map, true, ap, sym}
 use Rattle.std.proofs.Common.{subst, get_or, drop}
 use Rattle.std.specs.Prelude.{bytes_eq, if◌then◌else◌}
 use Rattle.std.specs.List.{AllZip}
@@ -52,7 +53,8 @@ numbers_alike c (m ∷ told) (b ∷ bares) (i ∷ items) each e id =
     let bare = each.0 i head in
     let alike = alike_counted c b.content i.content bare.1 in
     let later : number_behind (counted c b.content) bares id ≡ number_behind (counted c i.content) items id =
-    ap (λ k. number_behind k bares id) alike.0 ∙ numbers_alike (counted c i.content) told bares items each.1 rest id in
+    ap (λ k. number_behind k bares id) alike.0 ∙ numbers_alike (counted c i.content) told bares items each.1 rest
+    id in
     ap (λ k. if bytes_eq k id then next_number c b.content else number_behind (counted c b.content) bares id) bare.0
     ∙ ap (λ n. if bytes_eq i.identity id then n else number_behind (counted c b.content) bares id) alike.1
     ∙ ap (λ n. if bytes_eq i.identity id then next_number c i.content else n) later
@@ -64,7 +66,8 @@ numbers_of_told told bares items each e id = numbers_alike no_counts told bares 
 
 -- one more of those that a loop goes over, and what was made of it
 pub zip_more : {A B : Type 0} (R : A → B → Type 0) (rows : List A) (i : ℕ) (row : A) (made now : List B) (x : B)
-    → i < length rows → row ≡ get_or rows i row → now ≡ made ++ x ∷ [] → AllZip R (take i rows) made → R row x
+    → i < length rows → row ≡ get_or rows i row → now ≡ made ++ x ∷ [] → AllZip R (take i rows) made
+    → R row x
     → AllZip R (take (i + 1) rows) now
 zip_more R rows i row made now x less is pushed all one =
     let cut : take (i + 1) rows ≡ take i rows ++ row ∷ [] = take_more rows i row less

@@ -1,5 +1,6 @@
 -- What went out of a text of several pieces.
-use Rattle.std.proofs.Common.{◌≡◌, ◌<◌, ◌≤◌, ◌++◌, ℕ, List, length, length-append, take_all, Option, Result, Ok, Err}
+use Rattle.std.proofs.Common.{◌≡◌, ◌<◌, ◌≤◌, ◌++◌, ℕ, List, length, length-append, take_all}
+use Rattle.std.proofs.Common.{Option, Result, Ok, Err}
 use Rattle.std.proofs.Common.{OnErr, arith, refl, sym, subst}
 use Rattle.std.proofs.lemmas.List.{take-append-le}
 use Rattle.std.proofs.KnownBytes.{Appends-nil, Appends-trans}
@@ -44,7 +45,8 @@ began_within a b c all sent piece text more left is joined split p q =
     began_of a c all (subst (WentOut a c) (sym split) (went_out_of a c more left both))
 
 -- all of it
-pub sent_too : (a b c : Option (List ℕ)) (sent piece text more : List ℕ) → text ≡ piece → more ≡ sent ++ piece
+pub sent_too : (a b c : Option (List ℕ)) (sent piece text more : List ℕ) → text ≡ piece
+    → more ≡ sent ++ piece
     → Appends a b sent → Appends b c text → Appends a c more
 sent_too a b c sent piece text more is joined p q =
     subst (Appends a c) (sym joined) (Appends-trans a b c sent piece p (subst (Appends b c) is q))

@@ -1,5 +1,6 @@
 -- What was written of a live package is its export, or a beginning of it.
-use Rattle.std.proofs.Common.{◌≡◌, ◌∙◌, ℕ, List, Option, Some, unwrap_or, Result, Ok, Err, OnOk, OnErr, Bool, true}
+use Rattle.std.proofs.Common.{◌≡◌, ◌∙◌, ℕ, List, Option, Some, unwrap_or, Result, Ok, Err, OnOk, OnErr}
+use Rattle.std.proofs.Common.{Bool, true}
 use Rattle.std.proofs.Common.{false, flat_map, ap, refl, subst}
 use Rattle.std.specs.Bool.{then_some}
 use Rattle.std.specs.Io.KnownBytes.{Appends}
@@ -37,7 +38,8 @@ export_same w p f n items links frame number same_items same_links =
 
 pub live_written : (w : World) (p : List ℕ) (a b : Option (List ℕ)) (r : Result (Unit {0}) ManifestFault)
     → is_live w p ≡ true
-    → OnOk r (Appends a b (export w p)) → OnErr r (WentOut a b (export w p)) → IsOfLive r → WritesExport w p a b r
+    → OnOk r (Appends a b (export w p)) → OnErr r (WentOut a b (export w p)) → IsOfLive r
+    → WritesExport w p a b r
 live_written w p a b (Ok x) live ok err of = (live, ok)
 live_written w p a b (Err Unknown) live ok err of = absurd of
 live_written w p a b (Err (Failed fault)) live ok err of = err

@@ -1,5 +1,6 @@
 -- What is drawn of packages, one after the other.
-use Rattle.std.proofs.Common.{◌≡◌, ◌∙◌, ◌<◌, ◌+◌, ◌++◌, ◌∷◌, [], ℕ, ℤ, List, Result, Ok, Err, IfOk, refl, ap, subst}
+use Rattle.std.proofs.Common.{◌≡◌, ◌∙◌, ◌<◌, ◌+◌, ◌++◌, ◌∷◌, [], ℕ, ℤ, List, Result}
+use Rattle.std.proofs.Common.{Ok, Err, IfOk, refl, ap, subst}
 use Rattle.std.proofs.Common.{sym, length, take, get_or, map}
 use Rattle.std.specs.Prelude.{flat_map}
 use Rattle.std.specs.List.{AllZip}
@@ -33,7 +34,8 @@ one_behind : (w : World) (zoom : ℤ) (sights : List PackageSight) (hs : List Ho
 one_behind w zoom [] [] s h each here = (here, tt)
 one_behind w zoom [] (first ∷ hs) s h each here = absurd each
 one_behind w zoom (first ∷ sights) [] s h each here = absurd each
-one_behind w zoom (first ∷ sights) (first' ∷ hs) s h each here = (each.0, one_behind w zoom sights hs s h each.1 here)
+one_behind w zoom (first ∷ sights) (first' ∷ hs) s h each here =
+    (each.0, one_behind w zoom sights hs s h each.1 here)
 
 pub one_more : (w : World) (zoom : ℤ) (sights : List PackageSight) (hs : List Holder) (i : ℕ) (s : PackageSight)
     (h : Holder) → i < length sights → s ≡ get_or sights i s

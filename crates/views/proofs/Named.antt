@@ -18,7 +18,8 @@ module _ {S : Type 0} (g : Ghosts S) {T : Type 0} (bytes : T → List ℕ) (word
   pub tells_named : (found : Result T NameFault)
       → TellsOf g (λ w r. MatchResult r (λ t. IsNamedData w word (bytes t))
       (λ fault. the_item (world_items w) word ≡ Err fault)) old new (answered found)
-      → TellsOf g (λ w r. MatchResult r (IsNamedData w word) (λ fault. the_item (world_items w) word ≡ Err fault)) old
+      → TellsOf g (λ w r. MatchResult r (IsNamedData w word)
+      (λ fault. the_item (world_items w) word ≡ Err fault)) old
       new (answered (named found bytes))
   tells_named (Ok t) it = it
   tells_named (Err fault) it = it

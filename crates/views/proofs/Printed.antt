@@ -21,7 +21,8 @@ module _ (w : World) (f : Frame) (asked : Option ℤ) (zoom : ℤ) (frame : f �
   drawn = is ∙ ap (λ x. drawn_zoom x asked) frame
 
   pub has_zoom : has_level f zoom ≡ true → HasZoom w asked
-  has_zoom level = subst (λ z. has_level w.frame z ≡ true) drawn (subst (λ x. has_level x zoom ≡ true) frame level)
+  has_zoom level = subst (λ z. has_level w.frame z ≡ true) drawn
+      (subst (λ x. has_level x zoom ≡ true) frame level)
 
   pub is_map : (text : List ℕ) → IsWorldMap w zoom text → IsMap w asked text
   is_map text map = subst (λ z. IsWorldMap w z text) drawn map

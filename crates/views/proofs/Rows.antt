@@ -1,5 +1,6 @@
 -- Rows of items, and of links, part after part.
-use Rattle.std.specs.Prelude.{◌≡◌, ◌<◌, ◌≤◌, ◌+◌, ◌++◌, ℕ, List, [], ◌∷◌, length, take, drop, flat_map, refl}
+use Rattle.std.specs.Prelude.{◌≡◌, ◌<◌, ◌≤◌, ◌+◌, ◌++◌, ℕ, List, [], ◌∷◌, length}
+use Rattle.std.specs.Prelude.{take, drop, flat_map, refl}
 use Rattle.std.proofs.Common.{ap, arith, sym, ◌∙◌, get_or, append_assoc, append-nil, take-append-drop}
 use Rattle.std.proofs.lemmas.Grind.{flat_map-append}
 use Rattle.sheet_types.specs.declared.command.Content.{Content}
@@ -55,7 +56,8 @@ items_more f items i item c lt is so_far =
 
 -- none of the counts is past the number of items
 pub counted_within : (c : Counts) (content : Content) (n : ℕ) → c.tiles ≤ n → c.media ≤ n → c.rows ≤ n
-    → ((counted c content).tiles ≤ n + 1) × ((counted c content).media ≤ n + 1) × ((counted c content).rows ≤ n + 1)
+    → ((counted c content).tiles ≤ n + 1) × ((counted c content).media ≤ n + 1)
+    × ((counted c content).rows ≤ n + 1)
 counted_within c (Tile zoom column row bytes) n tiles media rows =
     (omega (arith, tiles), omega (arith, media), omega (arith, rows))
 counted_within c (Media content_type bytes) n tiles media rows =
@@ -81,7 +83,8 @@ items_split f items i =
 
 pub links_more : (items : List Item) (links : List Relation) (i : ℕ) (link : Relation) → i < length links
     → link ≡ get_or links i link
-    → flat_map (link_row items) (take (i + 1) links) ≡ flat_map (link_row items) (take i links) ++ link_row items link
+    → flat_map (link_row items) (take (i + 1) links) ≡ flat_map (link_row items) (take i links)
+    ++ link_row items link
 links_more items links i link lt is =
     ap (flat_map (link_row items)) (one_more links i link lt is)
     ∙ flat_map-append (link_row items) (take i links) (link ∷ [])

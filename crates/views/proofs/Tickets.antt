@@ -1,5 +1,6 @@
 -- The ticket of a live package, by the list of packages.
-use Rattle.std.specs.Prelude.{◌≡◌, ℕ, Bool, true, false, ◌||◌, List, [], ◌∷◌, map, None, Some, bytes_eq, refl}
+use Rattle.std.specs.Prelude.{◌≡◌, ℕ, Bool, true, false, ◌||◌, List, [], ◌∷◌, map, None, Some}
+use Rattle.std.specs.Prelude.{bytes_eq, refl}
 use Rattle.std.specs.List.{AllByRecursion, list_any}
 use Rattle.std.proofs.Common.{◌∙◌, ap, sym}
 use Rattle.std.proofs.lemmas.Bool.{false≢true}
@@ -29,7 +30,8 @@ each_says w (s ∷ sights) (p ∷ packages) same =
 -- a package that is live is among them
 is_there : (w : World) (p : List ℕ) (sights : List PackageSight) (packages : List Package)
     → map sight_of sights ≡ map (seen w) packages
-    → list_any (λ (s : PackageSight). bytes_eq s.uuid p) sights ≡ list_any (λ x. bytes_eq (package_key x) p) packages
+    → list_any (λ (s : PackageSight). bytes_eq s.uuid p) sights
+    ≡ list_any (λ x. bytes_eq (package_key x) p) packages
 is_there w p [] [] same = refl
 is_there w p [] (x ∷ packages) same = absurd (cc)
 is_there w p (s ∷ sights) [] same = absurd (cc)
@@ -43,7 +45,8 @@ pub ticket_seen : (w : World) (p : List ℕ) (sights : List PackageSight) (s : P
     → map sight_of sights ≡ package_sights w
     → entry (λ (s : PackageSight). s.uuid) p sights ≡ Some s → s.ticket ≡ ticket w p
 ticket_seen w p sights s same found =
-    let said = All-found (λ (s : PackageSight). s.ticket ≡ ticket w s.uuid) (λ (s : PackageSight). bytes_eq s.uuid p)
+    let said = All-found (λ (s : PackageSight). s.ticket ≡ ticket w s.uuid)
+    (λ (s : PackageSight). bytes_eq s.uuid p)
     s sights found (each_says w sights w.packages same) in
     said.0 ∙ ap (ticket w) ((bytes_eq-Decides s.uuid p).0 said.1)
 

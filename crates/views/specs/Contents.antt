@@ -26,7 +26,8 @@ module _ {W : Type 0} (writer writer' : W) (before after : Option (List ℕ)) wh
   -- The line by which a word names no item; or memory is wanting for it, and nothing is written.
   abbrev pub TellsUnfound : NameFault → Ending → Type 0
   TellsUnfound fault ending =
-      ((told : CommandEnding) × (ending ≡ Usual told) × Prints (verb_line (Unfound fault)) NoRequest before after told)
+      ((told : CommandEnding) × (ending ≡ Usual told) × Prints (verb_line (Unfound fault)) NoRequest before after
+      told)
       ⊎ ((ending ≡ Usual no_memory) × (writer' ≡ writer))
 
   -- the bytes that were found, to the last

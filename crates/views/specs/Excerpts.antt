@@ -22,4 +22,5 @@ AsksLast (Some text) (Some last) = IsCount text last
 
 abbrev pub AsksExcerpt : LogWords → Excerpt → Type 0
 AsksExcerpt words e =
-    (e.«package» ≡ words.«package») × AsksFrom (text_of words.from) e.from × AsksLast (text_of words.last) e.last
+    (e.«package» ≡ words.«package») × AsksFrom (text_of words.from) e.from
+    × AsksLast (text_of words.last) e.last

@@ -21,7 +21,8 @@ abbrev pub IsMap : World → Option ℤ → List ℕ → Type 0
 IsMap w asked text = IsWorldMap w (drawn_zoom w.frame asked) text
 
 -- The map is written whole, or a beginning of it where the writer failed; none of a zoom that the frame does not have.
-abbrev pub PrintsMap : World → Option ℤ → Option (List ℕ) → Option (List ℕ) → Result (Unit {0}) MapFault → Type 0
+abbrev pub PrintsMap : World → Option ℤ → Option (List ℕ) → Option (List ℕ) → Result (Unit {0}) MapFault
+    → Type 0
 PrintsMap w asked before after (Ok x) =
     HasZoom w asked × ((text : List ℕ) × IsMap w asked text × Appends before after text)
 PrintsMap w asked before after (Err NoSuchZoom) = has_level w.frame (drawn_zoom w.frame asked) ≡ false

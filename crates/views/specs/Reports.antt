@@ -30,14 +30,16 @@ IsUntold ending = (ending ≡ Faulted (Fault fault.OutOfMemory)) ⊎ (ending ≡
 
 module _ {S : Type 0} (g : Ghosts S) where
   -- what is written of a package, and how the program ends then
-  abbrev pub EndsManifest : {W : Type 0} → List ℕ → Seen S → Seen S → W → W → Option (List ℕ) → Option (List ℕ)
+  abbrev pub EndsManifest : {W : Type 0} → List ℕ → Seen S → Seen S → W → W → Option (List ℕ)
+      → Option (List ℕ)
       → Ending → Type 0
   EndsManifest p old new writer writer' before after ending =
       (r : Result (Unit {0}) ManifestFault) × (ending ≡ manifest_ending r) × IsRead g old new
       × IsManifest g p old new before after r × WritesNothing writer writer' r
 
   -- the line of a world whose packages are good
-  abbrev pub Audits : {W : Type 0} → Seen S → W → W → Option (List ℕ) → Option (List ℕ) → Ending → Type 0
+  abbrev pub Audits : {W : Type 0} → Seen S → W → W → Option (List ℕ) → Option (List ℕ) → Ending
+      → Type 0
   Audits seen writer writer' before after ending =
       ((w : World) → StandsFor g seen w → Prints (good_line (last_receipt w)) done before after ending)
       ⊎ (IsUntold ending × (writer' ≡ writer))

@@ -29,14 +29,16 @@ told_if bytes (Ok found) = Ok (option_map bytes found)
 told_if bytes (Err fault) = Err fault
 
 -- A text that was found is printed. Where there is none, nothing is, and the program ends so.
-abbrev pub Shows : {W : Type 0} → Result (Option (List ℕ)) Fault → Ending → W → W → Option (List ℕ) → Option (List ℕ)
+abbrev pub Shows : {W : Type 0} → Result (Option (List ℕ)) Fault → Ending → W → W → Option (List ℕ)
+    → Option (List ℕ)
     → Ending → Type 0
 Shows (Ok (Some text)) none writer writer' before after ending = PrintsAll text before after ending
 Shows (Ok None) none writer writer' before after ending = (ending ≡ none) × (writer' ≡ writer)
 Shows (Err fault) none writer writer' before after ending = (ending ≡ stopped fault) × (writer' ≡ writer)
 
 -- The same of a text that is always there.
-abbrev pub ShowsText : {W : Type 0} → Result (List ℕ) Fault → W → W → Option (List ℕ) → Option (List ℕ) → Ending
+abbrev pub ShowsText : {W : Type 0} → Result (List ℕ) Fault → W → W → Option (List ℕ)
+    → Option (List ℕ) → Ending
     → Type 0
 ShowsText (Ok text) writer writer' before after ending = PrintsAll text before after ending
 ShowsText (Err fault) writer writer' before after ending = (ending ≡ stopped fault) × (writer' ≡ writer)

@@ -20,7 +20,8 @@ abbrev pub export : World → List ℕ → List ℕ
 export w p = export_text w.frame p (ticket w p) (holdings w p).items (holdings w p).links
 
 -- A live package's SQL is written whole, or a beginning of it where memory, a store or the writer gave out.
-abbrev pub WritesExport : World → List ℕ → Option (List ℕ) → Option (List ℕ) → Result (Unit {0}) ManifestFault → Type 0
+abbrev pub WritesExport : World → List ℕ → Option (List ℕ) → Option (List ℕ)
+    → Result (Unit {0}) ManifestFault → Type 0
 WritesExport w p before after (Ok x) = (is_live w p ≡ true) × Appends before after (export w p)
 WritesExport w p before after (Err Unknown) = is_live w p ≡ false
 WritesExport w p before after (Err (Failed fault)) = WentOut before after (export w p)

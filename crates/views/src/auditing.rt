@@ -28,7 +28,8 @@ fn last_ticket(sights: &[PackageSight]) -> u64
 
 /// The number of all receipts of a world, which is that of the last one: it names a package that is live since.
 fn receipts_of<S: Alter + Drop>(alloc: Global, world: &World<S>) -> Result<u64, Fault>
-    ensures { IfOk result (λ receipts. (w : ModelWorld) → StandsFor S.Store world.now w → receipts ≡ last_receipt w) }
+    ensures { IfOk result (λ receipts. (w : ModelWorld) → StandsFor S.Store world.now w
+        → receipts ≡ last_receipt w) }
 {
     let sights = world.packages(alloc)?;
     Ok(last_ticket(sights.as_slice()))

@@ -1,6 +1,6 @@
 //! What the program `sheetdesk` shows of a folder of packages: subcommands that read and never
-//! write. Tables, receipts and ways for people
-//! who look; a manifest and an audit; a package as SQL; a drawing of who holds which sheets.
+//! write. Tables, receipts and ways for people who look; a manifest and an audit; a package as SQL;
+//! a drawing of who holds which sheets.
 #![tactic(auto)]
 
 pub mod auditing;

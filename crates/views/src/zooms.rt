@@ -21,7 +21,8 @@ fn read_zoom(text: &str) -> Option<Option<i64>>
 /// The zoom that a word asks for: none in particular where there is no word. `None` where the word is no number.
 pub fn asked_zoom(word: Option<&str>) -> Option<Option<i64>>
     ensures some { IfSome result (λ asked. AsksZoom (option_map (λ text. text.now) word.entry) asked) }
-    ensures none { IfNone result ((asked : Option ℤ) → ¬ AsksZoom (option_map (λ text. text.now) word.entry) asked) }
+    ensures none { IfNone result ((asked : Option ℤ) → ¬ AsksZoom (option_map (λ text. text.now) word.entry)
+        asked) }
 {
     match word {
         Some(text) => read_zoom(text),

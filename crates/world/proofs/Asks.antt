@@ -1,5 +1,6 @@
 -- What a world asks a shelf for and gives back to it, request by request.
-use Rattle.std.specs.Prelude.{◌≡◌, ◌⊎◌, refl, ℕ, ⊤, List, [], ◌∷◌, ◌++◌, Option, Some, None, Result}
+use Rattle.std.specs.Prelude.{◌≡◌, ◌⊎◌, refl, ℕ, ⊤, List, [], ◌∷◌, ◌++◌, Option, Some, None}
+use Rattle.std.specs.Prelude.{Result}
 use Rattle.std.proofs.Common.{sym, subst, ap, ◌∙◌, inl, inr}
 use Rattle.std.proofs.lemmas.List.{append-nil, append_assoc}
 use Rattle.sqlite.specs.Held.{Held}
@@ -41,7 +42,8 @@ module _ {S H : Type 0} (Asks : List ℕ → H → H → Type 0) (Takes : List �
 
 module _ {S : Type 0} (g : Ghosts S) {H : Type 0} (Takes : List ℕ → S → H → H → Type 0) where
   -- nothing was given back
-  pub none_home : (members : List (Member S)) (Fact : List ℕ → Type 0) (gone : List (Held S)) (s : H) → gone ≡ []
+  pub none_home : (members : List (Member S)) (Fact : List ℕ → Type 0) (gone : List (Held S)) (s : H)
+      → gone ≡ []
       → ComeHome g Takes members Fact gone s s
   none_home members Fact gone s none = subst (λ x. ComeHome g Takes members Fact x s s) (sym none) refl
 
@@ -77,9 +79,11 @@ module _ {S : Type 0} (g : Ghosts S) {H : Type 0} (Asks : List ℕ → H → H �
       )
 
   -- what holds of the packages follows
-  pub uses_weaker : (members : List (Member S)) (child : Option (List ℕ)) (New New' NoMore NoMore' : List ℕ → Type 0)
+  pub uses_weaker : (members : List (Member S)) (child : Option (List ℕ))
+      (New New' NoMore NoMore' : List ℕ → Type 0)
       (gone : List (Held S)) (before after : H) → ((x : List ℕ) → New x → New' x)
-      → ((x : List ℕ) → NoMore x → NoMore' x) → UsesFor g Asks Takes members child New NoMore gone before after
+      → ((x : List ℕ) → NoMore x → NoMore' x) → UsesFor g Asks Takes members child New NoMore gone before
+      after
       → UsesFor g Asks Takes members child New' NoMore' gone before after
   uses_weaker members child New New' NoMore NoMore' [] before after new no_more used =
       asks_weaker Asks Takes child New New' before after new used
@@ -103,15 +107,18 @@ module _ {S : Type 0} (g : Ghosts S) {H : Type 0} (Asks : List ℕ → H → H �
       (replies : List (Result Receipt Refusal)) (q : Request) (reply : Result Receipt Refusal) (gone : List (Held S))
       (before between after : H) → AreStepsWith g Asks Takes Fails qs old replies mid gone before between
       → (one : IsStepWith g Asks Takes Fails q mid reply new between after)
-      → AreStepsWith g Asks Takes Fails (qs ++ q ∷ []) old (replies ++ reply ∷ []) new (gone ++ one.step.gone) before
+      → AreStepsWith g Asks Takes Fails (qs ++ q ∷ []) old (replies ++ reply ∷ []) new (gone ++ one.step.gone)
+      before
       after
   steps_more {Fails} [] old mid new [] q reply gone before between after steps one =
       let all : List (Held S) = gone ++ one.step.gone in
       let here : (it : IsStepWith g Asks Takes Fails q mid reply new between after) × (all ≡ it.step.gone ++ []) =
       (one, ap (λ x. x ++ one.step.gone) steps.1 ∙ sym (append-nil one.step.gone)) in
       let there : (it : IsStepWith g Asks Takes Fails q old reply new before after) × (all ≡ it.step.gone ++ []) =
-      subst (λ m. (it : IsStepWith g Asks Takes Fails q m reply new before after) × (all ≡ it.step.gone ++ [])) steps.0
-      (subst (λ b. (it : IsStepWith g Asks Takes Fails q mid reply new b after) × (all ≡ it.step.gone ++ [])) steps.2
+      subst (λ m. (it : IsStepWith g Asks Takes Fails q m reply new before after) × (all ≡ it.step.gone ++ []))
+      steps.0
+      (subst (λ b. (it : IsStepWith g Asks Takes Fails q mid reply new b after) × (all ≡ it.step.gone ++ []))
+      steps.2
       here) in
       (new, after, there.0, [], there.1, (refl, refl, refl))
   steps_more {Fails} [] old mid new (r ∷ replies) q reply gone before between after steps one = absurd steps

@@ -26,8 +26,7 @@ module _ {S : Type 0} (g : Ghosts S) where
     parent = None;
     depth = 0;
     loan = 0;
-    sums =
-        record { tiles = 0; media = 0; rows = 0; links = 0; bytes = 0 };
+    sums = record { tiles = 0; media = 0; rows = 0; links = 0; bytes = 0 };
     ticket = 0;
   }
 
@@ -38,8 +37,7 @@ module _ {S : Type 0} (g : Ghosts S) where
   alone archive f conn uuid good keeps = record {
     each = (is_member, tt);
     counted = refl;
-    register =
-        new_world_is_register archive f uuid good;
+    register = new_world_is_register archive f uuid good;
   }
     where
       is_member : IsMember g (new_world archive f) (first_member archive conn) (record no_package { uuid = archive })
@@ -50,8 +48,7 @@ module _ {S : Type 0} (g : Ghosts S) where
         loan = refl;
         sums = refl;
         ticket = refl;
-        reads =
-            λ is_open. keeps.reads;
+        reads = λ is_open. keeps.reads;
       }
 
   -- so does a world of it
@@ -61,8 +58,7 @@ module _ {S : Type 0} (g : Ghosts S) where
         frame = f;
         members = members;
         count = 0;
-        has_failed =
-            false;
+        has_failed = false;
         strays = strays;
         known = known;
       }) (new_world archive f)
@@ -77,8 +73,7 @@ module _ {S : Type 0} (g : Ghosts S) where
         count = 0;
         has_failed = false;
         strays = strays;
-        known =
-            known;
+        known = known;
       })
   held_first archive f members strays known none rests good made = record {
     gone = [];
@@ -93,7 +88,8 @@ module _ {S : Type 0} (g : Ghosts S) where
 
   -- so are members that stand for some world
   pub held_gathered : (f : Frame) (members : List (Member S)) (count : ℕ) (strays : List (Held S))
-      (known : List (List ℕ)) → strays ≡ [] → AllRest g members → is_good_frame f ≡ true → count ≤ greatest_receipts
+      (known : List (List ℕ)) → strays ≡ [] → AllRest g members → is_good_frame f ≡ true
+      → count ≤ greatest_receipts
       → StandsBeside g (seen_of f members count known) → IsHeld g
       (record { frame = f; members = members; count = count; has_failed = false; strays = strays; known = known })
   held_gathered f members count strays known none rests good low beside = record {

@@ -1,5 +1,6 @@
 -- What is due is carried out among the members of a world that can be used.
-use Rattle.std.specs.Prelude.{◌≡◌, ℕ, ◌+◌, List, [], ◌∷◌, ◌++◌, map, refl, Some, slice_get, Result, Ok, Err, IsTrue}
+use Rattle.std.specs.Prelude.{◌≡◌, ℕ, ◌+◌, List, [], ◌∷◌, ◌++◌, map, refl, Some, slice_get}
+use Rattle.std.specs.Prelude.{Result, Ok, Err, IsTrue}
 use Rattle.std.proofs.Common.{sym, ap, subst, ◌∙◌, inl, inr}
 use Rattle.std.specs.List.{AllByRecursion}
 use Rattle.std.proofs.lemmas.List.{append-nil}
@@ -60,7 +61,8 @@ module _ {S : Type 0} (g : Ghosts S) where
 
   -- members that leave what they left before stand for the world before
   pub leaves_before : (old new : List (Member S)) (strays : List (Held S)) (w : World) (count : ℕ)
-      (after : List Package) → strays ≡ [] → LeavesAsBefore g old new → AreMembers g old count w → AllOpen g old
+      (after : List Package) → strays ≡ [] → LeavesAsBefore g old new → AreMembers g old count w
+      → AllOpen g old
       → LeavesOneOf g w.frame (strays ++ map (λ m. m.conn) new) w.packages after
   leaves_before old new strays w count after none as_before are opened =
       subst (λ ss. LeavesOneOf g w.frame (ss ++ map (λ m. m.conn) new) w.packages after) (sym none)
@@ -111,7 +113,8 @@ module _ {S : Type 0} (g : Ghosts S) where
 
       pub carries_lent : (after : ℕ) (receipt : Receipt) → after ≡ before + 1
           → Splits g due child mid new [] strays (Ok receipt)
-          → (made : Carries g (λ w next. (f ≡ w.frame) × IsLent w next due) due.receipt old new strays before after
+          → (made : Carries g (λ w next. (f ≡ w.frame) × IsLent w next due) due.receipt old new strays before
+          after
           (Ok receipt)) × (made.gone ≡ [])
       carries_lent after receipt counted it =
           let done = it.done receipt refl in (
@@ -153,10 +156,12 @@ module _ {S : Type 0} (g : Ghosts S) where
         kept_or_dropped P dropped kept =
             elim why as (λ x. why ≡ x → P strays) [
               | Before x ↦ λ is. elim x as (λ y. why ≡ Before y → P strays) [
-                | fault.OutOfMemory ↦ λ same. dropped (subst (λ t. IsUncommitted {X = Receipt} (Err t)) (sym same) tt)
+                | fault.OutOfMemory ↦ λ same. dropped (subst (λ t. IsUncommitted {X = Receipt} (Err t)) (sym same)
+                    tt)
                     (it.dropped (ap Err same))
                 | fault.StoreFault ↦ λ same. subst P (sym (it.kept why refl
-                    (λ e. let both : Before fault.StoreFault ≡ Before fault.OutOfMemory = sym same ∙ e in cc))) kept
+                    (λ e. let both : Before fault.StoreFault ≡ Before fault.OutOfMemory = sym same ∙ e in cc)))
+                    kept
               ] is
               | Committing x ↦ λ is. subst P (sym (it.kept why refl
                   (λ e. let both : Committing x ≡ Before fault.OutOfMemory = sym is ∙ e in cc))) kept
@@ -185,7 +190,8 @@ module _ {S : Type 0} (g : Ghosts S) where
             (inr (child_left g shuts settles due child old mid strays at_rest child_rests w next is
             (keeps (it.clean clean) w next count same are is) disk trees may)))
 
-        pub carries_unlent : Carries g (λ w next. (f ≡ w.frame) × IsLent w next due) due.receipt old new strays before
+        pub carries_unlent : Carries g (λ w next. (f ≡ w.frame) × IsLent w next due) due.receipt old new strays
+            before
             before (Err (Turn why))
         carries_unlent = record {
           gone = [];
@@ -200,7 +206,11 @@ module _ {S : Type 0} (g : Ghosts S) where
           opens = λ clean gone. tt;
           beside = λ receipt is. absurd (let e = is in cc);
           kept = λ other is. refl;
-          err = λ other is. (refl, λ w are. (it.failed why refl).1 w before (members_stay g old mid before w stay are));
+          err = λ other is. (
+            refl,
+            λ w are. (it.failed why refl).1 w before
+                (members_stay g old mid before w stay are),
+          );
           usable = λ other is usable. not_lasting (λ lasting. let same : Turn why ≡ other =
               cc in usable (subst IsLastingFault same lasting));
           unharmed = λ other is early. uncommitted_leaves (early_of other (let same : Turn why ≡ other = cc in same)
@@ -273,7 +283,8 @@ module _ {S : Type 0} (g : Ghosts S) where
             ),
           )
         where
-          no_more : (m : Member S) → slice_get old due.from ≡ Some m → (w next : World) → AreMembers g old before w
+          no_more : (m : Member S) → slice_get old due.from ≡ Some m → (w next : World)
+              → AreMembers g old before w
               → IsReturned w next due → IsNoPackage next m.uuid
           no_more m place w next are is =
               let here = zip_at (IsMember g w) old w.packages due.from m are.each place in
@@ -284,7 +295,8 @@ module _ {S : Type 0} (g : Ghosts S) where
       -- of its members all but one at most were only read, and the child, whose store was too
       pub home_written : (receipt : Receipt) (child : Held S) (command : Command) (uuid : List ℕ)
           → Merges g due old new (Ok (receipt, child)) → HasUuidAt old due.from uuid
-          → child_returned command ≡ Some uuid → WritesTwoAtMost g (child_asked command) (child_returned command) old
+          → child_returned command ≡ Some uuid → WritesTwoAtMost g (child_asked command)
+          (child_returned command) old
           new (child ∷ [])
       home_written receipt child command uuid it has asked =
           let home = it.home (receipt, child) refl in

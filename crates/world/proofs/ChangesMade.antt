@@ -31,7 +31,8 @@ module _ {S : Type 0} (g : Ghosts S) where
 
   -- a change that failed
   pub changes_failed : (change : Change) (command : Command) (old new : List (Member S)) (count : ℕ) (e : TurnFault)
-      (r : Result Receipt TurnFault) → r ≡ Err e → AllSurvive g old new → AllStayButOne g old new → AllRest g new
+      (r : Result Receipt TurnFault) → r ≡ Err e → AllSurvive g old new → AllStayButOne g old new
+      → AllRest g new
       → (AllClean g new → AllClean g old)
       → ((w : World) (n : ℕ) → AreMembers g old n w → AreMembers g new n w) → MayCrash change command old new
       → ((fault : Fault) → e ≡ Before fault → LeavesAsBefore g old new)
@@ -67,7 +68,12 @@ module _ {S : Type 0} (g : Ghosts S) where
     clean = clean;
     crash = λ w are due opened. crash w before are due opened;
     opens = opens;
-    ok = λ receipt is. (let same : receipt ≡ change.receipt = cc in same, counted, λ w are due. done w before are due);
+    ok = λ receipt is. (
+      let same : receipt ≡ change.receipt =
+          cc in same,
+      counted,
+      λ w are due. done w before are due,
+    );
     err = λ fault is. absurd (let e = is in cc);
     unharmed = λ none. absurd none;
   }

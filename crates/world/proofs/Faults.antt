@@ -8,7 +8,8 @@ use Rattle.sheet_types.specs.declared.receipt.Receipt.{Receipt}
 use Rattle.sheet_types.specs.declared.refusal.Refusal.{Refusal}
 use Rattle.sheet_types.specs.declared.refusal.Refusal.TheVariants as refusal
 
-no_fault : (reply : Result Receipt Refusal) → ¬ (reply ≡ Err refusal.OutOfMemory) → ¬ (reply ≡ Err refusal.StoreFault)
+no_fault : (reply : Result Receipt Refusal) → ¬ (reply ≡ Err refusal.OutOfMemory)
+    → ¬ (reply ≡ Err refusal.StoreFault)
     → ¬ IsFault reply
 no_fault reply memory store (inl e) = memory e
 no_fault reply memory store (inr e) = store e
@@ -22,7 +23,8 @@ fault_or_not (Err refusal.UnknownPackage) = inr (no_fault (Err refusal.UnknownPa
     (λ e. let x = e in cc))
 fault_or_not (Err refusal.PackageUsed) = inr (no_fault (Err refusal.PackageUsed) (λ e. let x = e in cc)
     (λ e. let x = e in cc))
-fault_or_not (Err refusal.BadText) = inr (no_fault (Err refusal.BadText) (λ e. let x = e in cc) (λ e. let x = e in cc))
+fault_or_not (Err refusal.BadText) = inr (no_fault (Err refusal.BadText) (λ e. let x = e in cc)
+    (λ e. let x = e in cc))
 fault_or_not (Err refusal.TooLarge) = inr (no_fault (Err refusal.TooLarge) (λ e. let x = e in cc)
     (λ e. let x = e in cc))
 fault_or_not (Err refusal.IdentityUsed) = inr (no_fault (Err refusal.IdentityUsed) (λ e. let x = e in cc)
@@ -44,19 +46,22 @@ fault_or_not (Err refusal.UnknownLink) = inr (no_fault (Err refusal.UnknownLink)
 fault_or_not (Err refusal.Linked) = inr (no_fault (Err refusal.Linked) (λ e. let x = e in cc) (λ e. let x = e in cc))
 fault_or_not (Err refusal.BadRectangle) = inr (no_fault (Err refusal.BadRectangle) (λ e. let x = e in cc)
     (λ e. let x = e in cc))
-fault_or_not (Err refusal.TooDeep) = inr (no_fault (Err refusal.TooDeep) (λ e. let x = e in cc) (λ e. let x = e in cc))
+fault_or_not (Err refusal.TooDeep) = inr (no_fault (Err refusal.TooDeep) (λ e. let x = e in cc)
+    (λ e. let x = e in cc))
 fault_or_not (Err refusal.NothingToLend) = inr (no_fault (Err refusal.NothingToLend) (λ e. let x = e in cc)
     (λ e. let x = e in cc))
 fault_or_not (Err (refusal.CutLink x)) = inr (no_fault (Err (refusal.CutLink x)) (λ e. let y = e in cc)
     (λ e. let y = e in cc))
-fault_or_not (Err refusal.Foreign) = inr (no_fault (Err refusal.Foreign) (λ e. let x = e in cc) (λ e. let x = e in cc))
+fault_or_not (Err refusal.Foreign) = inr (no_fault (Err refusal.Foreign) (λ e. let x = e in cc)
+    (λ e. let x = e in cc))
 fault_or_not (Err (refusal.Stale x)) = inr (no_fault (Err (refusal.Stale x)) (λ e. let y = e in cc)
     (λ e. let y = e in cc))
 fault_or_not (Err (refusal.LoanOpen x)) = inr (no_fault (Err (refusal.LoanOpen x)) (λ e. let y = e in cc)
     (λ e. let y = e in cc))
 fault_or_not (Err (refusal.Collides x)) = inr (no_fault (Err (refusal.Collides x)) (λ e. let y = e in cc)
     (λ e. let y = e in cc))
-fault_or_not (Err refusal.TooMany) = inr (no_fault (Err refusal.TooMany) (λ e. let x = e in cc) (λ e. let x = e in cc))
+fault_or_not (Err refusal.TooMany) = inr (no_fault (Err refusal.TooMany) (λ e. let x = e in cc)
+    (λ e. let x = e in cc))
 fault_or_not (Err refusal.OutOfMemory) = inl (inl refl)
 fault_or_not (Err refusal.StoreFault) = inl (inr refl)
 

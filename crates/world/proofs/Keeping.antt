@@ -1,5 +1,6 @@
 -- What a world keeps of what it stands for, when one request was dealt with.
-use Rattle.std.proofs.Common.{◌≡◌, ◌↔◌, false, true, IsTrue, refl, sym, ap, subst, ◌∙◌, ℕ, ◌≤◌, Bool, List, length}
+use Rattle.std.proofs.Common.{◌≡◌, ◌↔◌, false, true, IsTrue, refl, sym, ap, subst, ◌∙◌, ℕ}
+use Rattle.std.proofs.Common.{◌≤◌, Bool, List, length}
 use Rattle.std.proofs.Common.{Vec, Global, Result, IfOk, Ok, Err, inl, inr}
 use Rattle.sqlite.specs.Store.{Ghosts}
 use Rattle.sheet_types.specs.Refuse.{greatest_receipts}
@@ -81,7 +82,8 @@ module _ {S : Type 0} (g : Ghosts S) where
   -- After a step there is a world that it stands for, if there was one before.
   pub held_after : (q : Request) (old new : Seen S) (reply : Result Receipt Refusal) → IsHeld g old
       → new.frame ≡ old.frame → AllRest g new.members → AreAtRest g new.strays
-      → (new.has_failed ≡ false → new.strays ≡ []) → new.count ≤ greatest_receipts → IsStep g q old reply new
+      → (new.has_failed ≡ false → new.strays ≡ []) → new.count ≤ greatest_receipts
+      → IsStep g q old reply new
       → IsHeld g new
   held_after q old new reply held frame rests stray_rests none counted it = record {
     gone = held.gone ++ it.gone;
@@ -116,9 +118,11 @@ module _ {S : Type 0} (g : Ghosts S) where
   }
 
   -- and asks a shelf for nothing and gives nothing back
-  pub unserved_with : {H : Type 0} (Asks : List ℕ → H → H → Type 0) (Takes : List ℕ → S → H → H → Type 0)
+  pub unserved_with : {H : Type 0} (Asks : List ℕ → H → H → Type 0)
+      (Takes : List ℕ → S → H → H → Type 0)
       (Fails : H → ℕ) (shuts : Shuts g) (settles : Settles g) (q : Request) (seen : Seen S) (s : H)
-      → AllRest g seen.members → seen.has_failed ≡ true → IsStepWith g Asks Takes Fails q seen (Err StoreFault) seen s
+      → AllRest g seen.members → seen.has_failed ≡ true → IsStepWith g Asks Takes Fails q seen
+      (Err StoreFault) seen s
       s
   unserved_with Asks Takes Fails shuts settles q seen s at_rest failed =
       let it : IsStep g q seen (Err StoreFault) seen = step_unserved shuts settles q seen at_rest failed in
@@ -145,8 +149,7 @@ module _ {S : Type 0} (g : Ghosts S) where
         members = old;
         count = before;
         has_failed = was_failed;
-        strays =
-            strays_before;
+        strays = strays_before;
         known = known;
       } ≡ was) where
     abbrev now_seen : Seen S
@@ -156,8 +159,7 @@ module _ {S : Type 0} (g : Ghosts S) where
       count = after;
       has_failed = has_failed;
       strays = strays;
-      known =
-          noted;
+      known = noted;
     }
 
     stood : (w : World) → StandsFor g was w → IsSeenBy f known w × AreMembers g old before w
@@ -235,8 +237,7 @@ module _ {S : Type 0} (g : Ghosts S) where
           record {
             frame = (stood w stands).0.0;
             members = it.failed e is w (stood w stands).1;
-            known =
-                knows_more known noted w it.grows (stood w stands).0.1;
+            known = knows_more known noted w it.grows (stood w stands).0.1;
           },
         );
         opens = λ clean gone no_fault. absurd (no_fault (told_as_fault e why told));
@@ -252,7 +253,8 @@ module _ {S : Type 0} (g : Ghosts S) where
     step_failed e is why told = (step_faulted e is why told).0
 
     -- with what the shelf was asked for and given back
-    module _ {H : Type 0} (Asks : List ℕ → H → H → Type 0) (Takes : List ℕ → S → H → H → Type 0) (Fails : H → ℕ)
+    module _ {H : Type 0} (Asks : List ℕ → H → H → Type 0) (Takes : List ℕ → S → H → H → Type 0)
+        (Fails : H → ℕ)
         (s t : H) (used : ServesWith g Asks Takes f q old new known before it.gone s t) where
       step_with : (reply : Result Receipt Refusal) → (step : IsStep g q was reply now_seen) × (step.gone ≡ it.gone)
           → SettlesChild g Asks Takes Fails (child_asked q.command) was reply now_seen s t
@@ -286,7 +288,8 @@ module _ {S : Type 0} (g : Ghosts S) where
       failed_with e is why told settled = step_with (Err why) (step_faulted e is why told) settled
 
     -- what became of the store that the shelf gave for a child
-    module _ {H : Type 0} (Asks : List ℕ → H → H → Type 0) (Takes : List ℕ → S → H → H → Type 0) (Fails : H → ℕ)
+    module _ {H : Type 0} (Asks : List ℕ → H → H → Type 0) (Takes : List ℕ → S → H → H → Type 0)
+        (Fails : H → ℕ)
         (s t : H) where
       abbrev BesideSeen : List ℕ → Trees → Type 0
       BesideSeen child trees = AllClean g new → OfEachSeen g f known old before
@@ -300,7 +303,8 @@ module _ {S : Type 0} (g : Ghosts S) where
       settled_replied (Some child) (Err why) used = inl used
 
       pub settled_failed : (asked : Option (List ℕ)) (e : ServeFault) (why : Refusal)
-          → (IsTrue has_failed ↔ IsLastingFault e) → ServesChild g Asks Takes Fails asked BesideSeen strays (Err e) s
+          → (IsTrue has_failed ↔ IsLastingFault e) → ServesChild g Asks Takes Fails asked BesideSeen strays
+          (Err e) s
           t → SettlesChild g Asks Takes Fails asked was (Err why) now_seen s t
       settled_failed None e why lasting used = tt
       settled_failed (Some child) e why lasting used =
@@ -313,7 +317,8 @@ module _ {S : Type 0} (g : Ghosts S) where
     no_trace_replied reply is refused usable clean w stands opened =
         it.unharmed (subst IsUntouched (sym is) refused) clean w before (stood w stands).1 (were_open opened)
 
-    pub no_trace_failed : (e : ServeFault) → r ≡ Err e → (why : Refusal) → (IsTrue has_failed ↔ IsLastingFault e)
+    pub no_trace_failed : (e : ServeFault) → r ≡ Err e → (why : Refusal)
+        → (IsTrue has_failed ↔ IsLastingFault e)
         → LeavesNoTrace g was (Err why) now_seen
     no_trace_failed e is why lasting refused usable clean w stands opened =
         it.unharmed (subst IsUntouched (sym is) (uncommitted e has_failed lasting usable)) clean w before
@@ -324,21 +329,20 @@ module _ {S : Type 0} (g : Ghosts S) where
     still_replied (Ok receipt) is refused w stands = absurd (let e = refused in cc)
     still_replied (Err why) is refused w stands = record {
       frame = (stood w stands).0.0;
-      members =
-          it.refused why is w (stood w stands).1;
+      members = it.refused why is w (stood w stands).1;
       known = knows_more known noted w it.grows (stood w stands).0.1;
     }
 
     pub still_failed : (e : ServeFault) → r ≡ Err e → (why : Refusal) → StandsStill g was (Err why) now_seen
     still_failed e is why refused w stands = record {
       frame = (stood w stands).0.0;
-      members =
-          it.failed e is w (stood w stands).1;
+      members = it.failed e is w (stood w stands).1;
       known = knows_more known noted w it.grows (stood w stands).0.1;
     }
 
     -- it has failed by a fault of a store, or by a request that was to be carried out
-    pub rises_failed : (X : Type 0) (shelf_before shelf_after : ℕ) (e : ServeFault) → r ≡ Err e → (why : Refusal)
+    pub rises_failed : (X : Type 0) (shelf_before shelf_after : ℕ) (e : ServeFault) → r ≡ Err e
+        → (why : Refusal)
         → why ≡ told_refusal e → (reply : Result Receipt Refusal) → reply ≡ Err why
         → (IsTrue has_failed ↔ IsLastingFault e) → CountsShelf {X = X} (Err e) shelf_before shelf_after
         → has_failed ≡ true
@@ -352,7 +356,8 @@ module _ {S : Type 0} (g : Ghosts S) where
         (counts, inr (λ clean w stands. it.tried x is clean w (stood w stands).0 (stood w stands).1))
 
     -- a world that can be used has no stray
-    pub none_failed : (e : ServeFault) → r ≡ Err e → (IsTrue has_failed ↔ IsLastingFault e) → has_failed ≡ false
+    pub none_failed : (e : ServeFault) → r ≡ Err e → (IsTrue has_failed ↔ IsLastingFault e)
+        → has_failed ≡ false
         → strays ≡ []
     none_failed e is lasting usable = it.usable e is (λ l. let t : IsTrue has_failed = lasting.1 l in cc)
 

@@ -1,5 +1,6 @@
 -- What is kept of the members tells whether there is room.
-use Rattle.std.proofs.Common.{◌≡◌, ◌≤◌, ◌<◌, ◌∙◌, ◌+◌, refl, sym, ap, ℕ, Bool, true, false, List, [], ◌∷◌, length}
+use Rattle.std.proofs.Common.{◌≡◌, ◌≤◌, ◌<◌, ◌∙◌, ◌+◌, refl, sym, ap, ℕ, Bool, true}
+use Rattle.std.proofs.Common.{false, List, [], ◌∷◌, length}
 use Rattle.std.proofs.Common.{arith}
 use Rattle.std.specs.Prelude.{◌-◌, ◌&&◌, ◌||◌, not, nat_lt, nat_le}
 use Rattle.std.specs.List.{list_any, AllZip}
@@ -41,7 +42,8 @@ within_all false false true false so = refl
 within_all false false false d so = refl
 
 fewer_are_none : (n more most : ℕ) → nat_le (n + more) most ≡ true → nat_lt most n ≡ false
-fewer_are_none n more most e = let h : n + more ≤ most = leb-true (n + more) most e in le-ltb most n (omega (arith, h))
+fewer_are_none n more most e = let h : n + more ≤ most = leb-true (n + more) most e in le-ltb most n
+    (omega (arith, h))
 
 -- ---- the members
 
@@ -66,7 +68,8 @@ module _ {S : Type 0} (g : Ghosts S) (w : World) where
       (sym (AllZip-long (IsMember g w) ms w.packages are.each))
       ∙ ap (λ b. not full && b && nat_le (count + more) greatest_receipts)
       (not_past (length w.packages) greatest_packages)
-      ∙ ap (λ n. not full && not (nat_lt greatest_packages (length w.packages)) && nat_le (n + more) greatest_receipts)
+      ∙ ap (λ n. not full && not (nat_lt greatest_packages (length w.packages)) && nat_le (n + more)
+      greatest_receipts)
       are.counted
       ∙ within_all full (nat_lt greatest_packages (length w.packages)) (nat_lt greatest_receipts most)
       (nat_le (most + more) greatest_receipts) (fewer_are_none most more greatest_receipts)

@@ -4,7 +4,8 @@ use Rattle.std.proofs.Common.{inl, inr, arith, sym, subst}
 use Rattle.sqlite_disk.specs.Disk.{MoreFaults}
 use Rattle.world_changes.specs.Leaving.{AreClean}
 use Rattle.world_changes.proofs.HeldStores.{left_clean, right_clean}
-use Rattle.std.proofs.Common.{◌≡◌, ◌∙◌, ap, map, IsErr, IsTrue, Ok, refl, true, false, List, [], ◌∷◌, ◌++◌, Result, Err}
+use Rattle.std.proofs.Common.{◌≡◌, ◌∙◌, ap, map, IsErr, IsTrue, Ok, refl, true, false, List, []}
+use Rattle.std.proofs.Common.{◌∷◌, ◌++◌, Result, Err}
 use Rattle.sqlite.specs.Store.{Ghosts}
 use Rattle.sheet_types.specs.Register.{IsRegister}
 use Rattle.sheet_types.specs.Step.{IsFault, Step, outcome}
@@ -49,7 +50,8 @@ snoc_same (a ∷ xs) (b ∷ ys) x y is =
 
 -- a run over registers goes on by a step that leaves one
 pub one_step_more : (w mid next : World) (qs : List Request) (replies : List (Result Receipt Refusal)) (q : Request)
-    (reply : Result Receipt Refusal) → RunsOverRegisters w qs replies mid → Step mid q reply next → IsRegister next
+    (reply : Result Receipt Refusal) → RunsOverRegisters w qs replies mid → Step mid q reply next
+    → IsRegister next
     → RunsOverRegisters w (qs ++ q ∷ []) (replies ++ reply ∷ []) next
 one_step_more w mid next [] [] q reply ran step register = (
   ran.1,
@@ -91,7 +93,8 @@ module _ {S : Type 0} (g : Ghosts S) where
   )
 
   -- a request that is no merge lets no connection go
-  none_left_by : (returned : Option (List ℕ)) (old before : List (Member S)) (gone : List (Held S)) → returned ≡ None
+  none_left_by : (returned : Option (List ℕ)) (old before : List (Member S)) (gone : List (Held S))
+      → returned ≡ None
       → Leave g returned old before gone → gone ≡ []
   none_left_by returned old before [] none left = refl
   none_left_by returned old before (last ∷ others) none left =
@@ -143,7 +146,8 @@ module _ {S : Type 0} (g : Ghosts S) where
 
   -- after one request
   open_after : (q : Request) (replies : List (Result Receipt Refusal)) (reply : Result Receipt Refusal)
-      (mid new : Seen S) (it : IsStep g q mid reply new) → NoneShut g (replies ++ reply ∷ []) → AllClean g new.members
+      (mid new : Seen S) (it : IsStep g q mid reply new) → NoneShut g (replies ++ reply ∷ [])
+      → AllClean g new.members
       → AreClean g it.gone → AllOpen g mid.members → AllOpen g new.members
   open_after q replies (Ok receipt) mid new it none clean gone opened = it.opens clean gone no_fault opened
     where
@@ -161,24 +165,20 @@ module _ {S : Type 0} (g : Ghosts S) where
     record {
       gone = [];
       clean = λ clean gone. clean;
-      run =
-          λ clean gone w stands. (w, refl, stands);
+      run = λ clean gone w stands. (w, refl, stands);
       registers = λ clean gone w stands.
           (w, (refl, stands.members.register), stands);
       opens = λ clean gone sound opened. opened;
-      told =
-          λ usable none. tt;
+      told = λ usable none. tt;
       usable = λ sound. refl;
       shelf = omega arith;
       each = (refl, refl, refl);
-      kept =
-          λ none. refl;
+      kept = λ none. refl;
       failed = λ failed. (tt, refl);
       stays_open = λ clean gone usable none opened. opened;
       stops =
           λ clean gone usable failed. absurd (let both : true ≡ false = sym failed ∙ usable in cc);
-      unharmed =
-          λ told why is. absurd (none_left told why is);
+      unharmed = λ told why is. absurd (none_left told why is);
     },
     refl,
   )
@@ -231,7 +231,8 @@ module _ {S : Type 0} (g : Ghosts S) where
           ∙ first.usable (All-left (λ r. ¬ IsFault r) replies (reply ∷ []) sound);
       shelf = omega (arith, first.shelf, next.shelf);
       each = each_more qs old mid new replies q reply first.gone before between after first.each next;
-      kept = λ none. each_keeps (qs ++ q ∷ []) old new (replies ++ reply ∷ []) (first.gone ++ next.step.gone) before
+      kept = λ none. each_keeps (qs ++ q ∷ []) old new (replies ++ reply ∷ []) (first.gone ++ next.step.gone)
+          before
           after (each_more qs old mid new replies q reply first.gone before between after first.each next) none;
       failed = λ failed.
           let was = first.failed failed in
@@ -242,7 +243,8 @@ module _ {S : Type 0} (g : Ghosts S) where
           (first.stays_open (next.step.clean clean (mine gone)) (theirs gone)
           (was_usable q mid new reply between after next usable) (none_shut_before replies reply none) opened);
       stops = λ clean gone usable failed w stands opened.
-          elim mid.has_failed as (λ b. mid.has_failed ≡ b → IsStopped g (qs ++ q ∷ []) (replies ++ reply ∷ []) w new) [
+          elim mid.has_failed as (λ b. mid.has_failed ≡ b → IsStopped g (qs ++ q ∷ [])
+          (replies ++ reply ∷ []) w new) [
             | true ↦ λ is. stopped_before is (first.stops (next.step.clean clean (mine gone)) (theirs gone) usable is
                 w stands opened)
             | false ↦ λ is. stopped_here is clean gone failed w stands opened
@@ -319,7 +321,8 @@ module _ {S : Type 0} (g : Ghosts S) where
           let was = first.run (next.step.clean clean (mine gone)) (theirs gone) w stands in
           let fault : IsFault reply = elim (fault_or_not reply) [
             | inl f ↦ f
-            | inr n ↦ absurd (let same = next.usable n in let both : true ≡ false = sym failed ∙ same ∙ is in cc)
+            | inr n ↦ absurd (let same = next.usable n in let both : true ≡ false =
+                sym failed ∙ same ∙ is in cc)
           ] in
           record {
             done = qs;
@@ -345,7 +348,8 @@ module _ {S : Type 0} (g : Ghosts S) where
       (more_told qs q old mid new replies reply before between after first next).0
 
   -- with what a shelf was asked for and given back
-  module _ {H : Type 0} (Asks : List ℕ → H → H → Type 0) (Takes : List ℕ → S → H → H → Type 0) (Fails : H → ℕ) where
+  module _ {H : Type 0} (Asks : List ℕ → H → H → Type 0) (Takes : List ℕ → S → H → H → Type 0)
+      (Fails : H → ℕ) where
     pub none_with : (seen : Seen S) (n : ℕ) (s : H) → IsRunWith g Asks Takes Fails [] seen [] seen n n s s
     none_with seen n s = record { run = (none_told seen n).0; uses = (refl, (none_told seen n).1, refl) }
 
@@ -359,7 +363,8 @@ module _ {S : Type 0} (g : Ghosts S) where
         let both = more_told qs q old mid new replies reply before between after first.run next in
         record {
           run = both.0;
-          uses = subst (λ gone. AreStepsWith g Asks Takes Fails (qs ++ q ∷ []) old (replies ++ reply ∷ []) new gone s
+          uses = subst (λ gone. AreStepsWith g Asks Takes Fails (qs ++ q ∷ []) old (replies ++ reply ∷ []) new
+              gone s
               t) (sym (both.1 ∙ ap (λ x. first.run.gone ++ x) same))
               (steps_more g Asks Takes qs old mid new replies q reply first.run.gone s b t first.uses one);
         }

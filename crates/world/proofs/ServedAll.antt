@@ -1,5 +1,6 @@
 -- What serving a request says in each of the ways in which it ends, for all commands.
-use Rattle.std.specs.Prelude.{◌≡◌, ◌≤◌, ℕ, ◌+◌, List, [], ◌++◌, map, refl, Some, Result, Ok, Err, IsOk}
+use Rattle.std.specs.Prelude.{◌≡◌, ◌≤◌, ℕ, ◌+◌, List, [], ◌++◌, map, refl, Some, Result, Ok}
+use Rattle.std.specs.Prelude.{Err, IsOk}
 use Rattle.std.proofs.Common.{sym, ap, subst, ◌∙◌, inl, inr}
 use Rattle.std.specs.List.{AllByRecursion}
 use Rattle.std.proofs.lemmas.List.{append-nil}
@@ -65,7 +66,8 @@ module _ {S : Type 0} (g : Ghosts S) (shuts : Shuts g) (settles : Settles g) whe
     DueChange w next = (next ≡ world_after change.receipt command w)
         × IsDue w change.at change.receipt command change.sums
 
-    pub carries_changed : (after : ℕ) (receipt : Receipt) → Changes g change command old new before after (Ok receipt)
+    pub carries_changed : (after : ℕ) (receipt : Receipt) → Changes g change command old new before after
+        (Ok receipt)
         → (made : Carries g (λ w next. (next ≡ world_after change.receipt command w)
         × IsDue w change.at change.receipt command change.sums) change.receipt old new [] before after (Ok receipt))
         × (made.gone ≡ [])
@@ -107,8 +109,7 @@ module _ {S : Type 0} (g : Ghosts S) (shuts : Shuts g) (settles : Settles g) whe
             rest = [];
             all =
                 subst (IsPermutation contents) (sym (append-nil contents)) (IsPermutation-refl contents);
-            each =
-                each;
+            each = each;
             beside = tt;
           })
           | inr each ↦ inr (record {
@@ -116,8 +117,7 @@ module _ {S : Type 0} (g : Ghosts S) (shuts : Shuts g) (settles : Settles g) whe
             rest = [];
             all =
                 subst (IsPermutation contents) (sym (append-nil contents)) (IsPermutation-refl contents);
-            each =
-                each;
+            each = each;
             beside = tt;
           })
         ]
@@ -168,7 +168,8 @@ module _ {S : Type 0} (g : Ghosts S) (shuts : Shuts g) (settles : Settles g) whe
         subst (AsksAll g {X = Decision} {E = E} (DecidesWhere known (IsOf f before) q) old mid) is it in
         here.told clean w before are same.1 (record { frame = same.0; counted = are.counted })
 
-    pub decided_opens : (decision : Decision) → r ≡ Ok decision → AllClean g mid → AllOpen g old → AllOpen g mid
+    pub decided_opens : (decision : Decision) → r ≡ Ok decision → AllClean g mid → AllOpen g old
+        → AllOpen g mid
     decided_opens decision is clean was =
         let here : AsksAll g {X = Decision} {E = E} (DecidesWhere known (IsOf f before) q) old mid (Ok decision) =
         subst (AsksAll g {X = Decision} {E = E} (DecidesWhere known (IsOf f before) q) old mid) is it in
@@ -244,7 +245,8 @@ module _ {S : Type 0} (g : Ghosts S) (shuts : Shuts g) (settles : Settles g) whe
       -- what was due was carried out
       pub all_carried_out : Notes noted due → (receipt : Receipt) → before + 1 ≤ greatest_receipts
           → (made : Carries g Due due mid new strays before after (Ok receipt))
-          → (all : ServesAll g f q old new strays known noted before after (Ok (Ok receipt))) × (all.gone ≡ made.gone)
+          → (all : ServesAll g f q old new strays known noted before after (Ok (Ok receipt)))
+          × (all.gone ≡ made.gone)
       all_carried_out notes receipt bounded made =
           let done = made.ok receipt refl in (
             record {
@@ -341,14 +343,16 @@ module _ {S : Type 0} (g : Ghosts S) (shuts : Shuts g) (settles : Settles g) (f 
       low it (ChangeDue change) is clean w same are in
       (world_after change.receipt q.command w, d.1, refl, (refl, d.2))
 
-  split_so : (due : Lending) → r ≡ Ok (SplitDue due) → So (λ w next. (f ≡ w.frame) × IsLent w next due) due.receipt
+  split_so : (due : Lending) → r ≡ Ok (SplitDue due) → So (λ w next. (f ≡ w.frame) × IsLent w next due)
+      due.receipt
   split_so due is clean w same are =
       let d : Decides w q (SplitDue due) = decided g shuts settles f q old mid known noted grows at_rest before low it
       (SplitDue due) is clean w same are in
       (d.0, d.1, d.2.after.frame, (same.0, d.2))
 
   -- no package of the world has the child's UUID
-  pub split_apart : (due : Lending) → r ≡ Ok (SplitDue due) → AllClean g mid → (w : World) → IsSeenBy f known w
+  pub split_apart : (due : Lending) → r ≡ Ok (SplitDue due) → AllClean g mid → (w : World)
+      → IsSeenBy f known w
       → AreMembers g old before w → IsNoPackage w due.child
   split_apart due is clean w same are =
       let d : Decides w q (SplitDue due) = decided g shuts settles f q old mid known noted grows at_rest before low it
@@ -408,7 +412,8 @@ module _ {S : Type 0} (g : Ghosts S) (shuts : Shuts g) (settles : Settles g) (f 
         after why made))
 
     pub split_served : (due : Lending) (receipt : Receipt) → Notes noted due.receipt → r ≡ Ok (SplitDue due)
-        → before + 1 ≤ greatest_receipts → (made : Carries g (λ w next. (f ≡ w.frame) × IsLent w next due) due.receipt
+        → before + 1 ≤ greatest_receipts → (made : Carries g (λ w next. (f ≡ w.frame) × IsLent w next due)
+        due.receipt
         mid new strays before after (Ok receipt)) → (all : ServesAll g f q old new strays known noted before after
         (Ok (Ok receipt))) × (all.gone ≡ made.gone)
     split_served due receipt notes is bounded made = all_carried_out g shuts settles f q old mid known noted grows
@@ -416,16 +421,19 @@ module _ {S : Type 0} (g : Ghosts S) (shuts : Shuts g) (settles : Settles g) (f 
         (SplitDue due) is (split_so due is) notes receipt bounded made
 
     pub split_failed : (due : Lending) (why : ServeFault) → r ≡ Ok (SplitDue due)
-        → Carries g (λ w next. (f ≡ w.frame) × IsLent w next due) due.receipt mid new strays before after (Err why)
+        → Carries g (λ w next. (f ≡ w.frame) × IsLent w next due) due.receipt mid new strays before after
+        (Err why)
         → ServesAll g f q old new strays known noted before after (Err why)
     split_failed due why is made = all_failed g shuts settles f q old mid known noted grows at_rest before low it
-        (λ w next. (f ≡ w.frame) × IsLent w next due) due.receipt new strays after (SplitDue due) is (split_so due is)
+        (λ w next. (f ≡ w.frame) × IsLent w next due) due.receipt new strays after (SplitDue due) is
+        (split_so due is)
         why made
 
     pub merge_served : (due : Returning) (receipt : Receipt) → Notes noted due.receipt → strays ≡ []
         → r ≡ Ok (MergeDue due) → before + 1 ≤ greatest_receipts
         → (made : Carries g (λ w next. IsReturned w next due) due.receipt mid new [] before after (Ok receipt))
-        → (all : ServesAll g f q old new strays known noted before after (Ok (Ok receipt))) × (all.gone ≡ made.gone)
+        → (all : ServesAll g f q old new strays known noted before after (Ok (Ok receipt)))
+        × (all.gone ≡ made.gone)
     merge_served due receipt notes none is bounded made = subst
         (λ ss. (x : ServesAll g f q old new ss known noted before after (Ok (Ok receipt))) × (x.gone ≡ made.gone))
         (sym none)
@@ -442,9 +450,11 @@ module _ {S : Type 0} (g : Ghosts S) (shuts : Shuts g) (settles : Settles g) (f 
         (λ w next. IsReturned w next due) due.receipt new [] after (MergeDue due) is (merge_so due is) why made)
 
     -- the store that a merge lets go was given back, and nothing was asked for
-    pub merge_with : {H : Type 0} (Asks : List ℕ → H → H → Type 0) (Takes : List ℕ → S → H → H → Type 0) (s t : H)
+    pub merge_with : {H : Type 0} (Asks : List ℕ → H → H → Type 0)
+        (Takes : List ℕ → S → H → H → Type 0) (s t : H)
         {made_reply : Result Receipt ServeFault} {reply : Result (Result Receipt Refusal) ServeFault}
-        (due : Returning) → r ≡ Ok (MergeDue due) → (made : Carries g (λ w next. IsReturned w next due) due.receipt
+        (due : Returning) → r ≡ Ok (MergeDue due) → (made : Carries g (λ w next. IsReturned w next due)
+        due.receipt
         mid new [] before after made_reply)
         → ComeHome g Takes mid (λ uuid. (child_returned q.command ≡ Some uuid)
         × OfEachDue g (λ w next. IsReturned w next due) mid before (λ w next. IsNoPackage next uuid)) made.gone s
@@ -504,7 +514,8 @@ module _ {S : Type 0} (g : Ghosts S) {H : Type 0} (Asks : List ℕ → H → H �
       (λ child. AllClean g new → OfEachSeen g f known old before (λ w. IsNoPackage w child)) s s refl) writes
 
   -- where there is a fault no connection left the world
-  pub none_gone : {why : ServeFault} → r ≡ Err why → (all : ServesAll g f q old new strays known noted before after r)
+  pub none_gone : {why : ServeFault} → r ≡ Err why → (all : ServesAll g f q old new strays known noted before
+      after r)
       → all.gone ≡ []
   none_gone is all = all.dropped (subst HasNoReceipt (sym is) tt)
 

@@ -1,5 +1,6 @@
 -- What became of the store that a shelf gave for the child of a split.
-use Rattle.std.specs.Prelude.{◌≡◌, ◌≢◌, ◌⊎◌, ℕ, List, [], ◌∷◌, Option, Some, None, Result, Ok, Err, refl}
+use Rattle.std.specs.Prelude.{◌≡◌, ◌≢◌, ◌⊎◌, ℕ, List, [], ◌∷◌, Option, Some, None, Result}
+use Rattle.std.specs.Prelude.{Ok, Err, refl}
 use Rattle.std.proofs.Common.{sym, subst, inl, inr}
 use Rattle.sqlite.specs.Held.{Held}
 use Rattle.sqlite.specs.Store.{Ghosts}
@@ -54,7 +55,8 @@ module _ {S : Type 0} (g : Ghosts S) {H : Type 0} (Asks : List ℕ → H → H �
 
   -- so the shelf was asked once, and given back one store at most
   pub asked_of_child : (f : Frame) (due : Lending) (old new : List (Member S)) (strays : List (Held S))
-      (r : Result Receipt ServeFault) (s t : H) → UsesChild g Asks Takes Fails f due old new strays r s t → (t ≡ s)
+      (r : Result Receipt ServeFault) (s t : H) → UsesChild g Asks Takes Fails f due old new strays r s t
+      → (t ≡ s)
       ⊎ ((mid : H) × Asks due.child s mid × MayReturn Takes due.child mid t)
   asked_of_child f due old new strays (Ok receipt) s t asked = inr (t, asked, inl refl)
   asked_of_child f due old new strays (Err why) s t (inl same) = inl same
@@ -69,7 +71,8 @@ module _ {S : Type 0} (g : Ghosts S) {H : Type 0} (Asks : List ℕ → H → H �
   -- ---- a request
 
   pub gives_weaker : (child : List ℕ) (Beside Weaker : Trees → Type 0) (Failed Lasting : Type 0)
-      (strays : List (Held S)) (s t : H) → ((trees : Trees) → Beside trees → Weaker trees) → (Failed → Lasting)
+      (strays : List (Held S)) (s t : H) → ((trees : Trees) → Beside trees → Weaker trees)
+      → (Failed → Lasting)
       → GivesBack g Asks Takes Fails child Beside Failed strays s t
       → GivesBack g Asks Takes Fails child Weaker Lasting strays s t
   gives_weaker child Beside Weaker Failed Lasting strays s t so lasts (inl same) = inl same
@@ -109,7 +112,8 @@ module _ {S : Type 0} (g : Ghosts S) {H : Type 0} (Asks : List ℕ → H → H �
         (IsLastingFault why) strays s t so (λ l. l) used)
 
     -- a merge was due, which asks for no child
-    no_child : (command : Command) (uuid : List ℕ) → child_returned command ≡ Some uuid → child_asked command ≡ None
+    no_child : (command : Command) (uuid : List ℕ) → child_returned command ≡ Some uuid
+        → child_asked command ≡ None
     no_child (Merge child into ticket) uuid is = refl
     no_child (Split p child mode rect) uuid is = absurd (let e = is in cc)
     no_child (Add p identity content) uuid is = absurd (let e = is in cc)
@@ -117,7 +121,8 @@ module _ {S : Type 0} (g : Ghosts S) {H : Type 0} (Asks : List ℕ → H → H �
     no_child (Link p mapping base other) uuid is = absurd (let e = is in cc)
     no_child (Unlink p mapping base other) uuid is = absurd (let e = is in cc)
 
-    pub child_merged : (members : List (Member S)) (command : Command) (Fact : List ℕ → Type 0) (gone : List (Held S))
+    pub child_merged : (members : List (Member S)) (command : Command) (Fact : List ℕ → Type 0)
+        (gone : List (Held S))
         (r : Result (Result Receipt Refusal) ServeFault) (s t : H) → ComeHome g Takes members Fact gone s t
         → ((x : List ℕ) → Fact x → child_returned command ≡ Some x)
         → ServesChild g Asks Takes Fails (child_asked command) Beside strays r s t

@@ -1,5 +1,6 @@
 -- What is kept of the members tells which packages there are and how much each of them holds.
-use Rattle.std.proofs.Common.{◌≡◌, sym, ap, subst, ◌∙◌, ℕ, List, map, Some, None, slice_get, Result, Ok, Err, IfOk}
+use Rattle.std.proofs.Common.{◌≡◌, sym, ap, subst, ◌∙◌, ℕ, List, map, Some, None, slice_get, Result, Ok}
+use Rattle.std.proofs.Common.{Err, IfOk}
 use Rattle.std.specs.Bool.{then_some}
 use Rattle.sqlite.specs.Store.{Ghosts}
 use Rattle.sqlite_trees.proofs.ListLemmas.{map-map}
@@ -41,7 +42,8 @@ module _ {S : Type 0} (g : Ghosts S) where
 
   -- the sums that are kept of a member are those of its package
   pub sums_there : (ms : List (Member S)) (uuid : List ℕ) (at : ℕ) (m : Member S) → StandsAt g ms uuid at
-      → slice_get ms at ≡ Some m → (w : World) (count : ℕ) → AreMembers g ms count w → Some m.sums ≡ sums_of w uuid
+      → slice_get ms at ≡ Some m → (w : World) (count : ℕ) → AreMembers g ms count w
+      → Some m.sums ≡ sums_of w uuid
   sums_there ms uuid at m stands place w count are =
       let here : (p : Package) × (slice_get w.packages at ≡ Some p) × IsMember g w m p =
       zip_at (IsMember g w) ms w.packages at m are.each place in

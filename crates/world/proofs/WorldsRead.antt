@@ -23,7 +23,8 @@ module _ {S : Type 0} (g : Ghosts S) where
   }
 
   -- what rests on no UUID that is known
-  pub asks_known : {X E : Type 0} {Answer : World → X → Type 0} {old new : List (Member S)} {known : List (List ℕ)}
+  pub asks_known : {X E : Type 0} {Answer : World → X → Type 0} {old new : List (Member S)}
+      {known : List (List ℕ)}
       {r : Result X E} → AsksAll g {X = X} {E = E} Answer old new r
       → AsksAll g {X = X} {E = E} (λ w x. Knows known w → Answer w x) old new r
   asks_known {X} {E} {Answer} {old} {new} {known} {r} it = asks_weaker g r (λ x w count are told knows. told) it
@@ -39,8 +40,7 @@ module _ {S : Type 0} (g : Ghosts S) where
     stands_after : AllStay g old new → (w : World) → StandsFor g before w → StandsFor g after w
     stands_after stay w stands = record {
       frame = stands.frame;
-      members =
-          members_stay g old new count w stay stands.members;
+      members = members_stay g old new count w stay stands.members;
       known = stands.known;
     }
 
@@ -49,8 +49,7 @@ module _ {S : Type 0} (g : Ghosts S) where
       same = refl;
       stay = stay;
       clean = clean_before g old new stay;
-      stands =
-          stands_after stay;
+      stands = stands_after stay;
     }
 
     tells_members : {X E : Type 0} {Answer : World → X → Type 0} (r : Result X E)
@@ -76,7 +75,8 @@ module _ {S : Type 0} (g : Ghosts S) where
       world_is_read was seen = subst (λ s. IsRead g s after) seen (read_members it.stay)
 
       -- and open stores are still open where there was an answer
-      pub world_opens : (was : Seen S) → before ≡ was → AllClean g new → OnOk r (AllOpen g was.members → AllOpen g new)
+      pub world_opens : (was : Seen S) → before ≡ was → AllClean g new
+          → OnOk r (AllOpen g was.members → AllOpen g new)
       world_opens was seen clean = opens_members r it (subst (AllOpen g) (sym (ap (λ s. s.members) seen))) clean
 
       -- and keeps what each world keeps

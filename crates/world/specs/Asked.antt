@@ -1,5 +1,6 @@
 -- What a world asks a shelf for, and what it gives back to it. Profile.
-use Rattle.std.specs.Prelude.{◌≡◌, ◌⊎◌, ℕ, ⊤, true, false, List, [], ◌∷◌, ◌++◌, Option, Some, None, Result, Ok, Err}
+use Rattle.std.specs.Prelude.{◌≡◌, ◌⊎◌, ℕ, ⊤, true, false, List, [], ◌∷◌, ◌++◌, Option}
+use Rattle.std.specs.Prelude.{Some, None, Result, Ok, Err}
 use Rattle.std.specs.Prelude.{slice_get, bytes_eq}
 use Rattle.std.specs.List.{AllByRecursion}
 use Rattle.sqlite.specs.Held.{Held, state}
@@ -41,7 +42,8 @@ MayReturn {S} Takes uuid before after = (after ≡ before) ⊎ ((store : S) × T
 
 -- Between these two states a shelf was asked for nothing, or once for the store of this package, of which this holds;
 -- and then it was given back none, or one as that package's.
-abbrev pub AsksFor : {S H : Type 0} → (List ℕ → H → H → Type 0) → (List ℕ → S → H → H → Type 0) → Option (List ℕ)
+abbrev pub AsksFor : {S H : Type 0} → (List ℕ → H → H → Type 0) → (List ℕ → S → H → H → Type 0)
+    → Option (List ℕ)
     → (List ℕ → Type 0) → H → H → Type 0
 AsksFor Asks Takes None Fact before after = after ≡ before
 AsksFor {S} {H} Asks Takes (Some child) Fact before after = (after ≡ before)
@@ -54,13 +56,15 @@ TakesHomeOf {S} Takes command before after = (uuid : List ℕ) × (child_returne
 
 -- It was asked for what a request asks to be made, and may have got that back; or it was given back what the request
 -- takes home; or neither.
-abbrev pub IsUsedFor : {S H : Type 0} → (List ℕ → H → H → Type 0) → (List ℕ → S → H → H → Type 0) → Request → H → H
+abbrev pub IsUsedFor : {S H : Type 0} → (List ℕ → H → H → Type 0)
+    → (List ℕ → S → H → H → Type 0) → Request → H → H
     → Type 0
 IsUsedFor Asks Takes q before after = AsksFor Asks Takes (child_asked q.command) (λ child. ⊤) before after
     ⊎ TakesHomeOf Takes q.command before after
 
 -- The same of a list of requests, in turn.
-abbrev pub IsUsedForEach : {S H : Type 0} → (List ℕ → H → H → Type 0) → (List ℕ → S → H → H → Type 0) → List Request → H
+abbrev pub IsUsedForEach : {S H : Type 0} → (List ℕ → H → H → Type 0)
+    → (List ℕ → S → H → H → Type 0) → List Request → H
     → H → Type 0
 IsUsedForEach {S} {H} Asks Takes [] before after = after ≡ before
 IsUsedForEach {S} {H} Asks Takes (q ∷ qs) before after = (between : H) × IsUsedFor Asks Takes q before between
@@ -84,7 +88,8 @@ module _ {S : Type 0} (g : Ghosts S) where
     -- It was given back that of this connection, as that of the package of one of these members, of which this holds.
     -- The connection is the member's, and its store was only read.
     abbrev pub ComesHome : List (Member S) → (List ℕ → Type 0) → Held S → H → H → Type 0
-    ComesHome members Fact conn before after = (at : ℕ) × (member : Member S) × (slice_get members at ≡ Some member)
+    ComesHome members Fact conn before after = (at : ℕ) × (member : Member S)
+        × (slice_get members at ≡ Some member)
         × Stays (state g member.conn) (state g conn) × GivenBack g Takes member.uuid conn before after
         × Fact member.uuid
 
@@ -96,14 +101,16 @@ module _ {S : Type 0} (g : Ghosts S) where
   module _ {H : Type 0} (Asks : List ℕ → H → H → Type 0) (Takes : List ℕ → S → H → H → Type 0) where
     -- It was asked as above, where no member left; or it was given back the store that came home, and asked for
     -- nothing.
-    abbrev pub UsesFor : List (Member S) → Option (List ℕ) → (List ℕ → Type 0) → (List ℕ → Type 0) → List (Held S)
+    abbrev pub UsesFor : List (Member S) → Option (List ℕ) → (List ℕ → Type 0) → (List ℕ → Type 0)
+        → List (Held S)
         → H → H → Type 0
     UsesFor members child New NoMore [] before after = AsksFor Asks Takes child New before after
     UsesFor members child New NoMore (store ∷ others) before after =
         ComeHome Takes members NoMore (store ∷ others) before after
 
     -- So it was used in the turn of a request, among members.
-    abbrev pub ServesWith : Frame → Request → List (Member S) → List (Member S) → List (List ℕ) → ℕ → List (Held S)
+    abbrev pub ServesWith : Frame → Request → List (Member S) → List (Member S) → List (List ℕ) → ℕ
+        → List (Held S)
         → H → H → Type 0
     ServesWith f q old new known count gone before after = UsesFor old (child_asked q.command)
         (λ child. AllClean g new → OfEachSeen g f known old count (λ w. IsNoPackage w child))
@@ -136,17 +143,18 @@ module _ {S : Type 0} (g : Ghosts S) where
       abbrev pub ServesChild : Option (List ℕ) → (List ℕ → Trees → Type 0) → List (Held S)
           → Result (Result Receipt Refusal) ServeFault → H → H → Type 0
       ServesChild None Beside strays r before after = ⊤
-      ServesChild (Some child) Beside strays (Ok (Ok receipt)) before after = (after ≡ before) ⊎ Asks child before after
+      ServesChild (Some child) Beside strays (Ok (Ok receipt)) before after = (after ≡ before)
+          ⊎ Asks child before after
       ServesChild (Some child) Beside strays (Ok (Err why)) before after = after ≡ before
       ServesChild (Some child) Beside strays (Err why) before after =
           GivesBack child (Beside child) (IsLastingFault why) strays before after
 
-      -- Where a split asks for a child, this became of the store for it: after a receipt it is that of a member; else
-      -- the
-      -- shelf was given a store as that of the child, and a crash leaves nothing in that or what is beside the world;
-      -- or
-      -- a store is the stray of a world that has failed.
-      abbrev pub SettlesChild : Option (List ℕ) → Seen S → Result Receipt Refusal → Seen S → H → H → Type 0
+      -- Where a split asks for a child, this became of the store for it: after a receipt it is that
+      -- of a member; else the shelf was given a store as that of the child, and a crash leaves
+      -- nothing in that or what is beside the world; or a store is the stray of a world that has
+      -- failed.
+      abbrev pub SettlesChild : Option (List ℕ) → Seen S → Result Receipt Refusal → Seen S → H → H
+          → Type 0
       SettlesChild None old reply new before after = ⊤
       SettlesChild (Some child) old (Ok receipt) new before after = (after ≡ before) ⊎ Asks child before after
       SettlesChild (Some child) old (Err why) new before after = GivesBack child
@@ -168,7 +176,8 @@ module _ {S : Type 0} (g : Ghosts S) where
           → H → H → Type 0
       AreStepsWith [] old [] new gone before after = (new ≡ old) × (gone ≡ []) × (after ≡ before)
       AreStepsWith (q ∷ qs) old (reply ∷ replies) new gone before after = (mid : Seen S) × (between : H)
-          × (it : IsStepWith q old reply mid before between) × (later : List (Held S)) × (gone ≡ it.step.gone ++ later)
+          × (it : IsStepWith q old reply mid before between) × (later : List (Held S))
+          × (gone ≡ it.step.gone ++ later)
           × AreStepsWith qs mid replies new later between after
       AreStepsWith [] old (reply ∷ replies) new gone before after = ⊥
       AreStepsWith (q ∷ qs) old [] new gone before after = ⊥

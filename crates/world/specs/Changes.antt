@@ -29,7 +29,8 @@ module _ {S : Type 0} (g : Ghosts S) where
         → AreMembers g new (before + 1) (world_after change.receipt command w))
     pub crash : (w : World) → AreMembers g old before w → IsDue w change.at change.receipt command change.sums
         → AllOpen g old
-        → LeavesEither g (λ m. m.conn) (LeftAs w.frame) new w.packages (world_after change.receipt command w).packages
+        → LeavesEither g (λ m. m.conn) (LeftAs w.frame) new w.packages
+        (world_after change.receipt command w).packages
     pub opens : AllClean g new → IfOk r (λ receipt. AllOpen g old → AllOpen g new)
     pub err : (fault : TurnFault) → r ≡ Err fault
         → (after ≡ before) × ((w : World) → AreMembers g old before w → AreMembers g new before w)

@@ -1,5 +1,6 @@
 -- When no world is made. Profile.
-use Rattle.std.specs.Prelude.{◌≡◌, ◌≤◌, ◌+◌, ℕ, not, List, [], length, Vec, vec_capacity, Option, Result, Err, IfErr}
+use Rattle.std.specs.Prelude.{◌≡◌, ◌≤◌, ◌+◌, ℕ, not, List, [], length, Vec, vec_capacity, Option}
+use Rattle.std.specs.Prelude.{Result, Err, IfErr}
 use Rattle.std.specs.Prelude.{MatchOption}
 use Rattle.std.specs.Bool.{then_some}
 use Rattle.std.specs.Option.{option_or, option_map}
@@ -18,7 +19,8 @@ create_refusal f at = option_or (option_map BadFrame (frame_fault f)) (then_some
 -- Where something is wrong that is the answer, and else no other fault than want of memory or the store's is.
 abbrev pub IsCreatedOrRefused : {X : Type 0} → Frame → List ℕ → Result X CreateFault → Type 0
 IsCreatedOrRefused f at r =
-    MatchOption (create_refusal f at) (IfErr r (λ why. (fault : Fault) × (why ≡ Failed fault))) (λ why. r ≡ Err why)
+    MatchOption (create_refusal f at) (IfErr r (λ why. (fault : Fault) × (why ≡ Failed fault)))
+    (λ why. r ≡ Err why)
 
 -- an empty list has room for one of each of these
 abbrev pub HasRoom : {X Y : Type 0} → List X → Vec Y Global → Type 0

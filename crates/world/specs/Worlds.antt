@@ -1,5 +1,6 @@
 -- What a clause sees of a value of `World`, and the world of the model that it stands for. Profile.
-use Rattle.std.specs.Prelude.{◌≡◌, ◌⊎◌, ◌≤◌, ℕ, ℤ, Bool, true, false, List, [], ◌∷◌, ◌++◌, map, Option, None, Result}
+use Rattle.std.specs.Prelude.{◌≡◌, ◌⊎◌, ◌≤◌, ℕ, ℤ, Bool, true, false, List, [], ◌∷◌}
+use Rattle.std.specs.Prelude.{◌++◌, map, Option, None, Result}
 use Rattle.std.specs.Prelude.{Err, IsTrue, IsOk, IfOk, IsErr, refl}
 use Rattle.std.specs.List.{AllByRecursion}
 use Rattle.std.specs.Coded.{Coded, code_by, coded×, coded_bool, coded_list, coded_option, coded_ℕ, coded_ℤ}
@@ -43,8 +44,7 @@ seen_of f members count known = record {
   members = members;
   count = count;
   has_failed = false;
-  strays =
-      [];
+  strays = [];
   known = known;
 }
 
@@ -56,7 +56,8 @@ Eleven = ℤ × (ℤ × (ℤ × (ℤ × (ℤ × (ℤ × (ℤ × (ℤ × (ℤ × 
 abbrev frame_code : Coded Frame
 frame_code =
     code_by Eleven
-    (coded× coded_ℤ (coded× coded_ℤ (coded× coded_ℤ (coded× coded_ℤ (coded× coded_ℤ (coded× coded_ℤ (coded× coded_ℤ
+    (coded× coded_ℤ (coded× coded_ℤ (coded× coded_ℤ (coded× coded_ℤ
+    (coded× coded_ℤ (coded× coded_ℤ (coded× coded_ℤ
     (coded× coded_ℤ (coded× coded_ℤ (coded× coded_ℤ coded_ℤ))))))))))
     (λ f. (
       f.srs_id,
@@ -97,7 +98,8 @@ frame_code =
 
 abbrev sums_code : Coded Sums
 sums_code =
-    code_by (ℕ × (ℕ × (ℕ × (ℕ × ℕ)))) (coded× coded_ℕ (coded× coded_ℕ (coded× coded_ℕ (coded× coded_ℕ coded_ℕ))))
+    code_by (ℕ × (ℕ × (ℕ × (ℕ × ℕ)))) (coded× coded_ℕ (coded× coded_ℕ
+    (coded× coded_ℕ (coded× coded_ℕ coded_ℕ))))
     (λ s. (s.tiles, (s.media, (s.rows, (s.links, s.bytes)))))
     (λ p. record { tiles = p.0; media = p.1.0; rows = p.1.1.0; links = p.1.1.1.0; bytes = p.1.1.1.1 })
     (λ _. refl)
@@ -219,7 +221,8 @@ module _ {S : Type 0} (g : Ghosts S) where
   -- as the world before. So a world of which a commit may have gone through has failed.
   abbrev pub LeavesNoTrace : Seen S → Result Receipt Refusal → Seen S → Type 0
   LeavesNoTrace old reply new = IsErr reply → new.has_failed ≡ false → AllClean g new.members → (w : World)
-      → StandsFor old w → AllOpen g old.members → EachLeaves g (λ m. m.conn) (LeftAs w.frame) new.members w.packages
+      → StandsFor old w → AllOpen g old.members → EachLeaves g (λ m. m.conn) (LeftAs w.frame) new.members
+      w.packages
 
   -- Of open stores a crash leaves what they read as: the packages of each world that they stand for, and nothing else.
   abbrev pub LeftAsItStands : Type 0
@@ -253,7 +256,8 @@ module _ {S : Type 0} (g : Ghosts S) where
     pub shelf : before ≤ after
 
   -- Requests one after the other, each in the world that the one before left. These connections left then, in turn.
-  abbrev pub AreApplied : List Request → Seen S → List (Result Receipt Refusal) → Seen S → List (Held S) → ℕ → ℕ
+  abbrev pub AreApplied : List Request → Seen S → List (Result Receipt Refusal) → Seen S → List (Held S)
+      → ℕ → ℕ
       → Type 0
   AreApplied [] old [] new gone before after = (new ≡ old) × (gone ≡ []) × (after ≡ before)
   AreApplied (q ∷ qs) old (reply ∷ replies) new gone before after = (mid : Seen S) × (between : ℕ)
@@ -309,12 +313,14 @@ module _ {S : Type 0} (g : Ghosts S) where
     -- Where no request is a merge no connection left the world.
     pub kept : AllByRecursion (λ q. child_returned q.command ≡ None) qs → gone ≡ []
     -- A world that had failed told each request that a store failed, and stayed as it was.
-    pub failed : old.has_failed ≡ true → AllByRecursion (λ reply. reply ≡ Err StoreFault) replies × (new ≡ old)
+    pub failed : old.has_failed ≡ true → AllByRecursion (λ reply. reply ≡ Err StoreFault) replies
+        × (new ≡ old)
     -- Open stores are still open where it can be used, unless a disk failed where memory was wanting.
     pub stays_open : AllClean g new.members → AreClean g gone → new.has_failed ≡ false → NoneShut replies
         → AllOpen g old.members → AllOpen g new.members
     -- Where it has failed on the way, a crash leaves one of the two worlds at which it was stopped.
-    pub stops : AllClean g new.members → AreClean g gone → old.has_failed ≡ false → new.has_failed ≡ true → (w : World)
+    pub stops : AllClean g new.members → AreClean g gone → old.has_failed ≡ false → new.has_failed ≡ true
+        → (w : World)
         → StandsFor old w → AllOpen g old.members → IsStopped qs replies w new
     -- Where the last reply is a refusal, or a fault that leaves it usable, a crash leaves the world that it stands for.
     pub unharmed : (told : List (Result Receipt Refusal)) (why : Refusal) → replies ≡ told ++ Err why ∷ []

@@ -1,6 +1,7 @@
 //! What a world is asked for without changing it: the packages, what one of them holds and how
 //! much, and a kept receipt.
-ghost use Rattle.std.specs.Prelude.{◌≡◌, ◌<◌, ◌≤◌, ◌+◌, ◌++◌, ℕ, Some, IfOk, OnOk, map, length, slice_get, vec_len};
+ghost use Rattle.std.specs.Prelude.{◌≡◌, ◌<◌, ◌≤◌, ◌+◌, ◌++◌, ℕ, Some, IfOk, OnOk, map};
+ghost use Rattle.std.specs.Prelude.{length, slice_get, vec_len};
 ghost use Rattle.std.specs.Prelude.{vec_capacity};
 ghost use Rattle.std.specs.Option.{option_map};
 ghost use Rattle.sheet_types.specs.Answers.{sums_of, package_sights, holdings_answer, receipt_answer};
@@ -82,7 +83,8 @@ pub fn sights_of<S: Alter + Drop>(
 
 /// How much a package holds, if it is live, from what is kept of it.
 pub fn sums_in<S: Alter + Drop>(members: &[Member<S>], package: Uuid) -> Option<Sums>
-    ensures { (w : ModelWorld) → (count : ℕ) → AreMembers S.Store members.now count w → result ≡ sums_of w «package» }
+    ensures { (w : ModelWorld) → (count : ℕ) → AreMembers S.Store members.now count w
+        → result ≡ sums_of w «package» }
 {
     match place_of(members, package) {
         Some(at) => Some(members[at].sums),

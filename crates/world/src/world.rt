@@ -61,8 +61,7 @@ impl<S: Alter + Drop> Model for World<S> {
       frame = w.frame;
       members = w.members.items;
       count = w.count;
-      has_failed =
-          w.has_failed;
+      has_failed = w.has_failed;
       strays = w.strays.items;
       known = w.known;
     } };
@@ -70,8 +69,7 @@ impl<S: Alter + Drop> Model for World<S> {
     ghost invariant = { λ w. IsHeld S.Store (record {
       frame = w.frame;
       members = w.members.items;
-      count =
-          w.count;
+      count = w.count;
       has_failed = w.has_failed;
       strays = w.strays.items;
       known = w.known;
@@ -245,7 +243,8 @@ impl<S: Alter + Drop> World<S> {
         ensures uses { IfOk result (λ replies. IsRunWith S.Store H.asks H.takes H.failures_of requests.now self.old
             replies.items self.new
             (H.failures_of shelf.old) (H.failures_of shelf.new) shelf.old shelf.new) }
-        ensures refused { OnErr result ((self.new ≡ self.old) × (H.failures_of shelf.new ≡ H.failures_of shelf.old)) }
+        ensures refused { OnErr result ((self.new ≡ self.old)
+            × (H.failures_of shelf.new ≡ H.failures_of shelf.old)) }
         ensures unasked { OnErr result (shelf.new ≡ shelf.old) }
     {
         let mut replies = Vec::with_capacity(alloc, requests.len())?;

@@ -1,5 +1,6 @@
 -- A split among the members of a world.
-use Rattle.std.specs.Prelude.{◌≡◌, ◌≢◌, ◌⊎◌, ◌≤◌, ℕ, true, zero, suc, ◌+◌, List, [], ◌∷◌, ◌++◌, map, Some, slice_get}
+use Rattle.std.specs.Prelude.{◌≡◌, ◌≢◌, ◌⊎◌, ◌≤◌, ℕ, true, zero, suc, ◌+◌, List, []}
+use Rattle.std.specs.Prelude.{◌∷◌, ◌++◌, map, Some, slice_get}
 use Rattle.std.specs.Prelude.{slice_set, refl, Result, Ok, Err, IsTrue}
 use Rattle.std.proofs.Common.{IsErrAnd, sym, ap, subst, ◌∙◌, inl, inr, arith, length, length-append}
 use Rattle.std.specs.List.{AllByRecursion, AllZip, insert}
@@ -71,7 +72,8 @@ all_but_inserted P [] at x all = tt
 all_but_inserted P (y ∷ xs) zero x all = all.1
 all_but_inserted P (y ∷ xs) (suc at) x all = (all.0, all_but_inserted P xs at x all.1)
 
-pub inserted_has : {A : Type 0} (P : A → Type 0) (xs : List A) (at : ℕ) (x : A) → AllByRecursion P (insert xs at x)
+pub inserted_has : {A : Type 0} (P : A → Type 0) (xs : List A) (at : ℕ) (x : A)
+    → AllByRecursion P (insert xs at x)
     → P x
 inserted_has P [] zero x all = all.0
 inserted_has P [] (suc at) x all = all.0
@@ -119,12 +121,10 @@ module _ {S : Type 0} (g : Ghosts S) where
       ⊎ LeftAs w.frame trees (loan due is.taken) → IsChildBeside w.frame w.packages due.child trees
   is_beside w next due is trees (inl empty) = (
     record {
-      other =
-          new_package due.child (Some due.parent) due.depth due.receipt.seq;
+      other = new_package due.child (Some due.parent) due.depth due.receipt.seq;
       reads = empty;
       lent = refl;
-      apart =
-          is.apart;
+      apart = is.apart;
     },
     refl,
   )
@@ -132,8 +132,7 @@ module _ {S : Type 0} (g : Ghosts S) where
     record {
       other = loan due is.taken;
       reads = filled;
-      lent =
-          refl;
+      lent = refl;
       apart = is.apart;
     },
     refl,
@@ -203,7 +202,8 @@ module _ {S : Type 0} (g : Ghosts S) where
       (child (clean_source clean) is.receipt.moment is.taken is.parent is.selected reads is.part is.come)))
 
   -- the shelf had none
-  pub asked_alone : {H : Type 0} (Takes : List ℕ → S → H → H → Type 0) (Asks : List ℕ → H → H → Type 0) (f : Frame)
+  pub asked_alone : {H : Type 0} (Takes : List ℕ → S → H → H → Type 0)
+      (Asks : List ℕ → H → H → Type 0) (f : Frame)
       (due : Lending) (old new : List (Member S)) (r : Result (Held S) ServeFault) (came : ServeFault) (s t : H)
       → IsErrAnd r (λ why. why ≡ came) → IsUnshelved came → Asks due.child s t
       → AsksChild g Takes Asks f due old new r s t
@@ -285,7 +285,8 @@ module _ {S : Type 0} (g : Ghosts S) (shuts : Shuts g) (settles : Settles g) (du
             cc in same,
         refl,
         length_insert mid due.child_at own
-            ∙ ap (λ n. n + 1) (turn_length g {E = E} (Lends due.receipt due.selection) due.left due.receipt.seq old mid
+            ∙ ap (λ n. n + 1) (turn_length g {E = E} (Lends due.receipt due.selection) due.left due.receipt.seq old
+            mid
             due.at (Ok tt) it),
         λ w next count clean are lends keeps. placed_are w next count are lends keeps,
       );
@@ -352,7 +353,8 @@ module _ {S : Type 0} (g : Ghosts S) (shuts : Shuts g) (settles : Settles g) (du
           })
         ]
       where
-        member_reads : (w : World) (count : ℕ) → AreMembers g old count w → (is : IsLent w next due) → AllOpen g old
+        member_reads : (w : World) (count : ℕ) → AreMembers g old count w → (is : IsLent w next due)
+            → AllOpen g old
             → Reads w.frame is.parent (state g it.was.conn).now
         member_reads v n members is' open' = read_at g v n old due.at it.was is'.parent it.place is'.place
             (all-slice_get (λ (m : Member S). IsTrue (state g m.conn).is_open) old due.at it.was it.place

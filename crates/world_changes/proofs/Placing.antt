@@ -9,7 +9,8 @@ one_more k at same = cc
 
 -- what goes together at all places but one
 zip_all : {A B : Type 0} (R R' : A → B → Type 0) (xs : List A) (ys : List B)
-    → ((k : ℕ) (x : A) (y : B) → slice_get ys k ≡ Some y → R x y → R' x y) → AllZip R xs ys → AllZip R' xs ys
+    → ((k : ℕ) (x : A) (y : B) → slice_get ys k ≡ Some y → R x y → R' x y) → AllZip R xs ys
+    → AllZip R' xs ys
 zip_all R R' [] [] f zip = tt
 zip_all R R' [] (y ∷ ys) f zip = absurd zip
 zip_all R R' (x ∷ xs) [] f zip = absurd zip
@@ -20,9 +21,11 @@ zip_all R R' (x ∷ xs) (y ∷ ys) f zip = (
 )
 
 -- one of each is set
-pub zip_turn : {A B : Type 0} (R R' : A → B → Type 0) (xs : List A) (ys : List B) (at : ℕ) (was now : A) (p after : B)
+pub zip_turn : {A B : Type 0} (R R' : A → B → Type 0) (xs : List A) (ys : List B) (at : ℕ) (was now : A)
+    (p after : B)
     → slice_get xs at ≡ Some was → slice_get ys at ≡ Some p → (R was p → R' now after)
-    → ((k : ℕ) (x : A) (y : B) → slice_get ys k ≡ Some y → ¬ (k ≡ at) → R x y → R' x y) → AllZip R xs ys
+    → ((k : ℕ) (x : A) (y : B) → slice_get ys k ≡ Some y → ¬ (k ≡ at) → R x y → R' x y)
+    → AllZip R xs ys
     → AllZip R' (slice_set xs at now) (slice_set ys at after)
 zip_turn R R' [] ys at was now p after at_x at_y here others zip = absurd (let e = at_x in cc)
 zip_turn R R' (x ∷ xs) [] at was now p after at_x at_y here others zip = absurd zip
@@ -40,7 +43,8 @@ zip_turn R R' (x ∷ xs) (y ∷ ys) (suc at) was now p after at_x at_y here othe
 )
 
 -- one comes to each
-pub zip_insert : {A B : Type 0} (R : A → B → Type 0) (xs : List A) (ys : List B) (at : ℕ) (x : A) (y : B) → R x y
+pub zip_insert : {A B : Type 0} (R : A → B → Type 0) (xs : List A) (ys : List B) (at : ℕ) (x : A) (y : B)
+    → R x y
     → AllZip R xs ys → AllZip R (insert xs at x) (insert ys at y)
 zip_insert R [] [] zero x y both zip = (both, tt)
 zip_insert R [] [] (suc at) x y both zip = (both, tt)

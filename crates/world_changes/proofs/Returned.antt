@@ -1,5 +1,6 @@
 -- A merge among the members of a world.
-use Rattle.std.specs.Prelude.{◌≡◌, ⊤, ℕ, zero, suc, ◌+◌, List, [], ◌∷◌, ◌++◌, map, Some, slice_get, refl, Ok, Err}
+use Rattle.std.specs.Prelude.{◌≡◌, ⊤, ℕ, zero, suc, ◌+◌, List, [], ◌∷◌, ◌++◌, map, Some}
+use Rattle.std.specs.Prelude.{slice_get, refl, Ok, Err}
 use Rattle.std.specs.Prelude.{IsTrue}
 use Rattle.std.proofs.Common.{sym, ap, subst, ◌∙◌, inl, inr, arith}
 use Rattle.std.specs.List.{AllByRecursion, AllZip, insert, remove}
@@ -101,8 +102,10 @@ module _ {S : Type 0} (g : Ghosts S) (shuts : Shuts g) (settles : Settles g) (du
   child_package w next count are is = zip_removed (IsMember g w) old w.packages due.from child is.child place is.from
       are.each
 
-  child_left : (w next : World) (count : ℕ) → AreMembers g old count w → (is : IsReturned w next due) → AllOpen g old
-      → HasCleanDisk (state g last) → (trees : Trees) → (state g last).may_leave trees → LeftAs w.frame trees is.child
+  child_left : (w next : World) (count : ℕ) → AreMembers g old count w → (is : IsReturned w next due)
+      → AllOpen g old
+      → HasCleanDisk (state g last) → (trees : Trees) → (state g last).may_leave trees
+      → LeftAs w.frame trees is.child
   child_left w next count are is opened clean trees may =
       elim (stays.survives.crash clean trees may) [
         | inl before ↦ zip_removed (λ m p. (t : Trees) → (state g m.conn).may_leave t → LeftAs w.frame t p) old
@@ -118,14 +121,14 @@ module _ {S : Type 0} (g : Ghosts S) (shuts : Shuts g) (settles : Settles g) (du
     other = is.child;
     reads = child_left w next count are is opened clean trees may;
     lent = is.lent;
-    apart =
-        is.apart;
+    apart = is.apart;
   }
 
   -- where the parent's disk and the child's are clean, the change is one of the parent's package
   reads_home : (w next : World) (count : ℕ) → AreMembers g old count w → (is : IsReturned w next due)
       → HasCleanDisk (state g last) → IsTrue (state g child.conn).is_open → (db db' : Database)
-      → Reads w.frame is.parent db → Change db db' → Reads w.frame (returned due.receipt is.taken is.child is.parent)
+      → Reads w.frame is.parent db → Change db db' → Reads w.frame
+      (returned due.receipt is.taken is.child is.parent)
       db'
   reads_home w next count are is clean opened db db' reads change =
       (change clean is.taken w.frame is.child is.parent is.selected ((child_package w next count are is).reads opened)
@@ -244,7 +247,8 @@ module _ {S : Type 0} (g : Ghosts S) (shuts : Shuts g) (settles : Settles g) (du
     conns_clean [] all = tt
     conns_clean (m ∷ ms) all = (all.0, conns_clean ms all.1)
 
-    crashed : (w next : World) (count : ℕ) → AreMembers g old count w → (is : IsReturned w next due) → AllOpen g old
+    crashed : (w next : World) (count : ℕ) → AreMembers g old count w → (is : IsReturned w next due)
+        → AllOpen g old
         → LeavesOneOf g w.frame (map (λ m. m.conn) again) w.packages next.packages
     crashed w next count are is opened clean contents may =
         let disks = again_clean (All-from_recursion Clean again
@@ -307,7 +311,8 @@ module _ {S : Type 0} (g : Ghosts S) (shuts : Shuts g) (settles : Settles g) (du
     -- of the others and of the child no failure is forgotten
     again_survive : AllSurvive g old again
     again_survive = subst (λ ms. AllSurvive g ms again) (back_again old due.from child place)
-        (zip_insert (λ (m n : Member S). Survives (state g m.conn) (state g n.conn) (λ trees. ⊤)) rest_of mid due.from
+        (zip_insert (λ (m n : Member S). Survives (state g m.conn) (state g n.conn) (λ trees. ⊤)) rest_of mid
+        due.from
         child now_child (survives_any (state g child.conn) (state g last) stays.survives)
         (turn_survive g {E = TurnFault} Change due.sums due.receipt.seq rest_of mid into_at (Err why) it))
 
@@ -321,7 +326,8 @@ module _ {S : Type 0} (g : Ghosts S) (shuts : Shuts g) (settles : Settles g) (du
         → LeftAs w.frame t p in
         subst (λ ps. AllZip (λ (m : Member S) (p : Package). (t : Trees) → (state g m.conn).may_leave t
         → LeftAs w.frame t p) again ps) (back_again w.packages due.from here.0 here.1)
-        (zip_insert (λ (m : Member S) (p : Package). (t : Trees) → (state g m.conn).may_leave t → LeftAs w.frame t p)
+        (zip_insert (λ (m : Member S) (p : Package). (t : Trees) → (state g m.conn).may_leave t
+        → LeftAs w.frame t p)
         mid (remove w.packages due.from) due.from now_child here.0
         (λ t may. elim (stays.survives.crash disks.1 t may) [
           | inl before
@@ -338,7 +344,8 @@ module _ {S : Type 0} (g : Ghosts S) (shuts : Shuts g) (settles : Settles g) (du
         → LeftAs w.frame t p) old w.packages due.from each)))
 
     -- the parent is as it was, or may be, and the child stands where it stood
-    pub merges_failed : ((x : Fault) → why ≡ Before x → LeavesNoMore g rest_of mid) → Merges g due old again (Err why)
+    pub merges_failed : ((x : Fault) → why ≡ Before x → LeavesNoMore g rest_of mid)
+        → Merges g due old again (Err why)
     merges_failed unharmed = record {
       read = tt;
       home = λ merged is. absurd (let e = is in cc);

@@ -37,7 +37,8 @@ module _ {S : Type 0} (g : Ghosts S) (shuts : Shuts g) (settles : Settles g) {X 
       → IsTrue (state g new).is_open → IsTrue (state g old).is_open
   open_if_dropped undone = ended_open (λ clean. (undone clean).was_open)
 
-  pub open_if_uncommitted : {e : Error} → (HasCleanDisk (state g end) → FailsToCommit (state g last) (state g end) e)
+  pub open_if_uncommitted : {e : Error} → (HasCleanDisk (state g end)
+      → FailsToCommit (state g last) (state g end) e)
       → IsTrue (state g new).is_open → IsTrue (state g old).is_open
   open_if_uncommitted {e} why = ended_open (λ clean is_open. elim (why clean)
       [ inl failed ↦ failed.3.was_open is_open | inr late ↦ late.2.0.was_open ])

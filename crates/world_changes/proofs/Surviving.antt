@@ -1,6 +1,7 @@
 -- No failure of a disk is forgotten, and nothing else shuts a store: of members that were read, and where one took a
 -- turn.
-use Rattle.std.specs.Prelude.{◌≡◌, ⊤, ℕ, zero, suc, List, [], ◌∷◌, Some, slice_get, slice_set, refl, Result, Ok, Err}
+use Rattle.std.specs.Prelude.{◌≡◌, ⊤, ℕ, zero, suc, List, [], ◌∷◌, Some, slice_get, slice_set, refl}
+use Rattle.std.specs.Prelude.{Result, Ok, Err}
 use Rattle.std.proofs.Common.{sym, subst, inr}
 use Rattle.std.specs.List.{AllZip}
 use Rattle.sqlite.specs.Effect.{Database}
@@ -22,7 +23,8 @@ use Rattle.world_members.specs.declared.members.Member.{Member}
 
 -- one relation after another
 zip_then : {X Y Z : Type 0} (P : X → Y → Type 0) (Q : Y → Z → Type 0) (R : X → Z → Type 0)
-    → ((x : X) (y : Y) (z : Z) → P x y → Q y z → R x z) → (xs : List X) (ys : List Y) (zs : List Z) → AllZip P xs ys
+    → ((x : X) (y : Y) (z : Z) → P x y → Q y z → R x z) → (xs : List X) (ys : List Y) (zs : List Z)
+    → AllZip P xs ys
     → AllZip Q ys zs → AllZip R xs zs
 zip_then P Q R f [] [] [] one two = tt
 zip_then P Q R f [] [] (z ∷ zs) one two = absurd two
@@ -32,7 +34,8 @@ zip_then P Q R f (x ∷ xs) (y ∷ ys) [] one two = absurd two
 zip_then P Q R f (x ∷ xs) (y ∷ ys) (z ∷ zs) one two = (f x y z one.0 two.0, zip_then P Q R f xs ys zs one.1 two.1)
 
 -- what follows place by place
-zip_weaker : {X Y : Type 0} (P R : X → Y → Type 0) → ((x : X) (y : Y) → P x y → R x y) → (xs : List X) (ys : List Y)
+zip_weaker : {X Y : Type 0} (P R : X → Y → Type 0) → ((x : X) (y : Y) → P x y → R x y)
+    → (xs : List X) (ys : List Y)
     → AllZip P xs ys → AllZip R xs ys
 zip_weaker P R f [] [] zip = tt
 zip_weaker P R f [] (y ∷ ys) zip = absurd zip
@@ -66,8 +69,7 @@ survives_any a b it = record {
   shield = it.shield;
   counts = it.counts;
   limit = it.limit;
-  closes =
-      it.closes;
+  closes = it.closes;
   crash = λ clean db may. inr tt;
 }
 
@@ -113,7 +115,8 @@ module _ {S : Type 0} (g : Ghosts S) where
 
   -- and one that changes one package
   pub carried_survive : {E : Type 0} (r : Receipt) (command : Command) (sums : Sums) (old new : List (Member S))
-      (at : ℕ) (reply : Result (Unit {0}) E) → CarriesOutAt g r command sums old new at reply → AllSurvive g old new
+      (at : ℕ) (reply : Result (Unit {0}) E) → CarriesOutAt g r command sums old new at reply
+      → AllSurvive g old new
   carried_survive {E} r command sums old new at reply it =
       subst (AllSurvive g old) (sym it.others) (same_or_set One one_same old at it.was
       (turned g r sums it.was it.last reply) it.place (here reply))

@@ -1,5 +1,6 @@
 -- A member whose store took a turn, and what all members stand for then.
-use Rattle.std.specs.Prelude.{◌≡◌, ◌⊎◌, ℕ, zero, suc, List, [], ◌∷◌, Some, slice_get, slice_set, refl, Result, Ok}
+use Rattle.std.specs.Prelude.{◌≡◌, ◌⊎◌, ℕ, zero, suc, List, [], ◌∷◌, Some, slice_get, slice_set}
+use Rattle.std.specs.Prelude.{refl, Result, Ok}
 use Rattle.std.specs.Prelude.{Err, IsErr, IsTrue}
 use Rattle.std.proofs.Common.{sym, ap, subst, ◌∙◌, inl, inr, arith, length, IfErr, IsErrAnd}
 use Rattle.std.specs.List.{AllByRecursion, AllZip}
@@ -30,7 +31,8 @@ use Rattle.world_members.proofs.Changing.{zip_set}
 use Rattle.world_changes.proofs.Placing.{zip_turn}
 
 -- what all have after one was set, and that one had before
-set_back : {A : Type 0} (P : A → Type 0) (xs : List A) (at : ℕ) (was now : A) → slice_get xs at ≡ Some was → P was
+set_back : {A : Type 0} (P : A → Type 0) (xs : List A) (at : ℕ) (was now : A) → slice_get xs at ≡ Some was
+    → P was
     → AllByRecursion P (slice_set xs at now) → AllByRecursion P xs
 set_back P [] at was now place here h = tt
 set_back P (x ∷ xs) zero was now place here h = let same : x ≡ was = cc in (subst P (sym same) here, h.1)
@@ -46,7 +48,8 @@ if_err P (Ok x) p = tt
 if_err P (Err e) p = p
 
 -- and what holds of the one that came
-pub if_err_of : {X E : Type 0} (P : E → Type 0) (r : Result X E) (came : E) → IsErrAnd r (λ why. why ≡ came) → P came
+pub if_err_of : {X E : Type 0} (P : E → Type 0) (r : Result X E) (came : E) → IsErrAnd r (λ why. why ≡ came)
+    → P came
     → IfErr r P
 if_err_of P (Ok x) came is p = tt
 if_err_of P (Err e) came is p = subst P (sym is) p
@@ -65,7 +68,8 @@ module _ {S : Type 0} (g : Ghosts S) where
   same_or_set R same (x ∷ xs) (suc at) was now place one = (same x, same_or_set R same xs at was now place one)
 
   -- one store that a crash does not show changed
-  pub leaves_no_more : (old : List (Member S)) (at : ℕ) (was : Member S) (last : Held S) → slice_get old at ≡ Some was
+  pub leaves_no_more : (old : List (Member S)) (at : ℕ) (was : Member S) (last : Held S)
+      → slice_get old at ≡ Some was
       → Survives (state g was.conn) (state g last) (λ _. ⊥) → LeavesNoMore g old
       (slice_set old at (record was { conn = last }))
   leaves_no_more old at was last place survives clean =
@@ -94,13 +98,13 @@ module _ {S : Type 0} (g : Ghosts S) where
       done = λ clean. tt;
       undone = turns.undone;
       left = turns.left;
-      survives =
-          turns.survives;
+      survives = turns.survives;
     };
     was_open = opened;
   }
 
-  module _ {E : Type 0} (Change : Database → Database → Type 0) (sums : Sums) (number : ℕ) (old new : List (Member S))
+  module _ {E : Type 0} (Change : Database → Database → Type 0) (sums : Sums) (number : ℕ)
+      (old new : List (Member S))
       (at : ℕ) (reply : Result (Unit {0}) E) (it : TakesTurn g {E = E} Change sums number old new at reply) where
     abbrev now_here : Member S
     now_here = after_turn g sums number it.was it.last reply
@@ -182,10 +186,12 @@ module _ {S : Type 0} (g : Ghosts S) where
     pub loan : after.loan ≡ p.loan
 
   -- And then the members are the changed packages.
-  pub turn_done : {E : Type 0} (shuts : Shuts g) (Change : Database → Database → Type 0) (sums : Sums) (number : ℕ)
+  pub turn_done : {E : Type 0} (shuts : Shuts g) (Change : Database → Database → Type 0) (sums : Sums)
+      (number : ℕ)
       (old new : List (Member S)) (at : ℕ) → TakesTurn g {E = E} Change sums number old new at (Ok tt)
       → (w next : World) (packages : List Package) (p after : Package) → next.frame ≡ w.frame
-      → slice_get packages at ≡ Some p → SameHead p after → sums ≡ sums_held after → ticket next p.uuid ≡ number
+      → slice_get packages at ≡ Some p → SameHead p after → sums ≡ sums_held after
+      → ticket next p.uuid ≡ number
       → ((db db' : Database) → Reads w.frame p db → Change db db' → Reads w.frame after db')
       → ((k : ℕ) (q : Package) → slice_get packages k ≡ Some q → ¬ (k ≡ at)
       → ticket next q.uuid ≡ ticket w q.uuid)
@@ -210,7 +216,8 @@ module _ {S : Type 0} (g : Ghosts S) where
             (it.turns.done (clean_if_open (g.view it.last.store) (shuts it.last.store) is_open)).0);
       }
 
-      rest : (k : ℕ) (m : Member S) (q : Package) → slice_get packages k ≡ Some q → ¬ (k ≡ at) → IsMember g w m q
+      rest : (k : ℕ) (m : Member S) (q : Package) → slice_get packages k ≡ Some q → ¬ (k ≡ at)
+          → IsMember g w m q
           → IsMember g next m q
       rest k m q at_k other is = record {
         uuid = is.uuid;

@@ -1,5 +1,6 @@
 -- Which stores of members are written to: in a turn, by a member that comes back to its place, and after a look.
-use Rattle.std.specs.Prelude.{◌≡◌, ℕ, zero, suc, List, [], ◌∷◌, Option, Some, slice_get, slice_set, refl, Result, Ok}
+use Rattle.std.specs.Prelude.{◌≡◌, ℕ, zero, suc, List, [], ◌∷◌, Option, Some, slice_get, slice_set}
+use Rattle.std.specs.Prelude.{refl, Result, Ok}
 use Rattle.std.specs.Prelude.{Err}
 use Rattle.std.proofs.Common.{sym, ap, subst, ◌∙◌, inl, inr}
 use Rattle.std.specs.List.{insert, remove}
@@ -54,7 +55,8 @@ module _ {S : Type 0} (g : Ghosts S) where
       (one_then x y z one.0 two.0, stay_then_but xs ys zs at one.1 two.1)
 
   -- one was set
-  set_but : (old : List (Member S)) (at : ℕ) (was now : Member S) → AllStay g old old → slice_get old at ≡ Some was
+  set_but : (old : List (Member S)) (at : ℕ) (was now : Member S) → AllStay g old old
+      → slice_get old at ≡ Some was
       → now.uuid ≡ was.uuid → AllStayBut g old (slice_set old at now) at
   set_but [] at was now still place same = tt
   set_but (m ∷ ms) zero was now still place same = let here : m ≡ was =
@@ -122,19 +124,18 @@ module _ {S : Type 0} (g : Ghosts S) where
       before = old;
       after = mid;
       left = refl;
-      stayed =
-          (zero, stay_but old mid zero stay);
+      stayed = (zero, stay_but old mid zero stay);
       came = inl refl;
     }
 
     -- one took a turn
-    pub one_written : (new : List (Member S)) → AllStayButOne g mid new → WritesTwoAtMost g asked returned old new []
+    pub one_written : (new : List (Member S)) → AllStayButOne g mid new
+        → WritesTwoAtMost g asked returned old new []
     one_written new one = record {
       before = old;
       after = new;
       left = refl;
-      stayed =
-          (one.0, stay_then_but old mid new one.0 stay one.1);
+      stayed = (one.0, stay_then_but old mid new one.0 stay one.1);
       came = inl refl;
     }
 
@@ -145,8 +146,7 @@ module _ {S : Type 0} (g : Ghosts S) where
       before = old;
       after = rest;
       left = refl;
-      stayed =
-          (one.0, stay_then_but old mid rest one.0 stay one.1);
+      stayed = (one.0, stay_then_but old mid rest one.0 stay one.1);
       came = inr (at, child, named, is);
     }
 
@@ -198,13 +198,13 @@ module _ {S : Type 0} (g : Ghosts S) where
         before = remove old from;
         after = new;
         left = (refl, from, member, place, named, refl, stays);
-        stayed =
-            one;
+        stayed = one;
         came = inl refl;
       }
 
   -- where no member left, it is the same of any command that asks for as much
-  pub asked_written : (asked asked' returned returned' : Option (List ℕ)) (old new : List (Member S)) → asked ≡ asked'
+  pub asked_written : (asked asked' returned returned' : Option (List ℕ)) (old new : List (Member S))
+      → asked ≡ asked'
       → WritesTwoAtMost g asked returned old new [] → WritesTwoAtMost g asked' returned' old new []
   asked_written asked asked' returned returned' old new same it =
       subst (λ x. WritesTwoAtMost g x returned' old new []) same

@@ -1,6 +1,7 @@
 -- What carrying out what is due makes of the members of a world that can be used, and what serving a request does.
 -- Profile.
-use Rattle.std.specs.Prelude.{◌≡◌, ◌≤◌, ℕ, ◌+◌, List, [], ◌++◌, map, length, Result, Ok, Err, IfOk, IsErr, IsOk}
+use Rattle.std.specs.Prelude.{◌≡◌, ◌≤◌, ℕ, ◌+◌, List, [], ◌++◌, map, length, Result, Ok, Err}
+use Rattle.std.specs.Prelude.{IfOk, IsErr, IsOk}
 use Rattle.sqlite.specs.Held.{Held}
 use Rattle.sqlite.specs.Store.{Ghosts}
 use Rattle.sheet_types.specs.Refuse.{greatest_receipts}
@@ -47,7 +48,8 @@ module _ {S : Type 0} (g : Ghosts S) where
   StandOn old before new after = (w : World) → AreMembers g old before w → AreMembers g new after w
 
   -- it is so of each world that the members stand for, and of the next one that is due
-  abbrev pub OfEachDue : (World → World → Type 0) → List (Member S) → ℕ → (World → World → Type 0) → Type 0
+  abbrev pub OfEachDue : (World → World → Type 0) → List (Member S) → ℕ → (World → World → Type 0)
+      → Type 0
   OfEachDue Due members count Fact = (w next : World) → AreMembers g members count w → Due w next → Fact w next
 
   -- and of each that they stand for which has this frame, where what its receipts name is known

@@ -39,12 +39,13 @@ module _ {S : Type 0} (g : Ghosts S) where
   -- It is beside the world that the split has not changed, as the child's.
   abbrev pub IsUnlent : Frame → Lending → List (Member S) → List (Member S) → Trees → Type 0
   IsUnlent f due old new trees = AllClean g new → (w next : World) (count : ℕ) → f ≡ w.frame
-      → AreMembers g old count w → IsLent w next due → AllOpen g old → IsChildBeside w.frame w.packages due.child trees
+      → AreMembers g old count w → IsLent w next due → AllOpen g old
+      → IsChildBeside w.frame w.packages due.child trees
 
   module _ {H : Type 0} (Takes : List ℕ → S → H → H → Type 0) where
-    -- A shelf was given back the store of this connection, as that of the package of this UUID. Where its disk has
-    -- given
-    -- back what was written it had done so for the connection, and a crash leaves no more of it.
+    -- A shelf was given back the store of this connection, as that of the package of this UUID.
+    -- Where its disk has given back what was written it had done so for the connection, and a crash
+    -- leaves no more of it.
     abbrev pub GivenBack : List ℕ → Held S → H → H → Type 0
     GivenBack uuid conn before after = (store : S) × IsQuiet g.view g.faults g.recovers g.is_shielded conn.store store
         × Takes uuid store before after
@@ -64,7 +65,8 @@ module _ {S : Type 0} (g : Ghosts S) where
     module _ (Asks : List ℕ → H → H → Type 0) where
       -- It was asked for the store of the child, and nothing else. Where it gave one and the child did not come to be
       -- filled, a store was given back to it as that of the child.
-      abbrev pub AsksChild : Frame → Lending → List (Member S) → List (Member S) → Result (Held S) ServeFault → H → H
+      abbrev pub AsksChild : Frame → Lending → List (Member S) → List (Member S) → Result (Held S) ServeFault
+          → H → H
           → Type 0
       AsksChild f due old new (Ok child) before after = Asks due.child before after
       AsksChild f due old new (Err (Unshelved why)) before after = Asks due.child before after

@@ -1,5 +1,6 @@
 -- What a crash may leave of the stores that a world holds, where a split or a merge was to be. Profile.
-use Rattle.std.specs.Prelude.{◌≡◌, ◌⊎◌, ℕ, ⊤, false, List, [], ◌∷◌, ◌++◌, All, Some, bytes_eq, is_some, slice_get, true}
+use Rattle.std.specs.Prelude.{◌≡◌, ◌⊎◌, ℕ, ⊤, false, List, [], ◌∷◌, ◌++◌, All, Some}
+use Rattle.std.specs.Prelude.{bytes_eq, is_some, slice_get, true}
 use Rattle.std.specs.List.{AllByRecursion, AllZip}
 use Rattle.std.specs.List.Sorted.{IsPermutation}
 use Rattle.sqlite.specs.Held.{Held, state}

@@ -1,6 +1,7 @@
 -- What a merge makes of the members of a world. Profile.
 use Rattle.std.specs.List.{remove}
-use Rattle.std.specs.Prelude.{◌≡◌, ℕ, ◌+◌, List, [], ◌∷◌, map, length, Some, slice_get, Result, Ok, Err, IfOk}
+use Rattle.std.specs.Prelude.{◌≡◌, ℕ, ◌+◌, List, [], ◌∷◌, map, length, Some, slice_get, Result, Ok}
+use Rattle.std.specs.Prelude.{Err, IfOk}
 use Rattle.sqlite.specs.Held.{Held, state}
 use Rattle.sqlite.specs.Store.{Ghosts}
 use Rattle.sheet_types.specs.World.{World}
@@ -27,7 +28,8 @@ module _ {S : Type 0} (g : Ghosts S) where
       Type 0 where
     pub rests : AllRest g new
     pub clean : AllClean g new → AreClean g (left_by r) → AllClean g old
-    pub done : (merged : Receipt × Held S) → r ≡ Ok merged → (merged.0 ≡ due.receipt) × (length new + 1 ≡ length old)
+    pub done : (merged : Receipt × Held S) → r ≡ Ok merged → (merged.0 ≡ due.receipt)
+        × (length new + 1 ≡ length old)
         × ((w next : World) (count : ℕ) → AllClean g new → AreClean g (left_by r) → AreMembers g old count w
         → IsReturned w next due → AreMembers g new (count + 1) next)
     pub opens : AllClean g new → AreClean g (left_by r) → IfOk r (λ merged. AllOpen g old → AllOpen g new)
@@ -40,13 +42,16 @@ module _ {S : Type 0} (g : Ghosts S) where
     pub others : (merged : Receipt × Held S) → r ≡ Ok merged → AllStayButOne g (remove old due.from) new
     pub kept : (why : TurnFault) → r ≡ Err why → AllStayButOne g old new
     -- what a crash leaves of the child is beside the world after
-    pub beside : (merged : Receipt × Held S) → r ≡ Ok merged → (w next : World) (count : ℕ) → AreMembers g old count w
+    pub beside : (merged : Receipt × Held S) → r ≡ Ok merged → (w next : World) (count : ℕ)
+        → AreMembers g old count w
         → IsReturned w next due → AllOpen g old → AreBeside g w.frame next.packages (left_by r)
     pub survive : (why : TurnFault) → r ≡ Err why → AllSurvive g old new
     pub failed : (why : TurnFault) → r ≡ Err why
-        → (length new ≡ length old) × ((w : World) (count : ℕ) → AreMembers g old count w → AreMembers g new count w)
+        → (length new ≡ length old) × ((w : World) (count : ℕ) → AreMembers g old count w
+        → AreMembers g new count w)
     pub unharmed : IsUncommitted r → LeavesAsBefore g old new
     -- After an error, whatever a crash leaves of the members reads as the world before, or as the one after with the
     -- child beside it.
     pub crash : (why : TurnFault) → r ≡ Err why → (w next : World) (count : ℕ) → AreMembers g old count w
-        → IsReturned w next due → AllOpen g old → LeavesOneOf g w.frame (map (λ m. m.conn) new) w.packages next.packages
+        → IsReturned w next due → AllOpen g old → LeavesOneOf g w.frame (map (λ m. m.conn) new) w.packages
+        next.packages

@@ -1,5 +1,6 @@
 -- What a split makes of the members of a world, once the store of the child is there. Profile.
-use Rattle.std.specs.Prelude.{◌≡◌, ◌⊎◌, ◌≤◌, ℕ, ◌+◌, true, List, [], ◌∷◌, ◌++◌, map, length, Some, Result, Ok, Err}
+use Rattle.std.specs.Prelude.{◌≡◌, ◌⊎◌, ◌≤◌, ℕ, ◌+◌, true, List, [], ◌∷◌, ◌++◌, map}
+use Rattle.std.specs.Prelude.{length, Some, Result, Ok, Err}
 use Rattle.std.specs.Prelude.{IfOk, IsTrue, ◌≢◌}
 use Rattle.sqlite.specs.Held.{Held, state}
 use Rattle.std.specs.List.{AllByRecursion, insert}
@@ -35,8 +36,7 @@ member_of_child due child = record {
   conn = child;
   uuid = due.child;
   parent = Some due.parent;
-  depth =
-      due.depth;
+  depth = due.depth;
   loan = due.receipt.seq;
   sums = due.lent;
   ticket = due.receipt.seq;
@@ -62,7 +62,8 @@ module _ {S : Type 0} (g : Ghosts S) where
     pub clean : AllClean g new → AllClean g old
     pub done : (receipt : Receipt) → r ≡ Ok receipt
         → (receipt ≡ due.receipt) × (strays_after ≡ strays_before) × (length new ≡ length old + 1)
-        × ((w next : World) (count : ℕ) → AllClean g new → AreMembers g old count w → (lent : IsLent w next due)
+        × ((w next : World) (count : ℕ) → AllClean g new → AreMembers g old count w
+        → (lent : IsLent w next due)
         → KeepsLoan w next due lent child → AreMembers g new (count + 1) next)
     pub opens : AllClean g new → IfOk r (λ receipt. AllOpen g old
         → (HasCleanDisk (state g child) → IsTrue (state g child).is_open) → AllOpen g new)
@@ -71,7 +72,8 @@ module _ {S : Type 0} (g : Ghosts S) where
         × (new ≡ insert mid due.child_at (member_of_child due child))
     pub others : (why : TurnFault) → r ≡ Err why → AllStayButOne g old new
     pub failed : (why : TurnFault) → r ≡ Err why
-        → (length new ≡ length old) × ((w : World) (count : ℕ) → AreMembers g old count w → AreMembers g new count w)
+        → (length new ≡ length old) × ((w : World) (count : ℕ) → AreMembers g old count w
+        → AreMembers g new count w)
     pub kept : (why : TurnFault) → r ≡ Err why → why ≢ Before fault.OutOfMemory
         → strays_after ≡ strays_before ++ child ∷ []
     pub dropped : r ≡ Err (Before fault.OutOfMemory) → strays_after ≡ strays_before

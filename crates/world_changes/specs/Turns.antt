@@ -37,4 +37,5 @@ module _ {S : Type 0} (g : Ghosts S) where
   -- a crash leaves of each member no more than it left before
   abbrev pub LeavesNoMore : List (Member S) → List (Member S) → Type 0
   LeavesNoMore old new = AllClean g new
-      → AllZip (λ m n. (trees : Trees) → (state g n.conn).may_leave trees → (state g m.conn).may_leave trees) old new
+      → AllZip (λ m n. (trees : Trees) → (state g n.conn).may_leave trees → (state g m.conn).may_leave trees)
+      old new

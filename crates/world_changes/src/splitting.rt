@@ -1,7 +1,8 @@
 //! A split among the members of a world: the child's store is made and committed first, then the
 //! parent takes its turn, and the child comes to its place. After the commit that carries the
 //! receipt nothing takes memory.
-ghost use Rattle.std.specs.Prelude.{◌≡◌, ◌≢◌, ◌++◌, ◌∷◌, [], ℕ, ◌<◌, ◌≤◌, ◌+◌, true, IsTrue, Some, Err, IfOk, OnOk};
+ghost use Rattle.std.specs.Prelude.{◌≡◌, ◌≢◌, ◌++◌, ◌∷◌, [], ℕ, ◌<◌, ◌≤◌, ◌+◌};
+ghost use Rattle.std.specs.Prelude.{true, IsTrue, Some, Err, IfOk, OnOk};
 ghost use Rattle.std.specs.Prelude.{OnErr, IfErr, length, vec_len, vec_capacity};
 ghost use Rattle.sqlite.specs.Held.{state};
 ghost use Rattle.sqlite.specs.State.{HasCleanDisk};
@@ -61,7 +62,8 @@ fn filled_store<S: Alter + Drop>(
     requires good { IsTrue (is_good_frame frame.now) }
     requires info { IsFitInfo info.now.depth info.now.loan }
     ensures source { Stays (state S.Store source.old) (state S.Store source.new) }
-    ensures opens { HasCleanDisk (state S.Store source.new) → OnOk result (IsTrue (state S.Store source.new).is_open) }
+    ensures opens { HasCleanDisk (state S.Store source.new) → OnOk result
+        (IsTrue (state S.Store source.new).is_open) }
     ensures rests { IfOk result (λ made. Rests (state S.Store made)) }
     ensures is_open { IfOk result (λ made. HasCleanDisk (state S.Store made) → IsTrue (state S.Store made).is_open) }
     ensures made { IfOk result (λ made. HasCleanDisk (state S.Store made) → HasCleanDisk (state S.Store source.new)
@@ -122,7 +124,8 @@ pub fn child_store<S: Alter + Drop, H: Shelf<S>>(
         (AllOpen S.Store members.old.items → AllOpen S.Store members.new.items) }
     ensures capacity { vec_capacity members.new ≡ vec_capacity members.old }
     ensures child { IfOk result (λ child. Rests (state S.Store child)) }
-    ensures is_open { IfOk result (λ child. HasCleanDisk (state S.Store child) → IsTrue (state S.Store child).is_open) }
+    ensures is_open { IfOk result (λ child. HasCleanDisk (state S.Store child)
+        → IsTrue (state S.Store child).is_open) }
     ensures keeps { IfOk result (λ child. AllClean S.Store members.new.items → (w next : World) (count : ℕ)
         → frame.now ≡ w.frame → AreMembers S.Store members.old.items count w → (lent : IsLent w next due.now)
         → KeepsLoan S.Store w next due.now lent child) }

@@ -1,5 +1,6 @@
 -- The first tile of some items whose place is taken, when one item more is looked at.
-use Rattle.std.proofs.Common.{◌≡◌, refl, sym, ap, subst, ◌∙◌, ℕ, ℤ, zero, suc, ◌+◌, List, [], ◌∷◌, ◌++◌, Bool, true}
+use Rattle.std.proofs.Common.{◌≡◌, refl, sym, ap, subst, ◌∙◌, ℕ, ℤ, zero, suc, ◌+◌, List, []}
+use Rattle.std.proofs.Common.{◌∷◌, ◌++◌, Bool, true}
 use Rattle.std.proofs.Common.{false, cond, take, Option, Some, None, arith}
 use Rattle.std.specs.Prelude.{find, option_map, unsigned_abs, slice_get}
 use Rattle.std.specs.Bool.{then_some}
@@ -16,7 +17,8 @@ use Rattle.world_decisions.proofs.FirstInOrder.{nearer, first_of_more}
 
 -- what was looked up of a tile
 pub clash_told : (item : Item) (p : Package) (zoom column row : ℤ) (bytes : List ℕ) (taken : Bool)
-    → item.content ≡ Tile zoom column row bytes → taken ≡ list_any (λ i. is_at zoom column row i.content) p.items
+    → item.content ≡ Tile zoom column row bytes → taken ≡ list_any (λ i. is_at zoom column row i.content)
+    p.items
     → then_some {T = Clash} taken (record {
       place = unsigned_abs zoom ∷ unsigned_abs column ∷ unsigned_abs row
           ∷ [];
@@ -26,8 +28,7 @@ clash_told item p zoom column row bytes taken is told =
     let Clashes : Content → Type 0 = λ c. then_some {T = Clash} taken
     (record {
       place = unsigned_abs zoom ∷ unsigned_abs column ∷ unsigned_abs row ∷ [];
-      identity =
-          item.identity;
+      identity = item.identity;
     }) ≡ then_some {T = Clash} (takes_place p c)
     (record { place = place_of c; identity = item.identity }) in
     subst Clashes (sym is) (ap (λ b. then_some b (clash_of (record
@@ -54,7 +55,8 @@ clash_more p xs x =
     each false found = refl
 
 -- the items so far and one more
-one_more : {X : Type 0} (xs : List X) (n : ℕ) (x : X) → slice_get xs n ≡ Some x → take (n + 1) xs ≡ take n xs ++ x ∷ []
+one_more : {X : Type 0} (xs : List X) (n : ℕ) (x : X) → slice_get xs n ≡ Some x
+    → take (n + 1) xs ≡ take n xs ++ x ∷ []
 one_more [] n x there = absurd (let e = there in cc)
 one_more (y ∷ ys) zero x there = let same : y ≡ x = cc in ap (λ z. z ∷ []) same
 one_more (y ∷ ys) (suc n) x there = let on : suc n + 1 ≡ suc (n + 1) =

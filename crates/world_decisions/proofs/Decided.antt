@@ -1,5 +1,6 @@
 -- What a request comes to, by what the members and the request tell.
-use Rattle.std.proofs.Common.{◌≡◌, ◌≤◌, not, refl, sym, ap, subst, ◌∙◌, ℕ, ◌+◌, List, [], ◌∷◌, Bool, true, false}
+use Rattle.std.proofs.Common.{◌≡◌, ◌≤◌, not, refl, sym, ap, subst, ◌∙◌, ℕ, ◌+◌, List, []}
+use Rattle.std.proofs.Common.{◌∷◌, Bool, true, false}
 use Rattle.std.proofs.Common.{cond, length, get_or, slice_get, Option, Some, None, Result, Ok, Err, bytes_eq}
 use Rattle.std.specs.Prelude.{unwrap_or, IfOk, nat_lt, ◌||◌}
 use Rattle.std.specs.List.{list_any}
@@ -65,7 +66,8 @@ decides_repeated w q r is =
 -- ---- one that is new
 
 -- its package is not known
-pub decides_unknown : (f : Frame) (count : ℕ) (q : Request) (w : World) → IsAskedOf f count q w → kept w q.id ≡ None
+pub decides_unknown : (f : Frame) (count : ℕ) (q : Request) (w : World) → IsAskedOf f count q w
+    → kept w q.id ≡ None
     → is_live w (package_of q.command) ≡ false → Decides w q (Answered (Err UnknownPackage))
 decides_unknown f count q w asked new dead = refused_outcome w q UnknownPackage new
     (refused_as_unknown w (accepted w q) q asked.one new dead)
@@ -111,8 +113,10 @@ not_refused f count at q w placed before few =
 
 -- then its change is due
 pub decides_due : (f : Frame) (count at : ℕ) (q : Request) (w : World) (due : Change) → IsRegister w → IsUuid q.id
-    → HasTypes q.command → IsPlaced f count at q w → refusal_before w q ≡ None → too_many (accepted w q) ≡ false
-    → due.at ≡ at → due.receipt ≡ receipt_of w q → due.sums ≡ sums_after q.command (sums_moved (receipt_of w q))
+    → HasTypes q.command → IsPlaced f count at q w → refusal_before w q ≡ None
+    → too_many (accepted w q) ≡ false
+    → due.at ≡ at → due.receipt ≡ receipt_of w q → due.sums ≡ sums_after q.command
+    (sums_moved (receipt_of w q))
     (sums_held (holdings w (package_of q.command))) → Decides w q (ChangeDue due)
 decides_due f count at q w due register uuid types placed before few here receipt sums =
     let none : refusal w (accepted w q) q ≡ None = not_refused f count at q w placed before few in
@@ -146,7 +150,8 @@ before_for_identity w q found texts none used =
 -- else by its package
 pub before_by_package : (w : World) (q : Request) (found why : Option Refusal) → found ≡ first_row (text_reasons q)
     → found ≡ None → false ≡ identity_used w q.command
-    → why ≡ first_row (package_reasons w.frame (holdings w (package_of q.command)) q.command) → why ≡ refusal_before w q
+    → why ≡ first_row (package_reasons w.frame (holdings w (package_of q.command)) q.command)
+    → why ≡ refusal_before w q
 before_by_package w q found why texts none unused is =
     is
     ∙ ap (λ b. option_or (then_some b IdentityUsed) (first_row
@@ -184,13 +189,13 @@ nothing_against f count at q w placed before =
       new = placed.new;
       moment = not_false (is_moment q.at)
           (or_parts (not (is_moment q.at)) (bad_text q.command) texts.0).0;
-      unused =
-          not_then (identity_used w q.command) IdentityUsed last.0;
+      unused = not_then (identity_used w q.command) IdentityUsed last.0;
       no_reason = last.1;
     }
 
 -- so it fits its package
-fits_there : (f : Frame) (count at : ℕ) (q : Request) (w : World) → IsRegister w → IsUuid q.id → HasTypes q.command
+fits_there : (f : Frame) (count at : ℕ) (q : Request) (w : World) → IsRegister w → IsUuid q.id
+    → HasTypes q.command
     → IsPlaced f count at q w → refusal_before w q ≡ None → Fits (receipt_of w q) q.command
     (holdings w (package_of q.command))
 fits_there f count at q w register uuid types placed before =
@@ -282,13 +287,13 @@ of_own_frame f count at q w placed = record {
   asked = record
       { frame = refl; counted = placed.asked.counted; one = placed.asked.one };
   new = placed.new;
-  live =
-      placed.live;
+  live = placed.live;
   place = placed.place;
 }
 
 -- what an addition moves is told of its item
-added_by : (w : World) (command : Command) (thing : Moved) → moved w command ≡ thing ∷ [] → IsAddedBy command thing
+added_by : (w : World) (command : Command) (thing : Moved) → moved w command ≡ thing ∷ []
+    → IsAddedBy command thing
 added_by w (Add p identity content) thing same = sym (ap (λ things. get_or things 0 thing) same)
 added_by w (Delete p identity) thing same = tt
 added_by w (Link p mapping base other) thing same = tt
@@ -298,7 +303,8 @@ added_by w (Merge child into number) thing same = tt
 
 -- the receipt that was made is that of the world
 pub receipt_made : (count : ℕ) (q : Request) (w : World) (thing : Moved) (receipt : Receipt)
-    → (IsAddedBy q.command thing → receipt ≡ receipt_over (count + 1) q (thing ∷ [])) → count ≡ length (receipts_of w)
+    → (IsAddedBy q.command thing → receipt ≡ receipt_over (count + 1) q (thing ∷ []))
+    → count ≡ length (receipts_of w)
     → moved w q.command ≡ thing ∷ [] → receipt ≡ receipt_of w q
 receipt_made count q w thing receipt is counted things = is (added_by w q.command thing things)
     ∙ ap (λ n. receipt_over (n + 1) q (thing ∷ [])) counted ∙ ap (receipt_over (length (receipts_of w) + 1) q)
@@ -311,7 +317,8 @@ module _ {S : Type 0} (g : Ghosts S) where
   counted_so members n count w are counted = record { each = are.each; counted = counted; register = are.register }
 
   -- an answer that is worked out from another, and may fail
-  pub asks_worked : {X Y E E' : Type 0} {A : World → X → Type 0} {B : World → Y → Type 0} {old new : List (Member S)}
+  pub asks_worked : {X Y E E' : Type 0} {A : World → X → Type 0} {B : World → Y → Type 0}
+      {old new : List (Member S)}
       {r : Result X E} {x : X} (q : Result Y E') → r ≡ Ok x
       → ((w : World) (count : ℕ) → AreMembers g old count w → A w x → IfOk q (B w))
       → AsksAll g {X = X} {E = E} A old new r → AsksAll g {X = Y} {E = E'} B old new q

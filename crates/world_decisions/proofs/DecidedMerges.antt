@@ -1,5 +1,6 @@
 -- What a merge comes to, by what the members and its request tell.
-use Rattle.std.proofs.Common.{◌≡◌, ◌≤◌, refl, sym, ap, subst, ◌∙◌, ℕ, ℤ, ◌+◌, ◌-◌, List, [], ◌∷◌, Bool, true, false}
+use Rattle.std.proofs.Common.{◌≡◌, ◌≤◌, refl, sym, ap, subst, ◌∙◌, ℕ, ℤ, ◌+◌, ◌-◌, List}
+use Rattle.std.proofs.Common.{[], ◌∷◌, Bool, true, false}
 use Rattle.std.proofs.Common.{length, slice_get, Option, Some, None, Ok, Err, bytes_eq}
 use Rattle.std.specs.Prelude.{not, ◌||◌, ◌&&◌, nat_lt, is_some, unwrap_or, option_map, filter, find, map}
 use Rattle.std.specs.Bool.{then_some}
@@ -136,7 +137,8 @@ accepted_outcome w q new none =
     ap (λ k. outcome_by w q k (refuses w q)) (ap (option_and_then
     (λ r. then_some (bytes_eq r.line (line q.command)) r)) new) ∙ ap (outcome_by w q None) none
 
-module _ (w : World) (from at : ℕ) (child into : List ℕ) (selection : Selection) (receipt : Receipt) (sums : Sums) where
+module _ (w : World) (from at : ℕ) (child into : List ℕ) (selection : Selection) (receipt : Receipt)
+    (sums : Sums) where
   abbrev DueOf : Request → Type 0
   DueOf x = kept w x.id ≡ None → refusal w (accepted w x) x ≡ None → receipt ≡ receipt_of w x
       → sums ≡ sums_more (sums_moved (receipt_of w x)) (sums_held (holdings w into))
@@ -145,8 +147,7 @@ module _ (w : World) (from at : ℕ) (child into : List ℕ) (selection : Select
         into = at;
         selection = selection;
         receipt = receipt;
-        sums =
-            sums;
+        sums = sums;
       }))
 
   due_of : (id moment : List ℕ) (number : ℤ) → IsRegister w → IsUuid id → HasTypes (Merge child into number)
@@ -169,8 +170,10 @@ module _ {S : Type 0} (g : Ghosts S) (members : List (Member S)) (count from at 
   abbrev left : Sums
   left = sums_more (sums_moved (receipt_of w q)) was.sums
 
-  same_left : (some held : Sums) → some ≡ sums_moved (receipt_of w q) → held ≡ was.sums → sums_more some held ≡ left
-  same_left some held moved here = ap (λ s. sums_more s held) moved ∙ ap (sums_more (sums_moved (receipt_of w q))) here
+  same_left : (some held : Sums) → some ≡ sums_moved (receipt_of w q) → held ≡ was.sums
+      → sums_more some held ≡ left
+  same_left some held moved here = ap (λ s. sums_more s held) moved
+      ∙ ap (sums_more (sums_moved (receipt_of w q))) here
 
   -- what cannot be counted is too many
   weighed_uncounted : (IsCounted left → ⊥) → Decides w q (Answered (Err TooMany))
@@ -184,7 +187,8 @@ module _ {S : Type 0} (g : Ghosts S) (members : List (Member S)) (count from at 
 
   -- so it is refused where the one or the other is so
   pub weighed_over : (some held : Sums) → some ≡ sums_moved (receipt_of w q) → held ≡ was.sums
-      → ((IsCounted (sums_more some held) × (leaves_too_many members at (sums_more some held) count ≡ false)) → ⊥)
+      → ((IsCounted (sums_more some held) × (leaves_too_many members at (sums_more some held) count ≡ false))
+      → ⊥)
       → Decides w q (Answered (Err TooMany))
   weighed_over some held moved here cannot =
       let none : (IsCounted left × (leaves_too_many members at left count ≡ false)) → ⊥ =
@@ -206,8 +210,7 @@ module _ {S : Type 0} (g : Ghosts S) (members : List (Member S)) (count from at 
         into = at;
         selection = selection;
         receipt = receipt;
-        sums =
-            sums;
+        sums = sums;
       }))
   weighed_due some held sums selection receipt moved here same within made selected =
       let own : sums_more some held ≡ left = same_left some held moved here in
@@ -243,7 +246,8 @@ module _ {S : Type 0} (g : Ghosts S) (members : List (Member S)) (child into : L
 
   -- a new merge whose packages have these members
   pub merge_placed : (count n : ℕ) (q : Request) (w : World) (number : ℤ) → AreMembers g members n w
-      → count ≡ length (receipts_of w) → kept w q.id ≡ None → IsUuid q.id → HasTypes (Merge child into number)
+      → count ≡ length (receipts_of w) → kept w q.id ≡ None → IsUuid q.id
+      → HasTypes (Merge child into number)
       → q.command ≡ Merge child into number
       → IsMergeAt count from at q w
   merge_placed count n q w number are counted new uuid types merges = record {
@@ -264,7 +268,8 @@ module _ {S : Type 0} (g : Ghosts S) (members : List (Member S)) (child into : L
 -- the receipt that was made of all that the child holds is that of the world
 pub receipt_made : (count from at : ℕ) (q : Request) (w : World) (is : IsMergeAt count from at q w)
     (items : List Item) (links : List Relation) (things : List Moved) (receipt : Receipt)
-    → items ≡ (holdings w is.child).items → links ≡ (holdings w is.child).links → things ≡ moved_of items links
+    → items ≡ (holdings w is.child).items → links ≡ (holdings w is.child).links
+    → things ≡ moved_of items links
     → receipt ≡ receipt_over (count + 1) q things → receipt ≡ receipt_of w q
 receipt_made count from at q w is items links things receipt items_are links_are are made =
     made ∙ ap (λ n. receipt_over (n + 1) q things) is.counted
@@ -273,7 +278,8 @@ receipt_made count from at q w is items links things receipt items_are links_are
 
 -- what collides, by what was looked up
 pub held_told : (count from at : ℕ) (q : Request) (w : World) (is : IsMergeAt count from at q w) (items : List Item)
-    (found : Option Clash) → items ≡ (holdings w is.child).items → found ≡ first_clash (holdings w is.into) items
+    (found : Option Clash) → items ≡ (holdings w is.child).items
+    → found ≡ first_clash (holdings w is.into) items
     → refusal_by_kept w q ≡ None
     → refusal_by_held w q ≡ option_map Collides (option_map (λ c. c.identity) found)
 held_told count from at q w is items found items_are found_is before =
@@ -284,6 +290,7 @@ held_told count from at q w is items found items_are found_is before =
     ∙ same (find (λ i. takes_place (holdings w is.into) i.content)
     (arranged place_key (holdings w is.child).items))))
   where
-    same : (o : Option Item) → option_map (λ c. c.identity) (option_map clash_of o) ≡ option_map (λ i. i.identity) o
+    same : (o : Option Item) → option_map (λ c. c.identity) (option_map clash_of o)
+        ≡ option_map (λ i. i.identity) o
     same None = refl
     same (Some i) = refl

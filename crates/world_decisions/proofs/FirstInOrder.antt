@@ -1,5 +1,6 @@
 -- The first element that passes a test, in the order of a key, when one more comes behind the others.
-use Rattle.std.specs.Prelude.{◌≡◌, ℕ, Bool, true, false, cond, List, [], ◌∷◌, ◌++◌, find, Option, Some, None, refl}
+use Rattle.std.specs.Prelude.{◌≡◌, ℕ, Bool, true, false, cond, List, [], ◌∷◌, ◌++◌, find, Option}
+use Rattle.std.specs.Prelude.{Some, None, refl}
 use Rattle.std.proofs.Common.{sym, ap, ◌∙◌}
 use Rattle.std.proofs.lemmas.Bool.{true≢false, false_from_ne_true}
 use Rattle.std.specs.List.{AllByRecursion}
@@ -39,7 +40,8 @@ module _ {X : Type 0} (key : X → List ℕ) where
       stays : is_before (key y) (key x) ≡ false → nearer_front x (find t (y ∷ ys)) ≡ x
       stays here = elim (find t (y ∷ ys)) as (λ o. find t (y ∷ ys) ≡ o → nearer_front x o ≡ x) [
         | None ↦ λ _. refl
-        | Some z ↦ λ is. ap (λ b. cond b z x) (All-found (λ v. is_before (key v) (key x) ≡ false) t z (y ∷ ys) is
+        | Some z ↦ λ is. ap (λ b. cond b z x) (All-found (λ v. is_before (key v) (key x) ≡ false) t z
+            (y ∷ ys) is
             (here, behind ys order.0)).0
       ] refl
         where
@@ -62,7 +64,8 @@ module _ {X : Type 0} (key : X → List ℕ) where
       three true true false yz zx yx = absurd (true≢false (sym (before_trans (key y) (key z) (key x) yz zx) ∙ yx))
       three true false c yz zx yx = refl
       three false true c yz zx yx = ap (λ v. cond v z x) zx ∙ sym (ap (λ v. cond v y z) yz)
-      three false false true yz zx yx = absurd (true≢false (sym yx ∙ not_before_trans (key x) (key z) (key y) zx yz))
+      three false false true yz zx yx = absurd (true≢false (sym yx
+          ∙ not_before_trans (key x) (key z) (key y) zx yz))
       three false false false yz zx yx = ap (λ v. cond v z x) zx ∙ sym (ap (λ v. cond v y x) yx)
 
   -- the first of one more

@@ -1,5 +1,6 @@
 -- Why a merge is refused by its texts and by what is kept of the members.
-use Rattle.std.proofs.Common.{◌≡◌, refl, sym, ap, subst, ◌∙◌, ℕ, zero, suc, ℤ, pos, List, [], ◌∷◌, Bool, true, false}
+use Rattle.std.proofs.Common.{◌≡◌, refl, sym, ap, subst, ◌∙◌, ℕ, zero, suc, ℤ, pos, List, []}
+use Rattle.std.proofs.Common.{◌∷◌, Bool, true, false}
 use Rattle.std.proofs.Common.{cond, take, slice_get, Option, Some, None, bytes_eq, map}
 use Rattle.std.specs.Prelude.{not, ◌||◌, is_some, unwrap_or, option_map, filter, find}
 use Rattle.std.specs.List.{list_any, AllByRecursion, AllZip}
@@ -30,7 +31,8 @@ use Rattle.world_members.proofs.Standing.{zip_at}
 -- ---- the least loan is the first
 
 -- the keys of a list in their order
-keys_arranged : {X : Type 0} (key : X → List ℕ) (xs : List X) → IsArranged key xs → IsArranged (λ k. k) (map key xs)
+keys_arranged : {X : Type 0} (key : X → List ℕ) (xs : List X) → IsArranged key xs
+    → IsArranged (λ k. k) (map key xs)
 keys_arranged key [] h = tt
 keys_arranged {X} key (x ∷ xs) h = (each xs h.0, keys_arranged key xs h.1)
   where
@@ -43,7 +45,8 @@ keys_arranged {X} key (x ∷ xs) h = (each xs h.0, keys_arranged key xs h.1)
 first_taken : {X : Type 0} (key : X → List ℕ) (t : X → Bool) (xs : List X)
     → find (λ _. true) (map key (filter t xs)) ≡ option_map key (find t xs)
 first_taken key t [] = refl
-first_taken key t (x ∷ xs) = elim (t x) as (λ v. find (λ _. true) (map key (cond v (x ∷ filter t xs) (filter t xs)))
+first_taken key t (x ∷ xs) = elim (t x) as (λ v. find (λ _. true)
+    (map key (cond v (x ∷ filter t xs) (filter t xs)))
     ≡ option_map key (cond v (Some x) (find t xs))) [ true ↦ refl | false ↦ first_taken key t xs ]
 
 least_is_first : (t : Package → Bool) (ps : List Package) → IsArranged package_key ps
@@ -55,14 +58,16 @@ least_is_first t ps order =
 
 -- what is found is the same of both, place by place
 find_zip : {X Y Z : Type 0} (R : X → Y → Type 0) (p : X → Bool) (q : Y → Bool) (f : X → Z) (h : Y → Z)
-    → ((x : X) (y : Y) → R x y → (p x ≡ q y) × (f x ≡ h y)) → (xs : List X) (ys : List Y) → AllZip R xs ys
+    → ((x : X) (y : Y) → R x y → (p x ≡ q y) × (f x ≡ h y)) → (xs : List X) (ys : List Y)
+    → AllZip R xs ys
     → option_map f (find p xs) ≡ option_map h (find q ys)
 find_zip R p q f h so [] [] zip = refl
 find_zip R p q f h so [] (y ∷ ys) zip = absurd zip
 find_zip R p q f h so (x ∷ xs) [] zip = absurd zip
 find_zip R p q f h so (x ∷ xs) (y ∷ ys) zip =
     let same = so x y zip.0 in
-    ap (λ b. option_map f (cond b (Some x) (find p xs))) same.0 ∙ each (q y) same.1 (find_zip R p q f h so xs ys zip.1)
+    ap (λ b. option_map f (cond b (Some x) (find p xs))) same.0
+    ∙ each (q y) same.1 (find_zip R p q f h so xs ys zip.1)
   where
     each : (b : Bool) → f x ≡ h y → option_map f (find p xs) ≡ option_map h (find q ys)
         → option_map f (cond b (Some x) (find p xs)) ≡ option_map h (cond b (Some y) (find q ys))
@@ -76,7 +81,8 @@ pub kept_by_text : (w : World) (q : Request) (texts : Option Refusal) (why : Ref
 kept_by_text w q texts why told some = ap (λ o. option_or o (first_row (kept_reasons w q.command))) (sym some ∙ told)
 
 -- a package that is not its own parent's
-pub not_same : (child into : List ℕ) (other : Bool) → (bytes_eq child into || other) ≡ false → child ≡ into → ⊥
+pub not_same : (child into : List ℕ) (other : Bool) → (bytes_eq child into || other) ≡ false → child ≡ into
+    → ⊥
 not_same child into other none same = true≢false (sym ((bytes_eq-Decides child into).1 same)
     ∙ (or_parts (bytes_eq child into) other none).0)
 
@@ -132,7 +138,8 @@ module _ {S : Type 0} (g : Ghosts S) (members : List (Member S)) (w : World) (co
         (ap (option_map LoanOpen) open_told ∙ last (loan_open w (Merge child into number)))
         ∙ ap (λ c. first_row (kept_reasons w c)) (sym is)
       where
-        last : (o : Option (List ℕ)) → option_map LoanOpen o ≡ first_row ((is_some o, LoanOpen (unwrap_or o [])) ∷ [])
+        last : (o : Option (List ℕ)) → option_map LoanOpen o
+            ≡ first_row ((is_some o, LoanOpen (unwrap_or o [])) ∷ [])
         last None = refl
         last (Some x) = refl
 
@@ -145,7 +152,8 @@ module _ {S : Type 0} (g : Ghosts S) (members : List (Member S)) (w : World) (co
           (cond (not is_it) (Some (Stale was.ticket)) (option_map LoanOpen (first_loan members child)))) (sym other)
           ∙ rows_told ∙ after_text none
 
-      pub kept_stale : texts ≡ None → is_other ≡ false → is_it ≡ false → Some (Stale was.ticket) ≡ refusal_by_kept w q
+      pub kept_stale : texts ≡ None → is_other ≡ false → is_it ≡ false
+          → Some (Stale was.ticket) ≡ refusal_by_kept w q
       kept_stale none own stale =
           ap (λ b. cond (not b) (Some (Stale was.ticket)) (option_map LoanOpen (first_loan members child))) (sym stale)
           ∙ ap (λ b. cond b (Some Foreign) (cond (not is_it) (Some (Stale was.ticket))

@@ -1,6 +1,8 @@
 -- Whether a merge would leave too many, by sums and numbers that are kept.
-use Rattle.std.specs.Prelude.{◌≡◌, ◌≤◌, ◌<◌, ℕ, zero, suc, ℤ, ◌+◌, ◌-◌, ◌*◌, ◌^◌, Bool, true, false, cond, ◌||◌, not}
-use Rattle.std.specs.Prelude.{nat_lt, List, [], ◌∷◌, ◌++◌, map, find, length, refl, bytes_eq, Option, Some, None}
+use Rattle.std.specs.Prelude.{◌≡◌, ◌≤◌, ◌<◌, ℕ, zero, suc, ℤ, ◌+◌, ◌-◌, ◌*◌, ◌^◌}
+use Rattle.std.specs.Prelude.{Bool, true, false, cond, ◌||◌, not}
+use Rattle.std.specs.Prelude.{nat_lt, List, [], ◌∷◌, ◌++◌, map, find, length, refl, bytes_eq, Option, Some}
+use Rattle.std.specs.Prelude.{None}
 use Rattle.std.specs.Prelude.{is_some, option_map, unwrap_or, slice_get, slice_set, MatchOption}
 use Rattle.std.proofs.Common.{sym, ap, subst, ◌∙◌, arith, length-append}
 use Rattle.std.proofs.lemmas.Bool.{true≢false, or_parts, ltb-false, le-ltb}
@@ -74,7 +76,8 @@ nothing_mapped f (Some x) none = absurd (None≢Some (sym none))
 pub not_its_own : (w : World) (child : List ℕ) → IsRegister w → is_live w child ≡ true
     → ends_at (holdings w child).parent child ≡ false
 not_its_own w child register live =
-    elim (ends_at (holdings w child).parent child) as (λ v. ends_at (holdings w child).parent child ≡ v → v ≡ false) [
+    elim (ends_at (holdings w child).parent child) as (λ v. ends_at (holdings w child).parent child ≡ v
+    → v ≡ false) [
       | true ↦ λ own.
           let deeper : (is_live w child ≡ true) × ((holdings w child).depth ≡ (holdings w child).depth + 1)
           × ((holdings w child).depth ≤ greatest_depth) =
@@ -114,7 +117,8 @@ known_by w id moment child into number types register new child_live into_live b
         | false ↦ λ _. refl
       ] refl;
       no_loans = none_taken (λ x. x.uuid) (λ x. ends_at x.parent child) w.packages (least_none _ rows.1.1.0);
-      free = All-of_arranged place_key (λ i. takes_place (holdings w into) i.content ≡ false) (holdings w child).items
+      free = All-of_arranged place_key (λ i. takes_place (holdings w into) i.content ≡ false)
+          (holdings w child).items
           (none_pass (λ i. takes_place (holdings w into) i.content) (arranged place_key (holdings w child).items)
           (none_found (λ i. takes_place (holdings w into) i.content) (arranged place_key (holdings w child).items)
           free));
@@ -167,7 +171,8 @@ within held few =
     )
 
 -- and where each is, they are
-few_enough : (held : Sums) → held.tiles ≤ 1000000 → held.media ≤ 1000000 → held.rows ≤ 1000000 → held.links ≤ 4000000
+few_enough : (held : Sums) → held.tiles ≤ 1000000 → held.media ≤ 1000000 → held.rows ≤ 1000000
+    → held.links ≤ 4000000
     → is_past_limits held ≡ false
 few_enough held tiles media rows links =
     ap (λ b. b || nat_lt greatest_items held.media || nat_lt greatest_items held.rows || nat_lt greatest_links
@@ -194,7 +199,8 @@ past_with_more some held past =
 
 -- within the limits what two packages hold can be counted
 counted_together : (some held : Sums) → some.bytes ≤ 1048576 * (some.tiles + some.media + some.rows)
-    → held.bytes ≤ 1048576 * (held.tiles + held.media + held.rows) → is_past_limits (sums_more some held) ≡ false
+    → held.bytes ≤ 1048576 * (held.tiles + held.media + held.rows)
+    → is_past_limits (sums_more some held) ≡ false
     → IsCounted (sums_more some held)
 counted_together some held small bytes few =
     let parts = within (sums_more some held) few in
@@ -206,8 +212,7 @@ counted_together some held small bytes few =
       tiles = omega (arith, tiles);
       media = omega (arith, media);
       rows = omega (arith, rows);
-      links =
-          omega (arith, links);
+      links = omega (arith, links);
       bytes = omega (arith, small, bytes, tiles, media, rows);
     }
 
@@ -245,7 +250,8 @@ module _ (w : World) (id moment child into : List ℕ) (number : ℤ) (types : H
   with_both = slice_set w.packages at both
 
   -- the child is past a limit only where the parent is
-  overfull : list_any is_overfull next.packages ≡ list_any is_past_limits (slice_set (map sums_held w.packages) at sums)
+  overfull : list_any is_overfull next.packages ≡ list_any is_past_limits
+      (slice_set (map sums_held w.packages) at sums)
   overfull =
       ap (list_any is_overfull) (packages_after w id moment child into number types register uuid k from at
       child_there into_there ∙ sym (set_then_removed w.packages from at both apart))

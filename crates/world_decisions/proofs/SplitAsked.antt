@@ -1,5 +1,6 @@
 -- What the members and the stores tell of a split.
-use Rattle.std.proofs.Common.{◌≡◌, refl, sym, ap, subst, ◌∙◌, ℕ, ◌+◌, ◌≤◌, List, [], ◌∷◌, Bool, true, false, cond}
+use Rattle.std.proofs.Common.{◌≡◌, refl, sym, ap, subst, ◌∙◌, ℕ, ◌+◌, ◌≤◌, List, []}
+use Rattle.std.proofs.Common.{◌∷◌, Bool, true, false, cond}
 use Rattle.std.proofs.Common.{length, slice_get, Option, Some, None, Ok, Err, bytes_eq, Result, not, ◌||◌, ◌&&◌}
 use Rattle.std.specs.Prelude.{is_none, drop}
 use Rattle.std.specs.List.{list_any, IsDistinct}
@@ -48,7 +49,8 @@ pub archive_told : {S : Type 0} (g : Ghosts S) (members : List (Member S)) (coun
 archive_told {S} g members count w id are =
     any_zip (IsMember g w) (λ (m : Member S). is_none m.parent && bytes_eq m.uuid id)
     (λ x. is_archive x && bytes_eq x.uuid id)
-    (λ m p is. ap (λ o. is_none o && bytes_eq m.uuid id) is.parent ∙ ap (λ u. is_archive p && bytes_eq u id) is.uuid)
+    (λ m p is. ap (λ o. is_none o && bytes_eq m.uuid id) is.parent
+    ∙ ap (λ u. is_archive p && bytes_eq u id) is.uuid)
     members w.packages are.each
 
 -- so they tell whether it was used
@@ -68,7 +70,8 @@ module _ {S : Type 0} (g : Ghosts S) (members : List (Member S)) (count : ℕ) (
 
 -- the texts, and else the place
 pub value_by_text : (f : Frame) (q : Request) (rect : Rect) (depth : ℕ) (found : Option Refusal) (why : Refusal)
-    → found ≡ first_row (text_reasons q) → found ≡ Some why → Some why ≡ first_row (value_reasons f q rect depth)
+    → found ≡ first_row (text_reasons q) → found ≡ Some why → Some why
+    ≡ first_row (value_reasons f q rect depth)
 value_by_text f q rect depth found why texts is = ap (λ o. option_or o (first_row (place_reasons f rect depth)))
     (sym is ∙ texts) ∙ sym (first_of_both (text_reasons q) (place_reasons f rect depth))
 
@@ -134,6 +137,5 @@ lender_told g members count at w p was are place there =
     record {
       place = there;
       depth = here.2.depth ∙ ap (λ (x : Package). x.depth) same;
-      held =
-          here.2.sums ∙ ap sums_held same;
+      held = here.2.sums ∙ ap sums_held same;
     }

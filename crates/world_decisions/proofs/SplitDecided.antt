@@ -1,5 +1,6 @@
 -- What a split comes to, by what the members, the request and the cut tell.
-use Rattle.std.proofs.Common.{◌≡◌, refl, sym, ap, subst, ◌∙◌, ℕ, ◌+◌, ◌&&◌, List, [], ◌∷◌, ◌++◌, Bool, true, false}
+use Rattle.std.proofs.Common.{◌≡◌, refl, sym, ap, subst, ◌∙◌, ℕ, ◌+◌, ◌&&◌, List, [], ◌∷◌}
+use Rattle.std.proofs.Common.{◌++◌, Bool, true, false}
 use Rattle.std.proofs.Common.{cond, length, slice_get, Option, Some, None, Ok, Err, bytes_eq}
 use Rattle.std.specs.Prelude.{is_some, count_by, sum_by}
 use Rattle.std.proofs.lemmas.Bool.{or_parts}
@@ -79,7 +80,8 @@ same_torn w p child Follow rect = refl
 
 cut_is_refused : (w : World) (s : Asked) → first_row (cut_rows w (command_of s))
     ≡ refused w.frame (holdings w s.package) s.mode s.rect
-cut_is_refused w s = ap (λ o. first_row ((nothing_to_lend w (command_of s), NothingToLend) ∷ carrying CutLink o ∷ []))
+cut_is_refused w s = ap (λ o. first_row ((nothing_to_lend w (command_of s), NothingToLend) ∷ carrying CutLink o
+    ∷ []))
     (same_torn w s.package s.child s.mode s.rect)
 
 -- it is refused before its cut, or by it, or for what it would leave
@@ -118,7 +120,8 @@ split_refused_before w q s why new before =
 
 -- by its cut
 pub split_uncut : (w : World) (q : Request) (s : Asked) (why : Refusal) → IsNewSplit w q s
-    → first_row (reasons_before_cut w q) ≡ None → refused w.frame (holdings w s.package) s.mode s.rect ≡ Some why
+    → first_row (reasons_before_cut w q) ≡ None → refused w.frame (holdings w s.package) s.mode s.rect
+    ≡ Some why
     → Decides w q (Answered (Err why))
 split_uncut w q s why new before cut =
     refused_outcome w q why new.new
@@ -142,7 +145,8 @@ granted_but w q s new granted =
 accepted_so : (w : World) (q : Request) → kept w q.id ≡ None → refusal w (accepted w q) q ≡ None
     → outcome w q ≡ (Ok (receipt_of w q), accepted w q)
 accepted_so w q new none =
-    ap (λ k. outcome_by w q (option_and_then (λ r. then_some (bytes_eq r.line (line q.command)) r) k) (refuses w q)) new
+    ap (λ k. outcome_by w q (option_and_then (λ r. then_some (bytes_eq r.line (line q.command)) r) k) (refuses w q))
+    new
     ∙ ap (outcome_by w q None) none
 
 -- what is known of a split that is refused for nothing but what it would leave
@@ -172,7 +176,8 @@ module _ {S : Type 0} (g : Ghosts S) (members : List (Member S)) (count : ℕ) (
   tells : leaves_too_many members due.at due.left due.lent count ≡ too_many (accepted w q)
   tells =
       ap (λ l. leaves_too_many members due.at l due.lent count) made.made.left
-      ∙ ap (λ l. leaves_too_many members due.at (sums_less l (sums_held (holdings w s.package))) l count) made.made.held
+      ∙ ap (λ l. leaves_too_many members due.at (sums_less l (sums_held (holdings w s.package))) l count)
+      made.made.held
       ∙ members_tell w q.id q.at s.package s.child s.mode s.rect made.split.types are.register
       (known_of w q s are.register made.split made.granted) due.at made.made.at g members count are
       ∙ ap (λ x. too_many (accepted w x)) (as_asked q s made.split.asked)
@@ -200,12 +205,14 @@ module _ {S : Type 0} (g : Ghosts S) (members : List (Member S)) (count : ℕ) (
       )
 
 -- the place of a new member is that of its package
-pub members_before : {S : Type 0} (g : Ghosts S) (members : List (Member S)) (count : ℕ) (w : World) (child : List ℕ)
+pub members_before : {S : Type 0} (g : Ghosts S) (members : List (Member S)) (count : ℕ) (w : World)
+    (child : List ℕ)
     → AreMembers g members count w → count_by (λ (m : Member S). is_before m.uuid child) members
     ≡ place_for child w.packages
 members_before {S} g members count w child are =
     sym (sum_by-map (λ u. cond (is_before u child) 1 0) (λ (m : Member S). m.uuid) members)
-    ∙ ap (sum_by (λ u. cond (is_before u child) 1 0)) (zip_map (IsMember g w) (λ (m : Member S). m.uuid) (λ p. p.uuid)
+    ∙ ap (sum_by (λ u. cond (is_before u child) 1 0)) (zip_map (IsMember g w) (λ (m : Member S). m.uuid)
+    (λ p. p.uuid)
     (λ m y is. is.uuid) members w.packages are.each)
     ∙ sum_by-map (λ u. cond (is_before u child) 1 0) (λ p. p.uuid) w.packages
 

@@ -1,5 +1,6 @@
 -- Whether a split would leave too many, by the sums and numbers that are kept.
-use Rattle.std.specs.Prelude.{◌≡◌, ℕ, ◌+◌, cond, ◌||◌, nat_lt, List, map, length, refl, bytes_eq, Some, slice_get}
+use Rattle.std.specs.Prelude.{◌≡◌, ℕ, ◌+◌, cond, ◌||◌, nat_lt, List, map, length, refl, bytes_eq}
+use Rattle.std.specs.Prelude.{Some, slice_get}
 use Rattle.std.specs.Prelude.{slice_set, true, false}
 use Rattle.std.proofs.Common.{sym, ap, ◌∙◌, length-append, ◌∷◌, []}
 use Rattle.std.proofs.lemmas.List.{length-map}

@@ -1,5 +1,6 @@
 -- The things of a selection, each looked up by its identity and all sorted, are those of the cut that it names.
-use Rattle.std.specs.Prelude.{◌≡◌, ◌<◌, ◌+◌, ℕ, List, [], ◌∷◌, ◌++◌, map, length, Option, Some, bytes_eq, option_map}
+use Rattle.std.specs.Prelude.{◌≡◌, ◌<◌, ◌+◌, ℕ, List, [], ◌∷◌, ◌++◌, map, length, Option}
+use Rattle.std.specs.Prelude.{Some, bytes_eq, option_map}
 use Rattle.std.specs.Prelude.{IsPermutation, Contains}
 use Rattle.std.proofs.Common.{sym, ap, subst, ◌∙◌, take, get_or}
 use Rattle.std.specs.List.{IsDistinct}
@@ -31,7 +32,8 @@ pub one_more : (f : List ℕ → Option Moved) (ids : List (List ℕ)) (n : ℕ)
     (thing : Moved) → n < length ids → map f (take n ids) ≡ map Some things → f (get_or ids n d) ≡ Some thing
     → map f (take (n + 1) ids) ≡ map Some (things ++ thing ∷ [])
 one_more f ids n d things thing less so is =
-    map_more f ids n d less ∙ ap (λ l. l ++ f (get_or ids n d) ∷ []) so ∙ ap (λ o. map Some things ++ o ∷ []) is
+    map_more f ids n d less ∙ ap (λ l. l ++ f (get_or ids n d) ∷ []) so
+    ∙ ap (λ o. map Some things ++ o ∷ []) is
     ∙ sym (map_push (λ m. Some m) things thing)
 
 -- ---- in their order
@@ -41,7 +43,8 @@ into_arranged key xs x i = All-In (λ y. In y (arranged key xs)) x xs
     (All-of_arranged key (λ y. In y (arranged key xs)) xs (In-all (arranged key xs))) i
 
 -- the same names in another order
-other_order : (xs ys : List (List ℕ)) (x : List ℕ) → arranged (λ id. id) xs ≡ arranged (λ id. id) ys → In x xs → In x ys
+other_order : (xs ys : List (List ℕ)) (x : List ℕ) → arranged (λ id. id) xs ≡ arranged (λ id. id) ys
+    → In x xs → In x ys
 other_order xs ys x same i = in_arranged (λ id. id) ys x (subst (In x) same (into_arranged (λ id. id) xs x i))
 
 -- an item of a package is found under its identity
@@ -91,7 +94,8 @@ module _ (p : Package) (c : Cut) (s : Selection) (is : IsSelectionOf c s) (part 
         let it : at.0 ≡ m = cc in
         subst (λ x. In x things) it (moved at.0 told things order at.1)
 
-    pub things_of_cut : IsArranged moved_key things → things ++ map link_moved s.links.items ≡ moved_of c.items c.links
+    pub things_of_cut : IsArranged moved_key things → things ++ map link_moved s.links.items
+        ≡ moved_of c.items c.links
     things_of_cut sorted =
         let ordered : IsArranged moved_key (map item_moved c.items) =
         subst (IsArranged moved_key) (append-nil (map item_moved c.items))

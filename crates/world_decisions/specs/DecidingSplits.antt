@@ -1,5 +1,6 @@
 -- What a split comes to before anything is written, one step after the other. Profile.
-use Rattle.std.specs.Prelude.{◌≡◌, ℕ, Bool, not, ◌||◌, ◌&&◌, ◌+◌, nat_lt, nat_le, true, List, [], ◌∷◌, ◌++◌, length}
+use Rattle.std.specs.Prelude.{◌≡◌, ℕ, Bool, not, ◌||◌, ◌&&◌, ◌+◌, nat_lt, nat_le, true, List, []}
+use Rattle.std.specs.Prelude.{◌∷◌, ◌++◌, length}
 use Rattle.std.specs.Prelude.{None, Some, Result, Ok, Err, bytes_eq, slice_get}
 use Rattle.std.specs.List.{list_any}
 use Rattle.sheet_types.specs.Answers.{sums_held}

@@ -1,7 +1,8 @@
 //! What a request comes to before anything is written: the reply, or the change that is due. The
 //! members are read in the order in which the reasons are told, and no further than the first that
 //! holds.
-ghost use Rattle.std.specs.Prelude.{◌≡◌, ◌<◌, ◌≤◌, ◌+◌, IsTrue, None, Ok, Err, IfOk, length, bytes_eq, false};
+ghost use Rattle.std.specs.Prelude.{◌≡◌, ◌<◌, ◌≤◌, ◌+◌, IsTrue, None, Ok, Err, IfOk, length};
+ghost use Rattle.std.specs.Prelude.{bytes_eq, false};
 ghost use Rattle.std.specs.Prelude.{if◌then◌else◌};
 ghost use Rattle.std.specs.Option.{SomeIff, option_map_or};
 ghost use Rattle.sheet_types.specs.Custody.{is_used};
@@ -228,7 +229,8 @@ fn decide_by_sums<S: Alter + Drop>(
     requires within { at < length members.now }
     requires number { receipt.seq ≡ count + 1 }
     ensures decides { (w : World) → AreMembers S.Store members.now count w → IsPlaced w.frame count at request.now w
-        → refusal_before w request.now ≡ None → receipt ≡ receipt_of w request.now → Decides w request.now result }
+        → refusal_before w request.now ≡ None → receipt ≡ receipt_of w request.now
+        → Decides w request.now result }
     ensures place { HasPlace members.now count result }
     ensures makes { MakesNone result }
 {

@@ -1,7 +1,8 @@
 //! What a merge comes to that did not come before. What is kept of the members is looked at first,
 //! then what the child holds, once, and of each of its tiles whether the place is taken in the
 //! parent.
-ghost use Rattle.std.specs.Prelude.{◌≡◌, ◌<◌, ◌≤◌, ◌+◌, ◌||◌, ◌&&◌, ℕ, pos, true, false, not, bytes_eq, IfOk, IfSome};
+ghost use Rattle.std.specs.Prelude.{◌≡◌, ◌<◌, ◌≤◌, ◌+◌, ◌||◌, ◌&&◌, ℕ, pos, true, false};
+ghost use Rattle.std.specs.Prelude.{not, bytes_eq, IfOk, IfSome};
 ghost use Rattle.std.specs.Prelude.{IfNone, Some, None, length, map, slice_get};
 ghost use Rattle.std.specs.Bool.{then_some};
 ghost use Rattle.std.specs.List.{list_any};
@@ -532,7 +533,8 @@ pub(crate) fn decide_merge<S: Alter + Drop>(
     requires small { count ≤ greatest_receipts }
     requires merges { request.now.command ≡ Merge child into ticket }
     ensures asks { AsksAll S.Store
-        (λ w decision. count ≡ length (receipts_of w) → kept w request.now.id ≡ None → Decides w request.now decision)
+        (λ w decision. count ≡ length (receipts_of w) → kept w request.now.id ≡ None
+        → Decides w request.now decision)
         members.old.items members.new.items result }
     ensures place { IfOk result (λ decision. HasPlace members.new.items count decision) }
     ensures makes { IfOk result MakesNone }

@@ -1,7 +1,8 @@
 //! What a split comes to that did not come before: the first reason that holds, or all that it
 //! needs to be carried out, made before anything is written. The members are read in the order in
 //! which the reasons are told, and no further than the first that holds.
-ghost use Rattle.std.specs.Prelude.{◌≡◌, ◌<◌, ◌≤◌, ◌+◌, ◌&&◌, ℕ, true, IsTrue, None, Some, IfOk, length, slice_get};
+ghost use Rattle.std.specs.Prelude.{◌≡◌, ◌<◌, ◌≤◌, ◌+◌, ◌&&◌, ℕ, true, IsTrue, None, Some};
+ghost use Rattle.std.specs.Prelude.{IfOk, length, slice_get};
 ghost use Rattle.std.specs.Prelude.{bytes_eq, is_none};
 ghost use Rattle.std.specs.List.{list_any};
 ghost use Rattle.sheet_types.specs.Lines.{HasTypes, is_rect};
@@ -252,7 +253,8 @@ fn parted_at<S: Alter + Drop>(
     requires within { lender.at < length members.old.items }
     requires rests { AllRest S.Store members.old.items }
     ensures asks { AsksAll S.Store
-        (λ w parted. (p : Package) (c : Cut) → slice_get w.packages lender.at ≡ Some p → IsSelectionOf c selection.now
+        (λ w parted. (p : Package) (c : Cut) → slice_get w.packages lender.at ≡ Some p
+        → IsSelectionOf c selection.now
         → IsPart c p → parted.0 ≡ receipt_over seq request.now (moved_of c.items c.links))
         members.old.items members.new.items result }
     ensures left { IfOk result (λ parted. parted.1 ≡ sums_less (sums_moved parted.0) lender.held) }

@@ -1,5 +1,6 @@
 //! The receipt of a split or a merge, made before anything is written: what is moved, and how much that is.
-ghost use Rattle.std.specs.Prelude.{◌≡◌, ◌<◌, ◌++◌, not, map, Some, IfOk, IsPermutation, length, slice_get, sum_by};
+ghost use Rattle.std.specs.Prelude.{◌≡◌, ◌<◌, ◌++◌, not, map, Some, IfOk, IsPermutation, length};
+ghost use Rattle.std.specs.Prelude.{slice_get, sum_by};
 ghost use Rattle.std.specs.Prelude.{option_map};
 ghost use Rattle.sheet_types.specs.Cut.{Cut, moved_of};
 ghost use Rattle.sheet_types.specs.Ordered.{IsArranged};

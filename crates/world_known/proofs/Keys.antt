@@ -1,5 +1,6 @@
 -- The keys of a map, by what a look-up tells and what putting one in leaves.
-use Rattle.std.specs.Prelude.{◌≡◌, ℕ, true, false, cond, List, [], ◌∷◌, ◌++◌, Some, None, Contains, refl}
+use Rattle.std.specs.Prelude.{◌≡◌, ℕ, true, false, cond, List, [], ◌∷◌, ◌++◌, Some, None, Contains}
+use Rattle.std.specs.Prelude.{refl}
 use Rattle.std.proofs.Common.{sym, subst}
 use Rattle.std.specs.List.{AllByRecursion}
 use Rattle.std.specs.Option.{IsSome, is_some}
@@ -36,12 +37,17 @@ put_is_there m n k v updates = there n k (subst IsSome (sym updates.1) refl)
 -- and those that were there still are
 pub put_keeps : (m n : Map) (k v : List ℕ) → Updates (slice_cmp nat_cmp) m n k (Some v) → Grows (keys m) (keys n)
 put_keeps m n k v updates q is =
-    there n q (subst IsSome (sym (updates.0 q)) (elim (is_at (slice_cmp nat_cmp k) q) as (λ b. IsSome (cond b (Some v) (get (slice_cmp nat_cmp) m q))) [ true ↦ refl | false ↦ found m q is ]))
+    there n q (subst IsSome (sym (updates.0 q)) (elim (is_at (slice_cmp nat_cmp k) q) as
+    (λ b. IsSome (cond b (Some v) (get (slice_cmp nat_cmp) m q))) [ true ↦ refl | false ↦ found m q is ]))
 
-pub all_grow : (old new : List (List ℕ)) (some : List Moved) → Grows old new → AllByRecursion (λ x. Contains old x.base) some → AllByRecursion (λ x. Contains new x.base) some
-all_grow old new some grows each = All-weaker (λ (x : Moved). Contains old x.base) (λ x. Contains new x.base) (λ x is. grows x.base is) some each
+pub all_grow : (old new : List (List ℕ)) (some : List Moved) → Grows old new
+    → AllByRecursion (λ x. Contains old x.base) some → AllByRecursion (λ x. Contains new x.base) some
+all_grow old new some grows each = All-weaker (λ (x : Moved). Contains old x.base) (λ x. Contains new x.base)
+    (λ x is. grows x.base is) some each
 
 -- of one thing more
-pub one_more : (old new : List (List ℕ)) (some : List Moved) (m : Moved) → Grows old new → Contains new m.base → AllByRecursion (λ x. Contains old x.base) some → AllByRecursion (λ x. Contains new x.base) (some ++ m ∷ [])
+pub one_more : (old new : List (List ℕ)) (some : List Moved) (m : Moved) → Grows old new → Contains new m.base
+    → AllByRecursion (λ x. Contains old x.base) some → AllByRecursion (λ x. Contains new x.base)
+    (some ++ m ∷ [])
 one_more old new some m grows here each =
     All-snoc (λ (x : Moved). Contains new x.base) some m (all_grow old new some grows each) here

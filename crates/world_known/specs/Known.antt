@@ -11,7 +11,8 @@ use Rattle.sheet_types.specs.declared.receipt.Receipt.{Receipt}
 abbrev pub Grows : List (List ℕ) → List (List ℕ) → Type 0
 Grows old new = (id : List ℕ) → Contains old id → Contains new id
 
--- What a receipt names is known: its request, each thing that it moved, by its identity or its base, and the package that things came to.
+-- What a receipt names is known: its request, each thing that it moved, by its identity or its base, and the package
+-- that things came to.
 pub record Notes (known : List (List ℕ)) (r : Receipt) : Type 0 where
   pub request : Contains known r.request
   pub things : AllByRecursion (λ m. Contains known m.base) r.items
@@ -25,8 +26,11 @@ Knows known w = AllByRecursion (Notes known) (receipts_of w)
 
 -- A UUID that is not known is new: no request of it came before, no item had it, and no split made a package of it.
 abbrev pub UnknownIsNew : Type 0
-UnknownIsNew = (known : List (List ℕ)) (w : World) (id : List ℕ) → Knows known w → ¬ Contains known id → (kept w id ≡ None) × (is_used w id ≡ false) × (list_any (λ r. is_split r && ends_at r.target id) (receipts_of w) ≡ false)
+UnknownIsNew = (known : List (List ℕ)) (w : World) (id : List ℕ) → Knows known w → ¬ Contains known id
+    → (kept w id ≡ None) × (is_used w id ≡ false) × (list_any (λ r. is_split r && ends_at r.target id)
+    (receipts_of w) ≡ false)
 
 -- Where the receipt of a request is noted, all that the world names once it is accepted is known.
 abbrev pub KnowsNext : Type 0
-KnowsNext = (old new : List (List ℕ)) (w : World) (q : Request) → Grows old new → Knows old w → Notes new (receipt_of w q) → Knows new (accepted w q)
+KnowsNext = (old new : List (List ℕ)) (w : World) (q : Request) → Grows old new → Knows old w
+    → Notes new (receipt_of w q) → Knows new (accepted w q)

@@ -9,7 +9,10 @@ use std::collections::BTreeMap;
 use std::marker::Model;
 use uuid::Uuid;
 
-/// The UUIDs that the receipts of a world name: of requests, of things and of packages. What is not among them is named by no receipt. Each leads to a package in which a receipt that names it was entered; where that is not live any more, it was merged, and its own UUID leads on to the package that took it.
+/// The UUIDs that the receipts of a world name: of requests, of things and of packages. What is not
+/// among them is named by no receipt. Each leads to a package in which a receipt that names it was
+/// entered; where that is not live any more, it was merged, and its own UUID leads on to the
+/// package that took it.
 ///
 /// An entry is 32 bytes, and a command that adds an item makes two, the request and the item.
 #[derive(Drop)]
@@ -36,7 +39,9 @@ impl Known {
         }
     }
 
-    /// The package to which a UUID leads. That there is one tells nothing by itself: the package may not have the receipt any more, and a request that was not carried out may have been noted. That there is none says that no receipt names it.
+    /// The package to which a UUID leads. That there is one tells nothing by itself: the package
+    /// may not have the receipt any more, and a request that was not carried out may have been
+    /// noted. That there is none says that no receipt names it.
     pub fn place_of(&self, id: Uuid) -> Option<Uuid>
         ensures new { result ≡ None → ¬ Contains self.now id }
     {
@@ -74,7 +79,9 @@ impl Known {
         Ok(())
     }
 
-    /// The same of the package that things came to, if they came to one. Where that is not the one that has the receipt, it was lent by it or by one that it took; so it leads there, whatever its own receipts say.
+    /// The same of the package that things came to, if they came to one. Where that is not the one
+    /// that has the receipt, it was lent by it or by one that it took; so it leads there, whatever
+    /// its own receipts say.
     fn put_target(&mut self, target: Option<Uuid>, package: Uuid) -> Result<(), AllocError>
         ensures known { OnOk result (MatchOption target ⊤ (λ p. Contains self.new p)) }
         ensures grows { Grows self.old self.new }

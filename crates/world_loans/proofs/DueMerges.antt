@@ -1,5 +1,6 @@
 -- A merge that is accepted is due, by what is kept of the world.
-use Rattle.std.specs.Prelude.{◌≡◌, ℕ, ℤ, ◌+◌, ◌≤◌, Bool, true, false, cond, ◌||◌, List, [], ◌∷◌, ◌++◌, map, length}
+use Rattle.std.specs.Prelude.{◌≡◌, ℕ, ℤ, ◌+◌, ◌≤◌, Bool, true, false, cond, ◌||◌, List, []}
+use Rattle.std.specs.Prelude.{◌∷◌, ◌++◌, map, length}
 use Rattle.std.specs.Prelude.{refl, bytes_eq, Some, is_some, unwrap_or, sum_by, count_by, flat_map, slice_get}
 use Rattle.std.specs.Prelude.{slice_set, Contains}
 use Rattle.std.proofs.Common.{sym, ap, subst, ◌∙◌, arith, length-append}
@@ -64,7 +65,8 @@ whole_part x items links = record {
   links = recursion_from_All (Contains x.links) x.links (All-contains_itself x.links);
   item_order = items;
   link_order = links;
-  whole = All-each (λ i. AllByRecursion (λ l. has_end i.identity l ≡ true → has link_key (link_key l) x.links ≡ true)
+  whole = All-each (λ i. AllByRecursion (λ l. has_end i.identity l ≡ true
+      → has link_key (link_key l) x.links ≡ true)
       x.links)
       (λ i. All-weaker (λ l. has link_key (link_key l) x.links ≡ true)
       (λ l. has_end i.identity l ≡ true → has link_key (link_key l) x.links ≡ true) (λ l h _. h) x.links
@@ -130,7 +132,8 @@ module _ (w : World) (id moment child into : List ℕ) (ticket' : ℤ) (types : 
   uuid_into = uuid_of into k.into_live
 
   -- no thing is in both
-  never_both : (thing : List ℕ) → holds (holdings w child) thing ≡ true → holds (holdings w into) thing ≡ true → ⊥
+  never_both : (thing : List ℕ) → holds (holdings w child) thing ≡ true
+      → holds (holdings w into) thing ≡ true → ⊥
   never_both = merge.never_both w id moment child into ticket' types register k
 
   come : MayCome taken (holdings w into)
@@ -210,8 +213,7 @@ module _ (w : World) (id moment child into : List ℕ) (ticket' : ℤ) (types : 
   may timed = record {
     part = whole_part (holdings w child) kept_child.items kept_child.links;
     come = come;
-    apart =
-        are_apart;
+    apart = are_apart;
     receipt = new timed;
   }
 
@@ -225,7 +227,8 @@ module _ (w : World) (id moment child into : List ℕ) (ticket' : ℤ) (types : 
     register = merge.register_after w id moment child into ticket' types register k;
   }
 
-  ticket_after : (u : List ℕ) → ticket next u ≡ cond (bytes_eq child u || bytes_eq into u) receipt.seq (ticket w u)
+  ticket_after : (u : List ℕ) → ticket next u ≡ cond (bytes_eq child u || bytes_eq into u) receipt.seq
+      (ticket w u)
   ticket_after u = ticket_next w next receipt u register refl one_more
 
   -- no package of the world after has the child's UUID
@@ -283,8 +286,7 @@ module _ (w : World) (id moment child into : List ℕ) (ticket' : ℤ) (types : 
       into = at;
       selection = selection;
       receipt = receipt;
-      sums =
-          sums_held (returned receipt taken (holdings w child) (holdings w into));
+      sums = sums_held (returned receipt taken (holdings w child) (holdings w into));
     }
 
     is_returned : is_moment moment ≡ true → (selection : Selection) → IsSelectionOf taken selection
@@ -322,8 +324,7 @@ module _ (w : World) (id moment child into : List ℕ) (ticket' : ℤ) (types : 
         from = due.from;
         into = due.into;
         selection = due.selection;
-        receipt =
-            is.receipt j;
+        receipt = is.receipt j;
         sums = sums j;
       } in
       subst (IsReturned w next) (sym same) (is_returned due.from due.into is.child_at is.parent_at timed due.selection

@@ -1,5 +1,6 @@
 -- A split that is accepted is due, by what is kept of the world.
-use Rattle.std.specs.Prelude.{◌≡◌, ℕ, ◌+◌, ◌-◌, Bool, true, false, cond, ◌&&◌, ◌||◌, List, [], ◌∷◌, ◌++◌, map, filter}
+use Rattle.std.specs.Prelude.{◌≡◌, ℕ, ◌+◌, ◌-◌, Bool, true, false, cond, ◌&&◌, ◌||◌, List, []}
+use Rattle.std.specs.Prelude.{◌∷◌, ◌++◌, map, filter}
 use Rattle.std.specs.Prelude.{find, length, refl, Option, bytes_eq, Some, sum_by, count_by, slice_get, slice_set}
 use Rattle.std.specs.Prelude.{Contains}
 use Rattle.std.proofs.Common.{sym, ap, subst, ◌∙◌, arith, drop, length-append}
@@ -61,7 +62,8 @@ use Rattle.world_loans.proofs.Tickets.{ticket_next}
 -- ---- what is taken
 
 -- some of a list that pass a test are of the list
-pub some_of : {X : Type 0} (t : X → Bool) (xs taken : List X) → taken ≡ filter t xs → AllByRecursion (Contains xs) taken
+pub some_of : {X : Type 0} (t : X → Bool) (xs taken : List X) → taken ≡ filter t xs
+    → AllByRecursion (Contains xs) taken
 some_of t xs taken is = subst (AllByRecursion (Contains xs)) (sym is)
     (All-filter (Contains xs) t xs (recursion_from_All (Contains xs) xs (All-contains_itself xs)))
 
@@ -79,7 +81,8 @@ module _ (x : Package) (c : Cut) (torn : WholeCut x c) where
       elim (torn.u l) as (λ v. torn.u l ≡ v → v ≡ true) [
         | true ↦ λ _. refl
         | false ↦ λ stays.
-            elim (bytes_eq l.base n) as (λ b. bytes_eq l.base n ≡ b → (b || bytes_eq l.other n) ≡ true → false ≡ true) [
+            elim (bytes_eq l.base n) as (λ b. bytes_eq l.base n ≡ b → (b || bytes_eq l.other n) ≡ true
+            → false ≡ true) [
               | true ↦ λ is _. sym (goes.1 stays).0 ∙ ap torn.s ((bytes_eq-Decides l.base n).0 is) ∙ takes
               | false ↦ λ _ is. sym (goes.1 stays).1 ∙ ap torn.s ((bytes_eq-Decides l.other n).0 is) ∙ takes
             ] refl end
@@ -110,7 +113,8 @@ module _ (x : Package) (c : Cut) (torn : WholeCut x c) where
 -- ---- what comes to a new package
 
 -- a new package that gains a cut holds it and nothing else
-pub gained_by_new : (c : Cut) (uuid : List ℕ) (above : Option (List ℕ)) (depth seq : ℕ) → IsArranged item_key c.items
+pub gained_by_new : (c : Cut) (uuid : List ℕ) (above : Option (List ℕ)) (depth seq : ℕ)
+    → IsArranged item_key c.items
     → IsArranged link_key c.links
     → with_cut c (new_package uuid above depth seq) ≡ record
     { uuid = uuid; parent = above; depth = depth; loan = seq; items = c.items; links = c.links; receipts = [] }
@@ -125,8 +129,7 @@ gained_by_new c uuid above depth seq items links =
       depth = depth;
       loan = seq;
       items = is;
-      links =
-          arranged link_key (c.links ++ []);
+      links = arranged link_key (c.links ++ []);
       receipts = [];
     }) same_items
     ∙ ap (λ ls. record {
@@ -135,8 +138,7 @@ gained_by_new c uuid above depth seq items links =
       depth = depth;
       loan = seq;
       items = c.items;
-      links =
-          ls;
+      links = ls;
       receipts = [];
     }) same_links
 
@@ -318,12 +320,14 @@ module _ (w : World) (id moment p child : List ℕ) (mode : Mode) (rect : Rect)
   }
 
   -- the place of the child does not see what becomes of its parent
-  place_kept : place_for child (map (λ x. cond (bytes_eq x.uuid p) (give x) x) w.packages) ≡ place_for child w.packages
+  place_kept : place_for child (map (λ x. cond (bytes_eq x.uuid p) (give x) x) w.packages)
+      ≡ place_for child w.packages
   place_kept =
       sum_by-map (λ x. cond (is_before x.uuid child) 1 0) (λ x. cond (bytes_eq x.uuid p) (give x) x) w.packages
       ∙ sum_by-same (λ x. cond (is_before (cond (bytes_eq x.uuid p) (give x) x).uuid child) 1 0)
       (λ x. cond (is_before x.uuid child) 1 0)
-      (λ x. elim (bytes_eq x.uuid p) as (λ v. ◌≡◌ {A = ℕ} (cond (is_before (cond v (give x) x).uuid child) 1 0)
+      (λ x. elim (bytes_eq x.uuid p) as (λ v. ◌≡◌ {A = ℕ} (cond (is_before (cond v (give x) x).uuid child) 1
+      0)
       (cond (is_before x.uuid child) 1 0)) [ true ↦ refl | false ↦ refl ]) w.packages
 
   packages_after : (at : ℕ) → slice_get w.packages at ≡ Some (holdings w p)

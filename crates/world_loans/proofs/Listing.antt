@@ -1,5 +1,6 @@
 -- Lists in the order of a key, place by place: what comes, changes and goes under a key does so at one place.
-use Rattle.std.specs.Prelude.{◌≡◌, ◌<◌, ◌≤◌, ◌+◌, ◌-◌, ℕ, zero, suc, true, false, cond, List, [], ◌∷◌, ◌||◌, not}
+use Rattle.std.specs.Prelude.{◌≡◌, ◌<◌, ◌≤◌, ◌+◌, ◌-◌, ℕ, zero, suc, true, false, cond}
+use Rattle.std.specs.Prelude.{List, [], ◌∷◌, ◌||◌, not}
 use Rattle.std.specs.Prelude.{count_by, Some, slice_get, slice_set, refl, bytes_eq, nat_lt, Bool}
 use Rattle.std.proofs.Common.{sym, ap, subst, ◌∙◌, inl, inr, arith, length}
 use Rattle.std.proofs.Math.Nat.{eq-or-lt_of_le}
@@ -66,7 +67,8 @@ length_removed (y ∷ xs) zero x place = omega arith
 length_removed (y ∷ xs) (suc at) x place = omega (arith, length_removed xs at x place)
 
 -- what stands before the one that goes, and behind it
-removed_below : {A : Type 0} (xs : List A) (gone at : ℕ) → at < gone → slice_get (remove xs gone) at ≡ slice_get xs at
+removed_below : {A : Type 0} (xs : List A) (gone at : ℕ) → at < gone
+    → slice_get (remove xs gone) at ≡ slice_get xs at
 removed_below [] zero at lt = refl
 removed_below [] (suc gone) at lt = refl
 removed_below (y ∷ xs) zero at lt = absurd (omega (arith, lt))
@@ -84,7 +86,8 @@ removed_above (y ∷ xs) (suc gone) (suc at) le = removed_above xs gone at (omeg
 pub still_there : {A : Type 0} (xs : List A) (gone at : ℕ) (x : A) → slice_get xs at ≡ Some x → ¬ (gone ≡ at)
     → slice_get (remove xs gone) (place_without gone at) ≡ Some x
 still_there xs gone at x place two =
-    elim (nat_lt gone at) as (λ b. nat_lt gone at ≡ b → slice_get (remove xs gone) (cond b (at - 1) at) ≡ Some x) [
+    elim (nat_lt gone at) as (λ b. nat_lt gone at ≡ b → slice_get (remove xs gone) (cond b (at - 1) at)
+    ≡ Some x) [
       | true ↦ λ is.
           let lt : gone < at = ltb-true gone at is in
           let back : suc (at - 1) ≡ at = omega (arith, lt) in
@@ -102,7 +105,8 @@ module _ {X : Type 0} (key : X → List ℕ) where
   abbrev pub count_before : List ℕ → List X → ℕ
   count_before k xs = count_by (λ y. is_before (key y) k) xs
 
-  pub put_inserts : (x : X) (xs : List X) → IsArranged key xs → put key x xs ≡ insert xs (count_before (key x) xs) x
+  pub put_inserts : (x : X) (xs : List X) → IsArranged key xs
+      → put key x xs ≡ insert xs (count_before (key x) xs) x
   put_inserts x [] h = refl
   put_inserts x (y ∷ ys) h =
       elim (is_before (key y) (key x)) as (λ v. is_before (key y) (key x) ≡ v
@@ -126,7 +130,8 @@ module _ {X : Type 0} (key : X → List ℕ) where
       → AllByRecursion (λ z. is_before (key y) (key z) ≡ true) ys
       → AllByRecursion (λ z. bytes_eq (key z) k ≡ false) ys
   others_after y ys k is h = All-weaker (λ z. is_before (key y) (key z) ≡ true) (λ z. bytes_eq (key z) k ≡ false)
-      (λ z b. bytes_eq_swap (key z) k ∙ ap (λ u. bytes_eq u (key z)) (sym is) ∙ before-differs (key y) (key z) b) ys h
+      (λ z b. bytes_eq_swap (key z) k ∙ ap (λ u. bytes_eq u (key z)) (sym is)
+      ∙ before-differs (key y) (key z) b) ys h
 
   -- one before that of a key has another
   other_before : (y : X) (ys : List X) (at : ℕ) (x : X) (k : List ℕ)
@@ -171,12 +176,15 @@ module _ {X : Type 0} (key : X → List ℕ) where
   other_key (z ∷ zs) (suc at) zero x y h there here two = bytes_eq_swap (key x) (key y)
       ∙ ap (λ u. bytes_eq u (key x)) (ap key (let e : y ≡ z = cc in e))
       ∙ other_before z zs at x (key x) h.0 there refl
-  other_key (z ∷ zs) (suc at) (suc k) x y h there here two = other_key zs at k x y h.1 there here (λ e. two (ap suc e))
+  other_key (z ∷ zs) (suc at) (suc k) x y h there here two =
+      other_key zs at k x y h.1 there here (λ e. two (ap suc e))
 
   -- a list in the order of the key stays as it is
-  put_first : (x : X) (xs : List X) → AllByRecursion (λ y. is_before (key x) (key y) ≡ true) xs → put key x xs ≡ x ∷ xs
+  put_first : (x : X) (xs : List X) → AllByRecursion (λ y. is_before (key x) (key y) ≡ true) xs
+      → put key x xs ≡ x ∷ xs
   put_first x [] h = refl
-  put_first x (y ∷ ys) h = ap (λ b. cond b (y ∷ put key x ys) (x ∷ y ∷ ys)) (before_not_after (key x) (key y) h.0)
+  put_first x (y ∷ ys) h = ap (λ b. cond b (y ∷ put key x ys) (x ∷ y ∷ ys))
+      (before_not_after (key x) (key y) h.0)
 
   pub arranged_itself : (xs : List X) → IsArranged key xs → arranged key xs ≡ xs
   arranged_itself [] h = refl

@@ -23,5 +23,6 @@ pub split_refused_as_unknown : SplitRefusedAsUnknown
 split_refused_as_unknown w next id moment p child mode rect new dead =
     let q : Request = split_request id moment p child mode rect in
     let rest : Option Refusal = first_row (split_reasons w next (split_request id moment p child mode rect)) in
-    ap (λ b. cond b (Some IdReused) (cond (not (is_live w p && true)) (Some UnknownPackage) rest)) (none_reused w q new)
+    ap (λ b. cond b (Some IdReused) (cond (not (is_live w p && true)) (Some UnknownPackage) rest))
+    (none_reused w q new)
     ∙ ap (λ b. cond (not (b && true)) (Some UnknownPackage) rest) dead

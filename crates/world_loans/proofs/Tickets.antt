@@ -11,8 +11,10 @@ use Rattle.sheet_laws.proofs.Shifting.{numbers_below}
 use Rattle.world_members.proofs.Limits.{ticket_from, ticket_below, greatest}
 
 -- A package that the new receipt names has its number, and every other the one that it had.
-pub ticket_next : (w next : World) (r : Receipt) (id : List ℕ) → IsRegister w → r.seq ≡ length (receipts_of w) + 1
-    → receipts_of next ≡ receipts_of w ++ r ∷ [] → ticket next id ≡ cond (names_package id r) r.seq (ticket w id)
+pub ticket_next : (w next : World) (r : Receipt) (id : List ℕ) → IsRegister w
+    → r.seq ≡ length (receipts_of w) + 1
+    → receipts_of next ≡ receipts_of w ++ r ∷ [] → ticket next id
+    ≡ cond (names_package id r) r.seq (ticket w id)
 ticket_next w next r id register number more =
     let below : AllByRecursion (λ s. s.seq < r.seq) (receipts_of w) =
     numbers_below w r.seq register.balanced.ledger number in

@@ -1,7 +1,9 @@
 -- When a split or a merge is due, by what is kept of a world: which member gives, which takes, and what the world is
 -- after it. Profile.
-use Rattle.std.specs.Prelude.{◌≡◌, ◌<◌, ◌≤◌, ℕ, ℤ, Bool, not, ◌||◌, ◌&&◌, [], ◌∷◌, ◌+◌, ◌-◌, List, Some, None, length}
-use Rattle.std.specs.Prelude.{slice_get, slice_set, if◌then◌else◌, bytes_eq, nat_lt, false, true, is_some, count_by}
+use Rattle.std.specs.Prelude.{◌≡◌, ◌<◌, ◌≤◌, ℕ, ℤ, Bool, not, ◌||◌, ◌&&◌, [], ◌∷◌}
+use Rattle.std.specs.Prelude.{◌+◌, ◌-◌, List, Some, None, length}
+use Rattle.std.specs.Prelude.{slice_get, slice_set, if◌then◌else◌, bytes_eq, nat_lt, false, true, is_some}
+use Rattle.std.specs.Prelude.{count_by}
 use Rattle.std.specs.List.{insert, remove, AllByRecursion}
 use Rattle.sheet_types.specs.Answers.{sums_held}
 use Rattle.sheet_types.specs.Custody.{kept, ticket}
@@ -119,7 +121,8 @@ SplitRefusedInTurn = (w next : World) (id moment p child : List ℕ) (mode : Mod
     ≡ first_row (split_reasons w next (split_request id moment p child mode rect))
 
 abbrev pub SplitRefusedAsUnknown : Type 0
-SplitRefusedAsUnknown = (w next : World) (id moment p child : List ℕ) (mode : Mode) (rect : Rect) → kept w id ≡ None
+SplitRefusedAsUnknown = (w next : World) (id moment p child : List ℕ) (mode : Mode) (rect : Rect)
+    → kept w id ≡ None
     → is_live w p ≡ false →
     refusal w next (split_request id moment p child mode rect) ≡ Some UnknownPackage
 

@@ -26,7 +26,8 @@ carried_out_in_one w r (Merge child into ticket) one = absurd one
 -- ---- the change
 
 -- the change of a command that is known by its form
-pub change_steps : {E : Type 0} (command form : Command) {old new : State} {r : Result (Unit {0}) E} → command ≡ form
+pub change_steps : {E : Type 0} (command form : Command) {old new : State} {r : Result (Unit {0}) E}
+    → command ≡ form
     → Steps (λ _. Becomes (Meets form) (changed_by form)) old new r
     → Steps (λ _. Becomes (Meets command) (changed_by command)) old new r
 change_steps command form {old} {new} {r} is steps = subst (λ c. Steps (λ _. Becomes (Meets c) (changed_by c)) old new
@@ -43,7 +44,8 @@ same_rest (Split uuid child mode rect) p = refl
 same_rest (Merge child into ticket) p = refl
 
 -- so a receipt that was new still is
-still_new : (r : Receipt) (command : Command) (p : Package) → IsNewReceipt r p → IsNewReceipt r (changed_by command p)
+still_new : (r : Receipt) (command : Command) (p : Package) → IsNewReceipt r p
+    → IsNewReceipt r (changed_by command p)
 still_new r command p new = subst (IsNewReceipt r) (sym (same_rest command p))
     (record { number = new.number; request = new.request; fit = new.fit; moment = new.moment })
 
@@ -60,7 +62,8 @@ receipt_then r command first next =
 
 -- and then its moment, which the contents say
 pub moment_said : {E F : Type 0} (r : Receipt) (command : Command) {old mid new : State} {x : Unit {0}}
-    {q : Result (Unit {0}) F} → Steps {E = E} (λ _. Becomes (Fits r command) (after_command r command)) old mid (Ok x)
+    {q : Result (Unit {0}) F} → Steps {E = E} (λ _. Becomes (Fits r command) (after_command r command)) old mid
+    (Ok x)
     → Steps (λ _. Dates r.at) mid new q
     → Steps (λ _. SaysMoment r command) old new q
 moment_said r command first next =
@@ -70,7 +73,8 @@ moment_said r command first next =
 
 -- and which no package shows
 pub moment_then : {E F : Type 0} (r : Receipt) (command : Command) {old mid new : State} {x : Unit {0}}
-    {q : Result (Unit {0}) F} → Steps {E = E} (λ _. Becomes (Fits r command) (after_command r command)) old mid (Ok x)
+    {q : Result (Unit {0}) F} → Steps {E = E} (λ _. Becomes (Fits r command) (after_command r command)) old mid
+    (Ok x)
     → Steps (λ _. Becomes (λ _. is_moment r.at ≡ true) (λ p. p)) mid new q
     → Steps (λ _. Becomes (Fits r command) (after_command r command)) old new q
 moment_then r command first next =

@@ -1,5 +1,6 @@
 -- What the members of a world stand for after one of them took a turn.
-use Rattle.std.specs.Prelude.{◌≡◌, ◌⊎◌, ℕ, zero, suc, ◌+◌, true, false, cond, List, [], ◌∷◌, map, Some, slice_get}
+use Rattle.std.specs.Prelude.{◌≡◌, ◌⊎◌, ℕ, zero, suc, ◌+◌, true, false, cond, List, [], ◌∷◌}
+use Rattle.std.specs.Prelude.{map, Some, slice_get}
 use Rattle.std.specs.Prelude.{slice_set, refl, bytes_eq, Result, Ok, Err, IsErr, IsTrue, OnErr, if◌then◌else◌}
 use Rattle.std.proofs.Common.{sym, ap, subst, ◌∙◌, inl, inr, arith}
 use Rattle.std.specs.List.{AllByRecursion, AllZip}
@@ -37,14 +38,17 @@ use Rattle.world_members.proofs.Standing.{zip_at, zip_both}
 
 -- one element is another that has the same
 pub zip_set : {A B : Type 0} (R : A → B → Type 0) (xs : List A) (ys : List B) (at : ℕ) (was now : A)
-    → ((y : B) → R was y → R now y) → slice_get xs at ≡ Some was → AllZip R xs ys → AllZip R (slice_set xs at now) ys
+    → ((y : B) → R was y → R now y) → slice_get xs at ≡ Some was → AllZip R xs ys
+    → AllZip R (slice_set xs at now) ys
 zip_set R [] ys at was now f place h = absurd (let e = place in cc)
 zip_set R (x ∷ xs) [] at was now f place h = absurd h
-zip_set R (x ∷ xs) (y ∷ ys) zero was now f place h = let same : x ≡ was = cc in (f y (subst (λ z. R z y) same h.0), h.1)
+zip_set R (x ∷ xs) (y ∷ ys) zero was now f place h = let same : x ≡ was =
+    cc in (f y (subst (λ z. R z y) same h.0), h.1)
 zip_set R (x ∷ xs) (y ∷ ys) (suc at) was now f place h = (h.0, zip_set R xs ys at was now f place h.1)
 
 -- what all have after one was set, and that one had before
-set_back : {A : Type 0} (P : A → Type 0) (xs : List A) (at : ℕ) (was now : A) → slice_get xs at ≡ Some was → P was
+set_back : {A : Type 0} (P : A → Type 0) (xs : List A) (at : ℕ) (was now : A) → slice_get xs at ≡ Some was
+    → P was
     → AllByRecursion P (slice_set xs at now) → AllByRecursion P xs
 set_back P [] at was now place here h = tt
 set_back P (x ∷ xs) zero was now place here h = let same : x ≡ was = cc in (subst P (sym same) here, h.1)
@@ -62,32 +66,37 @@ zip_so P R Q f (x ∷ xs) (y ∷ ys) all h = (f x y all.0 h.0, zip_so P R Q f xs
 
 module _ (id : List ℕ) where
   -- the packages behind it have others
-  differ : (p : Package) (ps : List Package) → p.uuid ≡ id → AllByRecursion (λ y. is_before p.uuid y.uuid ≡ true) ps
+  differ : (p : Package) (ps : List Package) → p.uuid ≡ id → AllByRecursion
+      (λ y. is_before p.uuid y.uuid ≡ true) ps
       → AllByRecursion (λ y. bytes_eq y.uuid id ≡ false) ps
   differ p ps named h = All-weaker (λ y. is_before p.uuid y.uuid ≡ true) (λ y. bytes_eq y.uuid id ≡ false)
       (λ y before. bytes_eq_swap y.uuid id ∙ subst (λ u. bytes_eq u y.uuid ≡ false) named
       (before-differs p.uuid y.uuid before)) ps h
 
   -- and so have those before it
-  pub differs : (q p : Package) (ps : List Package) (at : ℕ) → AllByRecursion (λ y. is_before q.uuid y.uuid ≡ true) ps
+  pub differs : (q p : Package) (ps : List Package) (at : ℕ)
+      → AllByRecursion (λ y. is_before q.uuid y.uuid ≡ true) ps
       → slice_get ps at ≡ Some p → p.uuid ≡ id → bytes_eq q.uuid id ≡ false
   differs q p ps at h place named = subst (λ u. bytes_eq q.uuid u ≡ false) named
       (before-differs q.uuid p.uuid (all-slice_get (λ y. is_before q.uuid y.uuid ≡ true) ps at p place h))
 
   pub same_uuid : (q p : Package) → q ≡ p → p.uuid ≡ id → bytes_eq q.uuid id ≡ true
-  same_uuid q p same named = ap (λ x. bytes_eq x.uuid id) same ∙ ap (λ u. bytes_eq u id) named ∙ bytes_eq_itself id
+  same_uuid q p same named = ap (λ x. bytes_eq x.uuid id) same ∙ ap (λ u. bytes_eq u id) named
+      ∙ bytes_eq_itself id
 
   -- something of each package, and something else of that one
   module _ {X : Type 0} (g h : Package → X) where
     abbrev told_apart : List Package → List X
     told_apart ps = map (λ x. cond (bytes_eq x.uuid id) (g x) (h x)) ps
 
-    none_apart : (ps : List Package) → AllByRecursion (λ y. bytes_eq y.uuid id ≡ false) ps → told_apart ps ≡ map h ps
+    none_apart : (ps : List Package) → AllByRecursion (λ y. bytes_eq y.uuid id ≡ false) ps
+        → told_apart ps ≡ map h ps
     none_apart [] others = refl
     none_apart (p ∷ ps) others = rw others.0 (ap (λ xs. h p ∷ xs) (none_apart ps others.1))
 
     -- it is the first of each, set at the place of that package
-    pub apart_set : (ps : List Package) (at : ℕ) (p : Package) → IsArranged package_key ps → slice_get ps at ≡ Some p
+    pub apart_set : (ps : List Package) (at : ℕ) (p : Package) → IsArranged package_key ps
+        → slice_get ps at ≡ Some p
         → p.uuid ≡ id → told_apart ps ≡ slice_set (map h ps) at (g p)
     apart_set [] at p arranged place named = absurd (let e = place in cc)
     apart_set (q ∷ ps) zero p arranged place named =
@@ -98,7 +107,8 @@ module _ (id : List ℕ) where
               arranged.0),
         ) (ap (λ x. g x ∷ map h ps) same)
     apart_set (q ∷ ps) (suc at) p arranged place named =
-        rw (differs q p ps at arranged.0 place named) (ap (λ xs. h q ∷ xs) (apart_set ps at p arranged.1 place named))
+        rw (differs q p ps at arranged.0 place named) (ap (λ xs. h q ∷ xs)
+        (apart_set ps at p arranged.1 place named))
 
   module _ (f : Package → Package) where
     -- a change of that package is one at its place
@@ -108,7 +118,8 @@ module _ (id : List ℕ) where
     changed_set ps at p arranged place named = apart_set f (λ x. x) ps at p arranged place named
         ∙ ap (λ xs. slice_set xs at (f p)) (map-id ps)
 
-    module _ {A : Type 0} (R R' : A → Package → Type 0) (others : (y : A) (q : Package) → bytes_eq q.uuid id ≡ false
+    module _ {A : Type 0} (R R' : A → Package → Type 0) (others : (y : A) (q : Package)
+        → bytes_eq q.uuid id ≡ false
         → R y q → R' y q) where
       zip_others : (xs : List A) (ps : List Package) → AllByRecursion (λ y. bytes_eq y.uuid id ≡ false) ps
           → AllZip R xs ps → AllZip R' xs ps
@@ -165,7 +176,8 @@ module _ {S : Type 0} (g : Ghosts S) (shuts : Shuts g) where
 
   -- after a command that was due they stand for the world after it
   pub done_members : {E : Type 0} (r : Receipt) (command : Command) (sums : Sums) (old new : List (Member S)) (at : ℕ)
-      → CarriesOutAt g {E = E} r command sums old new at (Ok tt) → (w : World) (count : ℕ) → AreMembers g old count w
+      → CarriesOutAt g {E = E} r command sums old new at (Ok tt) → (w : World) (count : ℕ)
+      → AreMembers g old count w
       → IsDue w at r command sums
       → AreMembers g new (count + 1) (world_after r command w)
   done_members {E} r command sums old new at it w count are due = record {
@@ -190,7 +202,8 @@ module _ {S : Type 0} (g : Ghosts S) (shuts : Shuts g) where
       now : Member S
       now = record it.was { conn = it.last; sums = sums; ticket = r.seq }
 
-      others : (m : Member S) (q : Package) → bytes_eq q.uuid id ≡ false → IsMember g w m q → IsMember g next m q
+      others : (m : Member S) (q : Package) → bytes_eq q.uuid id ≡ false → IsMember g w m q
+          → IsMember g next m q
       others m q other is = record {
         uuid = is.uuid;
         parent = is.parent;
@@ -231,8 +244,7 @@ module _ {S : Type 0} (g : Ghosts S) (shuts : Shuts g) where
         rests = it.turns.rests;
         done = λ clean. tt;
         undone = it.turns.undone;
-        left =
-            it.turns.left;
+        left = it.turns.left;
         survives = it.turns.survives;
       };
       was_open = it.was_open;
@@ -254,7 +266,8 @@ module _ {S : Type 0} (g : Ghosts S) (shuts : Shuts g) (settles : Settles g) whe
 
   -- where all disks are clean after a turn, they were so before
   pub clean_turn : {E : Type 0} (r : Receipt) (command : Command) (sums : Sums) (old new : List (Member S)) (at : ℕ)
-      (reply : Result (Unit {0}) E) → CarriesOutAt g r command sums old new at reply → AllClean g new → AllClean g old
+      (reply : Result (Unit {0}) E) → CarriesOutAt g r command sums old new at reply → AllClean g new
+      → AllClean g old
   clean_turn {E} r command sums old new at reply it clean =
       let Clean : Member S → Type 0 = λ m. HasCleanDisk (state g m.conn) in
       let now : Member S = turned g r sums it.was it.last reply in
@@ -305,20 +318,23 @@ module _ {S : Type 0} (g : Ghosts S) (shuts : Shuts g) (settles : Settles g) whe
       (stay_leaves old new rests stay clean w count are open') may)
 
   -- and so of members of which one took a turn that a crash does not show
-  pub unharmed_at : (old : List (Member S)) (at : ℕ) (was : Member S) (last : Held S) → slice_get old at ≡ Some was
+  pub unharmed_at : (old : List (Member S)) (at : ℕ) (was : Member S) (last : Held S)
+      → slice_get old at ≡ Some was
       → AllRest g old → Survives (state g was.conn) (state g last) (λ _. ⊥)
       → LeavesAsBefore g old (slice_set old at (record was { conn = last }))
   unharmed_at old at was last place rests survives clean w count are open' =
       let now : Member S = record was { conn = last } in
       let disk : HasCleanDisk (state g last) = at_set (λ (m : Member S). HasCleanDisk (state g m.conn)) old at now
       (slice_get_within old at was place) clean in
-      zip_set (λ m p. (trees : Trees) → (state g m.conn).may_leave trees → LeftAs w.frame trees p) old w.packages at
+      zip_set (λ m p. (trees : Trees) → (state g m.conn).may_leave trees → LeftAs w.frame trees p) old w.packages
+      at
       was now (λ p left trees may. elim (survives.crash disk trees may)
       [ inl before ↦ left trees before | inr none ↦ absurd none ]) place (each_leaves old count w rests open' are)
 
   -- a turn that was committed leaves its store open
   pub turned_open : {E : Type 0} (r : Receipt) (command : Command) (sums : Sums) (old new : List (Member S)) (at : ℕ)
-      → CarriesOutAt g {E = E} r command sums old new at (Ok tt) → AllClean g new → AllOpen g old → AllOpen g new
+      → CarriesOutAt g {E = E} r command sums old new at (Ok tt) → AllClean g new → AllOpen g old
+      → AllOpen g new
   turned_open r command sums old new at it clean was =
       let Open : Member S → Type 0 = λ m. IsTrue (state g m.conn).is_open in
       let now : Member S = record it.was { conn = it.last; sums = sums; ticket = r.seq } in

@@ -1,5 +1,6 @@
 -- What a package holds after a command, by what its receipt moved.
-use Rattle.std.specs.Prelude.{◌≡◌, ◌≤◌, ℕ, ◌+◌, ◌-◌, ◌*◌, nat_le, pos, true, cond, not, List, [], ◌∷◌, find, length}
+use Rattle.std.specs.Prelude.{◌≡◌, ◌≤◌, ℕ, ◌+◌, ◌-◌, ◌*◌, nat_le, pos, true, cond, not}
+use Rattle.std.specs.Prelude.{List, [], ◌∷◌, find, length}
 use Rattle.std.specs.Prelude.{refl, bytes_eq, Some, count_by, sum_by}
 use Rattle.std.proofs.Common.{sym, ap, subst, ◌∙◌, arith}
 use Rattle.std.proofs.lemmas.Bool.{and_parts, leb-true}
@@ -54,8 +55,7 @@ abbrev sums_of_item : Item → Sums
 sums_of_item i = record {
   tiles = cond (is_tile i) 1 0;
   media = cond (is_medium i) 1 0;
-  rows =
-      cond (is_row i) 1 0;
+  rows = cond (is_row i) 1 0;
   links = 0;
   bytes = size i.content;
 }
@@ -68,8 +68,7 @@ abbrev sums_of_things : List Moved → Sums
 sums_of_things things = record {
   tiles = count_of TileItem things;
   media = count_of MediaItem things;
-  rows =
-      count_of RowItem things;
+  rows = count_of RowItem things;
   links = links_of things;
   bytes = sum_by (λ m. m.size) things;
 }
@@ -145,7 +144,8 @@ item_less id i p one is =
         media = there (count_by is_medium rest) (cond (is_medium i) 1 0) (count_by is_medium p.items) media;
         rows = there (count_by is_row rest) (cond (is_row i) 1 0) (count_by is_row p.items) rows;
         links = there (length p.links) 0 (length p.links) (omega arith);
-        bytes = there (sum_by (λ x. size x.content) rest) (size i.content) (sum_by (λ x. size x.content) p.items) bytes;
+        bytes = there (sum_by (λ x. size x.content) rest) (size i.content) (sum_by (λ x. size x.content) p.items)
+            bytes;
       },
       same_sums (count_by is_tile rest) (count_by is_medium rest) (count_by is_row rest) (length p.links)
           (sum_by (λ x. size x.content) rest)
@@ -171,8 +171,7 @@ link_less l m p one is =
         tiles = omega arith;
         media = omega arith;
         rows = omega arith;
-        links =
-            there (length rest) 1 (length p.links) links;
+        links = there (length rest) 1 (length p.links) links;
         bytes = omega arith;
       },
       same_sums (count_by is_tile p.items) (count_by is_medium p.items) (count_by is_row p.items) (length rest)

@@ -1,5 +1,6 @@
 -- What each package of a register tells of the whole.
-use Rattle.std.specs.Prelude.{◌≡◌, ℕ, ◌+◌, ◌≤◌, ◌<◌, ◌&&◌, Bool, List, true, [], ◌∷◌, length, slice_index, find}
+use Rattle.std.specs.Prelude.{◌≡◌, ℕ, ◌+◌, ◌≤◌, ◌<◌, ◌&&◌, Bool, List, true, [], ◌∷◌}
+use Rattle.std.specs.Prelude.{length, slice_index, find}
 use Rattle.std.specs.Prelude.{flat_map, bytes_eq, Some, Contains}
 use Rattle.std.proofs.Common.{refl, ap, ◌∙◌, arith, inl, inr}
 use Rattle.std.proofs.lemmas.Slice.Eq.{bytes_eq-Decides}
@@ -63,7 +64,8 @@ kept_is_there w id p r register here kept =
     (one_receipt (archive_of w) id [] (receipts_of w) register.balanced.ledger) is.0 among is.1 passes)
 
 -- the number of a receipt that some package has is not past the count
-number_within : (w : World) (n : ℕ) → IsRegister w → list_any (λ p. has receipt_key (n ∷ []) p.receipts) w.packages
+number_within : (w : World) (n : ℕ) → IsRegister w → list_any (λ p. has receipt_key (n ∷ []) p.receipts)
+    w.packages
     ≡ true → n ≤ length (receipts_of w)
 number_within w n register there =
     let numbered : Receipt → Bool = λ r. bytes_eq (receipt_key r) (n ∷ []) in
@@ -72,7 +74,8 @@ number_within w n register there =
     let Within : Receipt → Type 0 = λ r. r.seq < length (receipts_of w) + 1 in
     let is : Within s.0 × (numbered s.0 ≡ true) = All-found Within numbered s.0 (receipts_of w) s.1
     (numbers_below w (length (receipts_of w) + 1) register.balanced.ledger refl) in
-    let number : s.0.seq ≡ n = ap (λ zs. slice_index zs 0) ((bytes_eq-Decides (receipt_key s.0) (n ∷ [])).0 is.1) in
+    let number : s.0.seq ≡ n = ap (λ zs. slice_index zs 0) ((bytes_eq-Decides (receipt_key s.0) (n ∷ [])).0
+    is.1) in
     omega (arith, is.0, number)
 
 pub number_is_count : NumberIsCount

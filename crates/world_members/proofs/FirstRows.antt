@@ -1,5 +1,6 @@
 -- The first reason that holds, by what was looked up.
-use Rattle.std.proofs.Common.{◌≡◌, ℕ, ℤ, List, [], ◌∷◌, Bool, true, false, Option, Some, refl, sym, ap, ◌∙◌}
+use Rattle.std.proofs.Common.{◌≡◌, ℕ, ℤ, List, [], ◌∷◌, Bool, true, false, Option, Some, refl, sym}
+use Rattle.std.proofs.Common.{ap, ◌∙◌}
 use Rattle.std.specs.Prelude.{drop, not, ◌&&◌, if◌then◌else◌}
 use Rattle.std.specs.Bool.{then_some}
 use Rattle.std.specs.List.{list_any}
@@ -21,7 +22,8 @@ use Rattle.world_members.specs.Reasons.{tile_reasons, delete_reasons, link_reaso
 
 -- ---- rows
 
-pub holds : {X : Type 0} (b : Bool) (x : X) (rows : List (Bool × X)) → b ≡ true → Some x ≡ first_row ((b, x) ∷ rows)
+pub holds : {X : Type 0} (b : Bool) (x : X) (rows : List (Bool × X)) → b ≡ true
+    → Some x ≡ first_row ((b, x) ∷ rows)
 holds true x rows h = refl
 holds false x rows h = cc
 
@@ -61,7 +63,8 @@ pub a_place : (f g : Frame) (p : Package) (zoom column row : ℤ) (has_one taken
     → has_one ≡ has_place g zoom column row → has_one ≡ true → IsTaken zoom column row f p taken → f ≡ g
     → then_some taken PlaceTaken ≡ first_row (tile_reasons f p zoom column row)
 a_place f g p zoom column row has_one taken is good told same =
-    ap (λ b. then_some b PlaceTaken) told ∙ last (list_any (λ i. is_at zoom column row i.content) p.items) PlaceTaken
+    ap (λ b. then_some b PlaceTaken) told ∙ last (list_any (λ i. is_at zoom column row i.content) p.items)
+    PlaceTaken
     ∙ sym (passes (not (has_place f zoom column row)) BadPlace (drop 1 (tile_reasons f p zoom column row))
     (ap (λ x. not (has_place x zoom column row)) same ∙ ap not (sym is ∙ good)))
 

@@ -1,5 +1,6 @@
 -- What nothing speaks against fits the package that it names.
-use Rattle.std.specs.Prelude.{◌≡◌, ℕ, ◌+◌, ◌<◌, Bool, true, false, not, ◌&&◌, List, [], ◌∷◌, ◌++◌, Option, length}
+use Rattle.std.specs.Prelude.{◌≡◌, ℕ, ◌+◌, ◌<◌, Bool, true, false, not, ◌&&◌, List, [], ◌∷◌}
+use Rattle.std.specs.Prelude.{◌++◌, Option, length}
 use Rattle.std.specs.Prelude.{refl, bytes_eq, Some, None}
 use Rattle.std.proofs.Common.{sym, ap, ◌∙◌}
 use Rattle.std.proofs.lemmas.Bool.{false≢true, and_parts, and_from, or_parts, false_from_ne_true, lt-ltb}
@@ -83,7 +84,8 @@ fit_ends (Split p child mode rect) one types = absurd one
 fit_ends (Merge child into ticket) one types = absurd one
 
 -- the UUIDs of a link are such
-link_ends : (p base other : List ℕ) → (is_uuid p && is_uuid base && is_uuid other) ≡ true → (is_uuid base ≡ true)
+link_ends : (p base other : List ℕ) → (is_uuid p && is_uuid base && is_uuid other) ≡ true
+    → (is_uuid base ≡ true)
     × (is_uuid other ≡ true)
 link_ends p base other types =
     let parts : ((is_uuid p && is_uuid base) ≡ true) × (is_uuid other ≡ true) =
@@ -153,8 +155,7 @@ meets_command : (w : World) (command : Command) → IsRegister w → ChangesOneP
 meets_command w (Add p identity content) register one types unused none =
     record {
       uuid = (and_parts (is_uuid p) (is_uuid identity) types).1;
-      new =
-          not_held w p identity content register unused;
+      new = not_held w p identity content register unused;
     }
 meets_command w (Delete p identity) register one types unused none =
     let fails : AllByRecursion (λ (row : Bool × Refusal). row.0 ≡ false) (delete_reasons (holdings w p) identity) =
@@ -210,7 +211,8 @@ fits_where_accepted w q register uuid types one open' =
 -- ---- a request that is not refused
 
 -- where each test of a table fails, no row passes
-rows_none : {X : Type 0} (rows : List (Bool × X)) → AllByRecursion (λ row. row.0 ≡ false) rows → first_row rows ≡ None
+rows_none : {X : Type 0} (rows : List (Bool × X)) → AllByRecursion (λ row. row.0 ≡ false) rows
+    → first_row rows ≡ None
 rows_none [] h = refl
 rows_none (row ∷ rows) h = rw h.0 (rows_none rows h.1)
 
@@ -263,7 +265,8 @@ refused_in_turn w next q one new live =
     ∙ first_of_both (text_reasons q) (identity_row ++ package_rows)
     ∙ ap (option_or texts) (first_of_both identity_row package_rows
     ∙ ap (λ o. option_or o (first_row package_rows)) (sym (last (identity_used w q.command) IdentityUsed)))
-    ∙ ap (λ o. option_or texts (option_or identity o)) (first_of_both (package_reasons w.frame x q.command) last_rows)
+    ∙ ap (λ o. option_or texts (option_or identity o)) (first_of_both (package_reasons w.frame x q.command)
+    last_rows)
     ∙ ap (λ o. option_or texts (option_or identity (option_or (first_row (package_reasons w.frame x q.command)) o)))
     (sym (last (too_many next) TooMany))
 

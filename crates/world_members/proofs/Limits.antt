@@ -1,5 +1,6 @@
 -- Whether a request would leave too many, by sums and numbers that are kept; and what it makes of the tickets.
-use Rattle.std.specs.Prelude.{◌≡◌, ◌<◌, ℕ, ◌+◌, true, false, cond, ◌||◌, nat_lt, List, [], ◌∷◌, ◌++◌, map, find, fold}
+use Rattle.std.specs.Prelude.{◌≡◌, ◌<◌, ℕ, ◌+◌, true, false, cond, ◌||◌, nat_lt, List, []}
+use Rattle.std.specs.Prelude.{◌∷◌, ◌++◌, map, find, fold}
 use Rattle.std.specs.Prelude.{max, length, refl, bytes_eq, Some, unwrap_or}
 use Rattle.std.proofs.Common.{sym, ap, subst, ◌∙◌, arith, length-append}
 use Rattle.std.proofs.lemmas.List.{length-map}
@@ -32,7 +33,8 @@ use Rattle.sheet_laws.proofs.Shifting.{numbers_below}
 
 -- the receipt of a command that changes one package is the last
 pub receipts_next : (w : World) (q : Request) → IsRegister w → ChangesOnePackage q.command
-    → is_live w (package_of q.command) ≡ true → receipts_of (accepted w q) ≡ receipts_of w ++ receipt_of w q ∷ []
+    → is_live w (package_of q.command) ≡ true → receipts_of (accepted w q) ≡ receipts_of w ++ receipt_of w q
+    ∷ []
 receipts_next w q register one live =
     let r : Receipt = receipt_of w q in
     ap receipts_of (carried_out_in_one w (receipt_of w q) q.command one)
@@ -73,7 +75,8 @@ module _ (w : World) (q : Request) (register : IsRegister w) (live : is_live w (
 
   -- the package that is found under this UUID
   at_package : (x : Package) → find (at_uuid x.uuid) w.packages ≡ Some x
-      → sums_held (cond (bytes_eq x.uuid p) (after x) x) ≡ cond (bytes_eq x.uuid p) (sums (sums_held x)) (sums_held x)
+      → sums_held (cond (bytes_eq x.uuid p) (after x) x) ≡ cond (bytes_eq x.uuid p) (sums (sums_held x))
+      (sums_held x)
   at_package x is =
       elim (bytes_eq x.uuid p) as (λ v. bytes_eq x.uuid p ≡ v
       → sums_held (cond v (after x) x) ≡ cond v (sums (sums_held x)) (sums_held x)) [

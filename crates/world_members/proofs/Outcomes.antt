@@ -26,7 +26,8 @@ kept_outcome w q r is same = ap (λ k. outcome_by w q k (refuses w q))
 
 pub reused_outcome : ReusedOutcome
 reused_outcome w q r is other =
-    let reused : id_reused w q ≡ true = ap (λ k. option_map_or (λ s. not (bytes_eq s.line (line q.command))) k false)
+    let reused : id_reused w q ≡ true = ap (λ k. option_map_or (λ s. not (bytes_eq s.line (line q.command))) k
+    false)
     is ∙ ap not other in
     ap (λ k. outcome_by w q k (refuses w q)) (reply_of w q (Some r) is ∙ ap (λ b. then_some b r) other)
     ∙ ap (outcome_by w q None) (sym (holds (id_reused w q) IdReused (drop 1 (reasons w (accepted w q) q)) reused))

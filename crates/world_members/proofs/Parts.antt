@@ -21,7 +21,8 @@ live_row a false rows h = cc
 
 -- and that of one that is not is the last
 dead_row : (a : Bool × Refusal) (live : Bool) (rows : List (Bool × Refusal)) → live ≡ false
-    → first_row (a ∷ (not (live && true), UnknownPackage) ∷ rows) ≡ first_row (a ∷ (true, UnknownPackage) ∷ [])
+    → first_row (a ∷ (not (live && true), UnknownPackage) ∷ rows)
+    ≡ first_row (a ∷ (true, UnknownPackage) ∷ [])
 dead_row a true rows h = cc
 dead_row a false rows h = refl
 
@@ -56,7 +57,8 @@ module _ (w next : World) (id at : List ℕ) where
   live_parts (Merge child into ticket) one live = absurd one
 
   dead_parts : (command : Command) → ChangesOnePackage command → is_live w (package_of command) ≡ false
-      → refusal w next (asking command) ≡ first_row ((id_reused w (asking command), IdReused) ∷ (true, UnknownPackage)
+      → refusal w next (asking command) ≡ first_row ((id_reused w (asking command), IdReused)
+      ∷ (true, UnknownPackage)
       ∷ [])
   dead_parts (Add uuid identity content) one dead = dead_row
       (id_reused w (asking (Add uuid identity content)), IdReused) (is_live w uuid)

@@ -1,5 +1,6 @@
 -- Members that were only read stand for the world that they stood for, and a look at one of them reads one.
-use Rattle.std.proofs.Common.{◌≡◌, refl, sym, ap, subst, ◌∙◌, ℕ, zero, suc, List, [], ◌∷◌, map, length, slice_get}
+use Rattle.std.proofs.Common.{◌≡◌, refl, sym, ap, subst, ◌∙◌, ℕ, zero, suc, List, [], ◌∷◌, map}
+use Rattle.std.proofs.Common.{length, slice_get}
 use Rattle.std.proofs.Common.{Some, Result, Ok, arith}
 use Rattle.std.specs.Prelude.{slice_set, IsTrue}
 use Rattle.std.specs.List.{AllZip, AllByRecursion}
@@ -25,7 +26,8 @@ use Rattle.world_members.proofs.Seeing.{stays_still}
 
 -- one relation after another
 zip_then : {X Y Z : Type 0} (P : X → Y → Type 0) (Q : Y → Z → Type 0) (R : X → Z → Type 0)
-    → ((x : X) (y : Y) (z : Z) → P x y → Q y z → R x z) → (xs : List X) (ys : List Y) (zs : List Z) → AllZip P xs ys
+    → ((x : X) (y : Y) (z : Z) → P x y → Q y z → R x z) → (xs : List X) (ys : List Y) (zs : List Z)
+    → AllZip P xs ys
     → AllZip Q ys zs → AllZip R xs zs
 zip_then P Q R f [] [] [] one two = tt
 zip_then P Q R f [] [] (z ∷ zs) one two = absurd two
@@ -44,13 +46,16 @@ zip_turned R (x ∷ xs) (y ∷ ys) zip = (zip.0, zip_turned R xs ys zip.1)
 
 -- two relations of one list, place by place
 pub zip_both : {X Y Z : Type 0} (P : X → Y → Type 0) (Q : X → Z → Type 0) (R : Y → Z → Type 0)
-    → ((x : X) (y : Y) (z : Z) → P x y → Q x z → R y z) → (xs : List X) (ys : List Y) (zs : List Z) → AllZip P xs ys
+    → ((x : X) (y : Y) (z : Z) → P x y → Q x z → R y z) → (xs : List X) (ys : List Y) (zs : List Z)
+    → AllZip P xs ys
     → AllZip Q xs zs → AllZip R ys zs
-zip_both P Q R f xs ys zs one two = zip_then (λ y x. P x y) Q R (λ y x z. f x y z) ys xs zs (zip_turned P xs ys one) two
+zip_both P Q R f xs ys zs one two = zip_then (λ y x. P x y) Q R (λ y x z. f x y z) ys xs zs (zip_turned P xs ys one)
+    two
 
 -- what each of the one list has by its place in the other
 zip_each : {X Y : Type 0} (R : X → Y → Type 0) (P : Y → Type 0) (Q : X → Type 0)
-    → ((x : X) (y : Y) → R x y → P y → Q x) → (xs : List X) (ys : List Y) → AllZip R xs ys → AllByRecursion P ys
+    → ((x : X) (y : Y) → R x y → P y → Q x) → (xs : List X) (ys : List Y) → AllZip R xs ys
+    → AllByRecursion P ys
     → AllByRecursion Q xs
 zip_each R P Q f [] [] one each = tt
 zip_each R P Q f [] (y ∷ ys) one each = absurd one
@@ -66,7 +71,8 @@ zip_at R (z ∷ zs) (y ∷ ys) zero x zip place = let same : z ≡ x = cc in (y,
 zip_at R (z ∷ zs) (y ∷ ys) (suc at) x zip place = zip_at R zs ys at x zip.1 place
 
 -- what is the same of both at each place makes the same list
-pub zip_map : {X Y Z : Type 0} (R : X → Y → Type 0) (f : X → Z) (g : Y → Z) → ((x : X) (y : Y) → R x y → f x ≡ g y)
+pub zip_map : {X Y Z : Type 0} (R : X → Y → Type 0) (f : X → Z) (g : Y → Z)
+    → ((x : X) (y : Y) → R x y → f x ≡ g y)
     → (xs : List X) (ys : List Y) → AllZip R xs ys → map f xs ≡ map g ys
 zip_map R f g same [] [] zip = refl
 zip_map R f g same [] (y ∷ ys) zip = absurd zip
@@ -120,7 +126,8 @@ module _ {S : Type 0} (g : Ghosts S) where
   pub stay_length : (old new : List (Member S)) → AllStay g old new → length old ≡ length new
   stay_length old new it = sym (AllZip-long (StaysMember g) old new it)
 
-  module _ (old new : List (Member S)) (at : ℕ) {Turn : State → State → Type 0} (turn : TurnsAt g old new at Turn) where
+  module _ (old new : List (Member S)) (at : ℕ) {Turn : State → State → Type 0}
+      (turn : TurnsAt g old new at Turn) where
     -- a turn that ends at rest leaves all at rest
     pub turn_rests : Rests (state g turn.last) → AllRest g old → AllRest g new
     turn_rests last rests = rw turn.others (All-set (λ (m : Member S). Rests (state g m.conn)) old at
@@ -141,9 +148,11 @@ module _ {S : Type 0} (g : Ghosts S) where
 
   -- what one look tells of the package that stands at its place
   pub told_at : {X E : Type 0} (Answer : Frame → Package → X → Type 0) (old new : List (Member S)) (at : ℕ)
-      (r : Result X E) (x : X) → TurnsAt g old new at (λ a b. Looks {X = X} {E = E} (Sees Answer) a b r) → r ≡ Ok x
+      (r : Result X E) (x : X) → TurnsAt g old new at (λ a b. Looks {X = X} {E = E} (Sees Answer) a b r)
+      → r ≡ Ok x
       → AllClean g new
-      → (count : ℕ) (w : World) → AreMembers g old count w → (p : Package) × (slice_get w.packages at ≡ Some p)
+      → (count : ℕ) (w : World) → AreMembers g old count w → (p : Package)
+      × (slice_get w.packages at ≡ Some p)
       × Answer w.frame p x
   told_at {X} {E} Answer old new at r x turn is clean count w are =
       let looks : Looks {X = X} {E = E} (Sees Answer) (state g turn.was.conn) (state g turn.last) (Ok x) =
@@ -157,7 +166,8 @@ module _ {S : Type 0} (g : Ghosts S) where
     member_still : (m : Member S) → Rests (state g m.conn) → StaysMember g m m
     member_still m rests = record { same = refl; stays = stays_still g shuts settles m.conn rests }
 
-    each_still : (ms : List (Member S)) → AllByRecursion (λ (m : Member S). Rests (state g m.conn)) ms → AllStay g ms ms
+    each_still : (ms : List (Member S)) → AllByRecursion (λ (m : Member S). Rests (state g m.conn)) ms
+        → AllStay g ms ms
     each_still [] rests = tt
     each_still (m ∷ ms) rests = (member_still m rests.0, each_still ms rests.1)
 

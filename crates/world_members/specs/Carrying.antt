@@ -43,4 +43,5 @@ after_command r command p = with_receipt r (changed_by command p)
 
 -- and of a store that read as the package, the receipt's moment is that of the last change
 abbrev pub SaysMoment : Receipt → Command → Database → Database → Type 0
-SaysMoment r command old new = (f : Frame) (p : Package) → Reads f p old → Fits r command p → HasLastChange f r.at new
+SaysMoment r command old new = (f : Frame) (p : Package) → Reads f p old → Fits r command p
+    → HasLastChange f r.at new

@@ -1,6 +1,7 @@
 -- What a request makes of a world, by what is kept of it: the outcome, what each package holds, the limits and the
 -- tickets. Profile.
-use Rattle.std.specs.Prelude.{◌≡◌, ◌≤◌, ℕ, ◌+◌, ◌-◌, ◌*◌, Bool, true, false, ◌||◌, nat_lt, ⊤, List, map, length}
+use Rattle.std.specs.Prelude.{◌≡◌, ◌≤◌, ℕ, ◌+◌, ◌-◌, ◌*◌, Bool, true, false, ◌||◌}
+use Rattle.std.specs.Prelude.{nat_lt, ⊤, List, map, length}
 use Rattle.std.specs.Prelude.{if◌then◌else◌, Some, None, Ok, Err, bytes_eq}
 use Rattle.std.specs.Bool.{then_some}
 use Rattle.std.specs.List.{list_any}
@@ -89,8 +90,7 @@ abbrev pub sums_more : Sums → Sums → Sums
 sums_more some held = record {
   tiles = held.tiles + some.tiles;
   media = held.media + some.media;
-  rows =
-      held.rows + some.rows;
+  rows = held.rows + some.rows;
   links = held.links + some.links;
   bytes = held.bytes + some.bytes;
 }
@@ -99,8 +99,7 @@ abbrev pub sums_less : Sums → Sums → Sums
 sums_less some held = record {
   tiles = held.tiles - some.tiles;
   media = held.media - some.media;
-  rows =
-      held.rows - some.rows;
+  rows = held.rows - some.rows;
   links = held.links - some.links;
   bytes = held.bytes - some.bytes;
 }
@@ -174,13 +173,15 @@ TooManyBySums = (w : World) (q : Request) → IsRegister w → is_live w (packag
 abbrev pub TicketAfter : Type 0
 TicketAfter = (w : World) (q : Request) (id : List ℕ) → IsRegister w → ChangesOnePackage q.command
     → is_live w (package_of q.command) ≡ true →
-    ticket (accepted w q) id ≡ (if bytes_eq id (package_of q.command) then length (receipts_of w) + 1 else ticket w id)
+    ticket (accepted w q) id ≡ (if bytes_eq id (package_of q.command) then length (receipts_of w) + 1 else ticket w
+    id)
 
 -- ---- the outcome
 
 -- A request that comes again gets the receipt that is kept, and nothing is changed.
 abbrev pub KeptOutcome : Type 0
-KeptOutcome = (w : World) (q : Request) (r : Receipt) → kept w q.id ≡ Some r → bytes_eq r.line (line q.command) ≡ true
+KeptOutcome = (w : World) (q : Request) (r : Receipt) → kept w q.id ≡ Some r
+    → bytes_eq r.line (line q.command) ≡ true
     → outcome w q ≡ (Ok r, w)
 
 -- One whose identity is kept for another line is told so.

@@ -1,5 +1,6 @@
 -- The change of one member of a world, and what all members stand for after it. Profile.
-use Rattle.std.specs.Prelude.{◌≡◌, ℕ, ◌+◌, List, Some, slice_get, slice_set, length, if◌then◌else◌, bytes_eq, None}
+use Rattle.std.specs.Prelude.{◌≡◌, ℕ, ◌+◌, List, Some, slice_get, slice_set, length, if◌then◌else◌}
+use Rattle.std.specs.Prelude.{bytes_eq, None}
 use Rattle.std.specs.Prelude.{Result, Ok, Err, IsTrue}
 use Rattle.sqlite.specs.Effect.{Database}
 use Rattle.sqlite.specs.Held.{Held, state}

@@ -1,6 +1,7 @@
 //! Lists whose room is there before it is needed.
 ghost use Rattle.std.specs.List.{insert};
-ghost use Rattle.std.specs.Prelude.{◌≡◌, ◌<◌, ◌≤◌, ◌+◌, [], ◌∷◌, ◌++◌, IfOk, vec_len, vec_capacity};
+ghost use Rattle.std.specs.Prelude.{◌≡◌, ◌<◌, ◌≤◌, ◌+◌, [], ◌∷◌, ◌++◌, IfOk, vec_len};
+ghost use Rattle.std.specs.Prelude.{vec_capacity};
 
 use package_tables::fault::Fault;
 use std::alloc::Global;

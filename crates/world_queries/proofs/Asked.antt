@@ -1,5 +1,6 @@
 -- Members that are looked at one after the other, and what the first of them have told.
-use Rattle.std.proofs.Common.{◌≡◌, sym, subst, ℕ, zero, suc, ◌+◌, ◌≤◌, List, [], ◌∷◌, take, length, slice_get, Some}
+use Rattle.std.proofs.Common.{◌≡◌, sym, subst, ℕ, zero, suc, ◌+◌, ◌≤◌, List, [], ◌∷◌, take}
+use Rattle.std.proofs.Common.{length, slice_get, Some}
 use Rattle.std.proofs.Common.{Result, Ok, Err, IsErr, arith}
 use Rattle.std.specs.List.{AllByRecursion}
 use Rattle.std.proofs.lemmas.List.{take_all}
@@ -40,8 +41,10 @@ module _ {S : Type 0} (g : Ghosts S) where
         → AllByRecursion Fact (take n w.packages)
 
   -- all have told it
-  pub asked_all : {X E : Type 0} (Fact : Package → Type 0) (Answer : World → X → Type 0) (old now : List (Member S))
-      (n : ℕ) (x : X) → length old ≤ n → ((w : World) → IsRegister w → AllByRecursion Fact w.packages → Answer w x)
+  pub asked_all : {X E : Type 0} (Fact : Package → Type 0) (Answer : World → X → Type 0)
+      (old now : List (Member S))
+      (n : ℕ) (x : X) → length old ≤ n → ((w : World) → IsRegister w → AllByRecursion Fact w.packages
+      → Answer w x)
       → Asked Fact old now n
       → AsksAll g {X = X} {E = E} Answer old now (Ok x)
   asked_all Fact Answer old now n x past so it = record {
@@ -60,8 +63,7 @@ module _ {S : Type 0} (g : Ghosts S) where
     asked_none Fact old rests = record {
       rests = rests;
       stay = all_still g shuts settles old rests;
-      stays_open =
-          λ clean was. was;
+      stays_open = λ clean was. was;
       told = λ clean count w are. tt;
     }
 
@@ -125,7 +127,6 @@ module _ {S : Type 0} (g : Ghosts S) where
       asked_fails Answer (Err e) failed = record {
         rests = next_rests;
         stay = next_stay;
-        stays_open =
-            λ clean. tt;
+        stays_open = λ clean. tt;
         told = λ clean. tt;
       }

@@ -31,13 +31,10 @@ module _ {S : Type 0} (g : Ghosts S) (shuts : Shuts g) (settles : Settles g) whe
         so x w one.0 one.1 one.2;
   }
   looked_at Look old new at (Err e) turn rests so = record {
-    rests =
-        turn_rests g old new at turn turn.turned.rests rests;
-    stay =
-        turn_stays g shuts settles old new at turn (looks_stays turn.turned) rests;
+    rests = turn_rests g old new at turn turn.turned.rests rests;
+    stay = turn_stays g shuts settles old new at turn (looks_stays turn.turned) rests;
     stays_open = λ clean. tt;
-    told =
-        λ clean. tt;
+    told = λ clean. tt;
   }
 
   -- and a judgement of it, which a shut store may give too
@@ -57,11 +54,8 @@ module _ {S : Type 0} (g : Ghosts S) (shuts : Shuts g) (settles : Settles g) whe
         so x w here.0 here.1 (turn.turned.told (turn_clean g old new at turn clean) w.frame here.0 here.2.reads);
   }
   judged_at Look old new at (Err e) turn rests so = record {
-    rests =
-        turn_rests g old new at turn turn.turned.stays.rests rests;
-    stay =
-        turn_stays g shuts settles old new at turn turn.turned.stays rests;
+    rests = turn_rests g old new at turn turn.turned.stays.rests rests;
+    stay = turn_stays g shuts settles old new at turn turn.turned.stays rests;
     stays_open = λ clean. tt;
-    told =
-        λ clean. tt;
+    told = λ clean. tt;
   }

@@ -1,6 +1,8 @@
 -- What the sums of the members tell of the world that a request would leave.
-use Rattle.std.proofs.Common.{◌≡◌, ◌<◌, ◌≤◌, refl, sym, ap, subst, ◌∙◌, ℕ, zero, suc, ◌+◌, ◌*◌, List, [], ◌∷◌, Bool}
-use Rattle.std.proofs.Common.{true, false, cond, ◌||◌, map, length, slice_get, slice_set, Some, None, bytes_eq, arith}
+use Rattle.std.proofs.Common.{◌≡◌, ◌<◌, ◌≤◌, refl, sym, ap, subst, ◌∙◌, ℕ, zero, suc, ◌+◌}
+use Rattle.std.proofs.Common.{◌*◌, List, [], ◌∷◌, Bool}
+use Rattle.std.proofs.Common.{true, false, cond, ◌||◌, map, length, slice_get, slice_set, Some, None, bytes_eq}
+use Rattle.std.proofs.Common.{arith}
 use Rattle.std.specs.Prelude.{find, not, nat_lt, nat_le, unwrap_or}
 use Rattle.std.specs.List.{list_any}
 use Rattle.std.proofs.lemmas.Bool.{or_parts, lt-ltb, le-ltb, ltb-false, leb-true, leb-false}
@@ -41,7 +43,8 @@ use Rattle.world_members.proofs.Standing.{zip_at, zip_map}
 -- ---- one place of a list
 
 -- what is put at a place stands there
-pub get_set_same : {X : Type 0} (xs : List X) (i : ℕ) (x : X) → i < length xs → slice_get (slice_set xs i x) i ≡ Some x
+pub get_set_same : {X : Type 0} (xs : List X) (i : ℕ) (x : X) → i < length xs
+    → slice_get (slice_set xs i x) i ≡ Some x
 get_set_same [] i x within = absurd (omega (arith, within))
 get_set_same (y ∷ xs) zero x within = refl
 get_set_same (y ∷ xs) (suc i) x within = get_set_same xs i x (omega (arith, within))
@@ -105,8 +108,7 @@ more_is_counted some held small bytes within =
       tiles = omega (arith, tiles);
       media = omega (arith, media);
       rows = omega (arith, rows);
-      links =
-          omega (arith, links);
+      links = omega (arith, links);
       bytes = omega (arith, small, bytes, tiles, media, rows);
     }
 
@@ -186,7 +188,8 @@ module _ {S : Type 0} (g : Ghosts S) where
       → IsMember g w was (holdings w uuid)
   stands_for members count at w uuid was are stands place =
       let here = zip_at (IsMember g w) members w.packages at was are.each place in
-      let same : here.0 ≡ holdings w uuid = ap (λ o. unwrap_or o no_package) (sym here.1 ∙ stands.holds w count are) in
+      let same : here.0 ≡ holdings w uuid = ap (λ o. unwrap_or o no_package)
+      (sym here.1 ∙ stands.holds w count are) in
       subst (IsMember g w was) same here.2
 
   pub member_holds : MemberHolds g

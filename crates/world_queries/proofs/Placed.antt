@@ -1,5 +1,6 @@
 -- Where the member of a package stands, there stands the package.
-use Rattle.std.proofs.Common.{◌≡◌, sym, ap, subst, ◌∙◌, ℕ, List, Bool, false, take, slice_get, Some, bytes_eq, ◌+◌}
+use Rattle.std.proofs.Common.{◌≡◌, sym, ap, subst, ◌∙◌, ℕ, List, Bool, false, take, slice_get, Some}
+use Rattle.std.proofs.Common.{bytes_eq, ◌+◌}
 use Rattle.std.specs.Prelude.{find, unwrap_or}
 use Rattle.std.specs.List.{AllZip, list_any}
 use Rattle.std.proofs.lemmas.Map.Keys.{any_passes_from_place}

@@ -17,15 +17,21 @@ module _ {S : Type 0} (g : Ghosts S) where
     rests = it.rests;
     stay = it.stay;
     stays_open = it.stays_open;
-    told =
-        λ clean w count are. so x w count are (it.told clean w count are);
+    told = λ clean w count are. so x w count are (it.told clean w count are);
   }
-  asks_weaker (Err e) so it = record { rests = it.rests; stay = it.stay; stays_open = λ clean. tt; told = λ clean. tt }
+  asks_weaker (Err e) so it = record {
+    rests = it.rests;
+    stay = it.stay;
+    stays_open = λ clean. tt;
+    told = λ clean. tt;
+  }
 
   -- and in another form
-  pub asks_answer : {X Y E E' : Type 0} {A : World → X → Type 0} {B : World → Y → Type 0} {old new : List (Member S)}
+  pub asks_answer : {X Y E E' : Type 0} {A : World → X → Type 0} {B : World → Y → Type 0}
+      {old new : List (Member S)}
       {r : Result X E} {x : X} {y : Y} → r ≡ Ok x
-      → ((w : World) (count : ℕ) → AreMembers g old count w → A w x → B w y) → AsksAll g {X = X} {E = E} A old new r
+      → ((w : World) (count : ℕ) → AreMembers g old count w → A w x → B w y)
+      → AsksAll g {X = X} {E = E} A old new r
       → AsksAll g {X = Y} {E = E'} B old new (Ok y)
   asks_answer {X} {E} {A} {old} {new} {x} is so it =
       let answered : AsksAll g {X = X} {E = E} A old new (Ok x) = subst (AsksAll g {X = X} {E = E} A old new) is it in
@@ -33,12 +39,12 @@ module _ {S : Type 0} (g : Ghosts S) where
         rests = it.rests;
         stay = it.stay;
         stays_open = answered.stays_open;
-        told =
-            λ clean w count are. so w count are (answered.told clean w count are);
+        told = λ clean w count are. so w count are (answered.told clean w count are);
       }
 
   -- a question that failed, or after which something failed, tells nothing
-  pub asks_failed : {X Y E E' : Type 0} {A : World → X → Type 0} {B : World → Y → Type 0} {old new : List (Member S)}
+  pub asks_failed : {X Y E E' : Type 0} {A : World → X → Type 0} {B : World → Y → Type 0}
+      {old new : List (Member S)}
       {r : Result X E} (q : Result Y E') → IsErr q → AsksAll g {X = X} {E = E} A old new r
       → AsksAll g {X = Y} {E = E'} B old new q
   asks_failed (Ok y) failed it = cc
@@ -46,8 +52,7 @@ module _ {S : Type 0} (g : Ghosts S) where
     rests = it.rests;
     stay = it.stay;
     stays_open = λ clean. tt;
-    told =
-        λ clean. tt;
+    told = λ clean. tt;
   }
 
   -- one question after another that was answered
@@ -59,8 +64,7 @@ module _ {S : Type 0} (g : Ghosts S) where
     rests = next.rests;
     stay = all_stay_then g old mid new first.stay next.stay;
     stays_open = λ clean. tt;
-    told =
-        λ clean. tt;
+    told = λ clean. tt;
   }
   asks_then {X} {E} {A} {old} {mid} {new} {x} (Ok y) is first next =
       let answered : AsksAll g {X = X} {E = E} A old mid (Ok x) =
@@ -83,8 +87,7 @@ module _ {S : Type 0} (g : Ghosts S) where
       → AsksAll g {X = X} {E = E} A old old (Ok x)
   asks_still {old} shuts settles rests so = record {
     rests = rests;
-    stay =
-        all_still g shuts settles old rests;
+    stay = all_still g shuts settles old rests;
     stays_open = λ clean was. was;
     told = λ clean w count are. so w count are;
   }

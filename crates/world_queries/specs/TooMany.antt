@@ -1,5 +1,6 @@
 -- Whether a request would leave too many, by what is kept of the members. Profile.
-use Rattle.std.specs.Prelude.{◌≡◌, ℕ, ◌+◌, Bool, true, ◌||◌, nat_lt, List, map, length, Some, None, slice_get}
+use Rattle.std.specs.Prelude.{◌≡◌, ℕ, ◌+◌, Bool, true, ◌||◌, nat_lt, List, map, length, Some, None}
+use Rattle.std.specs.Prelude.{slice_get}
 use Rattle.std.specs.Prelude.{slice_set}
 use Rattle.std.specs.List.{list_any}
 use Rattle.sqlite.specs.Store.{Ghosts}
@@ -48,13 +49,15 @@ module _ {S : Type 0} (g : Ghosts S) where
   -- request.
   abbrev pub MembersHoldNext : Type 0
   MembersHoldNext = (members : List (Member S)) (count at : ℕ) (w : World) (q : Request) (was : Member S)
-      → AreMembers g members count w → StandsAt g members (package_of q.command) at → slice_get members at ≡ Some was →
+      → AreMembers g members count w → StandsAt g members (package_of q.command) at
+      → slice_get members at ≡ Some was →
       sums_with members at (sums_after q.command (sums_moved (receipt_of w q)) was.sums) ≡ sums_next w q
 
   -- So they tell whether the request would leave too many.
   abbrev pub MembersTellTooMany : Type 0
   MembersTellTooMany = (members : List (Member S)) (count at : ℕ) (w : World) (q : Request) (was : Member S)
-      → AreMembers g members count w → StandsAt g members (package_of q.command) at → slice_get members at ≡ Some was →
+      → AreMembers g members count w → StandsAt g members (package_of q.command) at
+      → slice_get members at ≡ Some was →
       Fits (receipt_of w q) q.command (holdings w (package_of q.command)) →
       leaves_too_many members at (sums_after q.command (sums_moved (receipt_of w q)) was.sums) count
       ≡ too_many (accepted w q)
@@ -62,6 +65,7 @@ module _ {S : Type 0} (g : Ghosts S) where
   -- And where the sums after the command cannot be counted, it would.
   abbrev pub MembersTellUncounted : Type 0
   MembersTellUncounted = (members : List (Member S)) (count at : ℕ) (w : World) (q : Request) (was : Member S)
-      → AreMembers g members count w → StandsAt g members (package_of q.command) at → slice_get members at ≡ Some was →
+      → AreMembers g members count w → StandsAt g members (package_of q.command) at
+      → slice_get members at ≡ Some was →
       Fits (receipt_of w q) q.command (holdings w (package_of q.command)) → first_row (text_reasons q) ≡ None →
       (CanCount q.command (sums_moved (receipt_of w q)) was.sums → ⊥) → too_many (accepted w q) ≡ true

@@ -51,7 +51,8 @@ pub fn item_at<S: Alter + Drop>(
 ) -> Result<Option<Item>, Fault>
     requires within { at < length members.old.items }
     requires rests { AllRest S.Store members.old.items }
-    ensures { AsksAll S.Store (λ w found. (p : Package) → slice_get w.packages at ≡ Some p → found ≡ item_of p identity)
+    ensures { AsksAll S.Store (λ w found. (p : Package) → slice_get w.packages at ≡ Some p
+        → found ≡ item_of p identity)
         members.old.items members.new.items result }
 {
     let member = &mut members[at];

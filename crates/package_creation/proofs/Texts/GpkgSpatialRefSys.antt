@@ -26,8 +26,7 @@ makes = (
     name = refl;
     free = refl;
     defined = refl;
-    fits =
-        refl;
+    fits = refl;
     whole = refl;
   },
 )
@@ -52,8 +51,7 @@ fits = record {
     open_name = refl;
     low = refl;
     reals = refl;
-    key_reals =
-        tt;
+    key_reals = tt;
     formed = refl;
     fit = refl;
     short = refl;

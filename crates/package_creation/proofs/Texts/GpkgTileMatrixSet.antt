@@ -26,8 +26,7 @@ makes = (
     name = refl;
     free = refl;
     defined = refl;
-    fits =
-        refl;
+    fits = refl;
     whole = refl;
   },
 )
@@ -51,8 +50,7 @@ fits = record {
     utf8 = refl;
     open_name = refl;
     low = refl;
-    reals =
-        refl;
+    reals = refl;
     key_reals = (refl, tt);
     formed = refl;
     fit = refl;

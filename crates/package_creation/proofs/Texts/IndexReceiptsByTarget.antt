@@ -28,8 +28,7 @@ makes tree = (
     formats = refl;
     table = refl;
     table_free = refl;
-    name =
-        refl;
+    name = refl;
     free = refl;
     defined = refl;
     whole = refl;
@@ -58,8 +57,7 @@ fits = record {
   open_name = refl;
   low = refl;
   reals = refl;
-  key_reals =
-      refl;
+  key_reals = refl;
   fit = refl;
   short = refl;
 }

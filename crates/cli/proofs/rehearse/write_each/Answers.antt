@@ -6,8 +6,7 @@ use Rattle.cli.proofs.rehearse.write_each.Goals as goal
 pub loop-sight-init : goal.loop-sight-init
 loop-sight-init g c = record {
   stands = ((λ clean. clean), (λ w stands. stands));
-  written =
-      λ clean w stands. Appends-nil (g.W.Write.contents c.args.writer.now);
+  written = λ clean w stands. Appends-nil (g.W.Write.contents c.args.writer.now);
 }
 
 pub returns-in_err-write_package-clause-stands : goal.returns-in_err-write_package-clause-stands

@@ -71,8 +71,7 @@ returns c =
     (record {
       zoom = c.args.zoom;
       column = c.tiles_over-column.result.0;
-      last_column =
-          c.tiles_over-column.result.1;
+      last_column = c.tiles_over-column.result.1;
       row = c.tiles_over-row.result.0;
       last_row = c.tiles_over-row.result.1;
     })

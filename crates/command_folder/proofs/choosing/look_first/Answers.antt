@@ -1,5 +1,6 @@
 -- The first of the stores was just opened.
-use Rattle.std.specs.Prelude.{◌≡◌, ◌==◌, ◌<◌, ℕ, zero, suc, false, length, Result, Ok, Err, Option, Some, None, IfOk}
+use Rattle.std.specs.Prelude.{◌≡◌, ◌==◌, ◌<◌, ℕ, zero, suc, false, length, Result, Ok, Err, Option}
+use Rattle.std.specs.Prelude.{Some, None, IfOk}
 use Rattle.std.specs.Prelude.{IfSome}
 use Rattle.std.proofs.Common.{◌∙◌, sym, subst, arith, vec_len}
 use Rattle.std.proofs.lemmas.Bool.{true≢false}

@@ -11,6 +11,7 @@ returns-clause-told g c = λ clean.
     c.in-Some._links.items c.items_of.result
     (λ w stands.
     let told = c.in_ok-items.ensures.told clean w stands in
-    let found : Some (c.as_slice.result.now, c.in-Some._links.items) ≡ holdings_answer w c.args.holder = search rules in
+    let found : Some (c.as_slice.result.now, c.in-Some._links.items) ≡ holdings_answer w c.args.holder =
+    search rules in
     found)
     c.items_of.ensures

@@ -44,7 +44,6 @@ returns-clause-some c =
       west = c.in_ok-west-2.west;
       south = c.in_ok-south-2.south;
       east = c.in_ok-east.field-0.x;
-      north =
-          c.in_ok-east.field-0.y;
+      north = c.in_ok-east.field-0.y;
     })
     c.in_ok-west-2.ensures.some c.in_ok-south-2.ensures.some c.in_ok-east.ensures.some)

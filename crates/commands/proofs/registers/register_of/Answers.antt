@@ -10,7 +10,8 @@ use Rattle.commands.proofs.registers.register_of.Goals as goal
 
 pub returns : goal.returns
 returns g c =
-    joined g.S.Store (λ w l. l.items ≡ map (λ p. p.uuid) w.packages) (λ w r. r.items ≡ receipts_of w) IsRegisterOf
+    joined g.S.Store (λ w l. l.items ≡ map (λ p. p.uuid) w.packages) (λ w r. r.items ≡ receipts_of w)
+    IsRegisterOf
     (λ m. m.live) (λ m. m.receipts)
     c.args.world c.receipts_of-receipts.new.stores.items c.live_of-live.result c.receipts_of-receipts.result
     c.join_register.result

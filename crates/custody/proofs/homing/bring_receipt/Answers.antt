@@ -17,6 +17,5 @@ returns-in_err-put_row-clause-source g c =
       was_open = λ h. h;
       holds = at_rest g.S.Store g.met.S.Store.shut_if_dirty
           g.met.S.Store.settled c.args.source.now c.requires;
-      survives =
-          same_survives (state g.S.Store c.args.source.now);
+      survives = same_survives (state g.S.Store c.args.source.now);
     }

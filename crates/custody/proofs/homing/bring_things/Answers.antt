@@ -21,8 +21,7 @@ loop-position-init g c =
         was_open = λ h. h;
         holds =
             at_rest g.S.Store g.met.S.Store.shut_if_dirty g.met.S.Store.settled c.args.source.now c.requires;
-        survives =
-            same_survives s;
+        survives = same_survives s;
       };
       each = simp (to_z-of_z, c.ranges.seq) (steps_none {X = Unit {0}} {E = Fault}
           (λ _. FromClean s (ThingsSoFar c.args.seq 0 s.now)) (state g.S.Store c.args.tx.now.conn.now) tt

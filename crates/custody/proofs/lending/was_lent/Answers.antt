@@ -16,8 +16,7 @@ loop-init g c =
         was_open = λ h. h;
         holds =
             at_rest g.S.Store g.met.S.Store.shut_if_dirty g.met.S.Store.settled c.args.conn.now c.requires;
-        survives =
-            same_survives s;
+        survives = same_survives s;
       });
     }
 

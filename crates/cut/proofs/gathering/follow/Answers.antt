@@ -1,5 +1,6 @@
 -- Each item of the list is asked for its links, and their ends come into the list.
-use Rattle.std.proofs.Common.{◌≡◌, ◌∙◌, ◌++◌, ◌<◌, ℕ, List, length, sym, subst, ap, arith, length-append, take}
+use Rattle.std.proofs.Common.{◌≡◌, ◌∙◌, ◌++◌, ◌<◌, ℕ, List, length, sym, subst, ap, arith}
+use Rattle.std.proofs.Common.{length-append, take}
 use Rattle.std.proofs.lemmas.List.{take_all}
 use Rattle.sheet_types.specs.Ordered.{is_among}
 use Rattle.identity_register.specs.Reach.{links_of}
@@ -20,7 +21,8 @@ loop-next-init g c =
       entered.same,
       omega arith,
       at_first (λ p. Walked p start order c.new-links.result.items 0) c.args.reach.now c.requires
-          (λ p. subst (λ l. Walked p start order l 0) (sym c.new-links.ensures.items) (walked_none p start order same)),
+          (λ p. subst (λ l. Walked p start order l 0) (sym c.new-links.ensures.items)
+          (walked_none p start order same)),
     )
 
 pub links_of-requires : goal.links_of-requires
@@ -66,7 +68,8 @@ loop-next-preserved g c =
     c.deref-in-loop-next-2.ensures.value in (
       entered.same,
       omega (arith, less, ap length entered.behind, length-append old.order.items entered.more),
-      asked_so (asked_then c.loop-next.invariant.2 (asked (λ p answer. answer.items ≡ links_of p id) c.in_ok-found.was
+      asked_so (asked_then c.loop-next.invariant.2 (asked (λ p answer. answer.items ≡ links_of p id)
+          c.in_ok-found.was
           c.links_of.ensures))
           (λ p both. walked_more p start old new c.loop-next.links.items found c.extend_from_slice.new.self.items k id
           both.0 less c.index.ensures both.1 entered pushed),

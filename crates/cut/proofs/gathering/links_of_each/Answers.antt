@@ -28,7 +28,8 @@ loop-id-preserved g c =
     c.links_of.ensures))
     (λ p both. flat_more (links_of p) c.args.ids.now i id c.loop-id.links.items c.extend_from_slice.new.self.items
     c.loop-id-test.true c.id-item.is both.0
-    (c.in_ok-extend_from_slice.ensures.items ∙ ap (λ l. c.loop-id.links.items ++ l) (c.deref.ensures.value ∙ both.1)))
+    (c.in_ok-extend_from_slice.ensures.items ∙ ap (λ l. c.loop-id.links.items ++ l)
+    (c.deref.ensures.value ∙ both.1)))
 
 pub returns : goal.returns
 returns g c = answers c.loop-id.invariant (λ p told. told ∙ ap (flat_map (links_of p))

@@ -1,5 +1,6 @@
 -- The start, the media that its links lead to, and the links of both.
-use Rattle.std.proofs.Common.{◌≡◌, ◌∙◌, ◌++◌, ℕ, List, length, length-append, arith, sym, subst, ap, ap₂, drop}
+use Rattle.std.proofs.Common.{◌≡◌, ◌∙◌, ◌++◌, ℕ, List, length, length-append, arith, sym, subst, ap}
+use Rattle.std.proofs.Common.{ap₂, drop}
 use Rattle.std.proofs.Math.Seq.{drop-append_seam}
 use Rattle.std.proofs.lemmas.Grind.{flat_map-append}
 use Rattle.sheet_types.specs.Ordered.{is_among}

@@ -1,5 +1,6 @@
 -- The tiles of each zoom come behind those of the zooms before it.
-use Rattle.std.proofs.Common.{rules, ◌≡◌, ◌∙◌, ◌+◌, ◌+ℤ◌, ◌≤ℤ◌, ◌++◌, ℤ, pos, sym, subst, ap, arith, unsigned_abs}
+use Rattle.std.proofs.Common.{rules, ◌≡◌, ◌∙◌, ◌+◌, ◌+ℤ◌, ◌≤ℤ◌, ◌++◌, ℤ, pos, sym}
+use Rattle.std.proofs.Common.{subst, ap, arith, unsigned_abs}
 use Rattle.std.proofs.Common.{negsuc, refl, FitsSigned, w64}
 use Rattle.std.proofs.lemmas.Int.{ints, to_z-of_z}
 use Rattle.matrix_rules.proofs.Frames.{good_frame}

@@ -16,7 +16,11 @@ returns-in-None-clause-none c = λ port key low good is.
     let line = c.in-Some.line.now in
     let split : c.in-Some.line.now ≡ c.split_at.result.0.now ++ c.split_at.result.1.now =
     rw (c.split_at.ensures.front, c.split_at.ensures.back) (sym (take-append-drop _ line)) in
-    let long : length c.split_at.result.1.now ≡ 32 = omega (arith, c.split_at.ensures.back_len, c.if-line-lt32.false) in
+    let long : length c.split_at.result.1.now ≡ 32 = omega (
+      arith,
+      c.split_at.ensures.back_len,
+      c.if-line-lt32.false,
+    ) in
     let parts = line_parts c.args.text.now line c.split_at.result.0.now c.split_at.result.1.now port key
     c.in-Some.ensures.some split long good is in
     c.in-None.ensures.none port low (subst (λ k. is_key k ≡ true) (sym parts.1) good) parts.0

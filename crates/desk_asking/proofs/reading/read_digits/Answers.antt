@@ -7,7 +7,8 @@ use Rattle.desk_asking.proofs.reading.read_digits.Goals as goal
 
 pub returns-else-eq-clause-none : goal.returns-else-eq-clause-none
 returns-else-eq-clause-none c = λ n fits is.
-    let ok : c.parse.result ≡ Ok n = decimal_parses n c.args.text.now c.parse.result fits c.parse.ensures.value.0 is in
+    let ok : c.parse.result ≡ Ok n = decimal_parses n c.args.text.now c.parse.result fits c.parse.ensures.value.0
+    is in
     let same : c.in-Ok.number ≡ n = cc in
     let wrote : c.format.result.now ≡ decimal c.in-Ok.number = search rules in
     let text : c.format.result.now ≡ c.args.text.now = wrote ∙ ap decimal same ∙ sym is in

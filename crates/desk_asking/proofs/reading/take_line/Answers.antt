@@ -9,4 +9,5 @@ bytes-preserved g c = taken_then _ _ _ _ _ _ c.bytes.invariant c.in_ok-byte.ensu
 pub returns-then-byte-eq10 : goal.returns-then-byte-eq10
 returns-then-byte-eq10 g c =
     let ended : c.in_ok-byte.byte ≡ 10 = search rules in
-    taken_then _ _ _ _ _ _ c.bytes.invariant c.in_ok-byte.ensures (ap (λ b. c.bytes.line.items ++ b ∷ []) (sym ended))
+    taken_then _ _ _ _ _ _ c.bytes.invariant c.in_ok-byte.ensures
+    (ap (λ b. c.bytes.line.items ++ b ∷ []) (sym ended))

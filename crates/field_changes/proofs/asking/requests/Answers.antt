@@ -21,5 +21,6 @@ returns c =
     (c.in_ok-ask_deletes.ensures ∙ ap (λ l. c.ask_unlinks.new.requests.items
     ++ map (request_of p n m) (map (deleting p) l)) c.as_slice-2.ensures.value)
     c.in_ok-ask_adds.ensures
-    (c.in_ok-ask_links.ensures ∙ ap (λ l. c.ask_adds.new.requests.items ++ map (request_of p n m) (map (linking p) l))
+    (c.in_ok-ask_links.ensures ∙ ap (λ l. c.ask_adds.new.requests.items
+    ++ map (request_of p n m) (map (linking p) l))
     c.as_slice-3.ensures.value)

@@ -13,5 +13,6 @@ pub returns-clause-after : goal.returns-clause-after
 returns-clause-after c = λ q.
     at_key c.args.counts.now c.insert.new.self c.of_rank.result (Some (c.count_of-count.result + 1))
     c.in_ok-insert.ensures.updates q
-    ∙ ap (λ k. cond (bytes_eq k q) (Some (c.count_of-count.result + 1)) (get (slice_cmp nat_cmp) c.args.counts.now q))
+    ∙ ap (λ k. cond (bytes_eq k q) (Some (c.count_of-count.result + 1))
+    (get (slice_cmp nat_cmp) c.args.counts.now q))
     c.of_rank.ensures

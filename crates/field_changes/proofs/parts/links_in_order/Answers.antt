@@ -1,5 +1,6 @@
 -- Sorted links whose keys differ are a set, of which it would have been found that they rise.
-use Rattle.std.proofs.Common.{true, false, ◌≡◌, ◌∙◌, ℕ, ◌+◌, ◌<◌, List, length, get_or, sym, subst, arith, rules}
+use Rattle.std.proofs.Common.{true, false, ◌≡◌, ◌∙◌, ℕ, ◌+◌, ◌<◌, List, length, get_or, sym}
+use Rattle.std.proofs.Common.{subst, arith, rules}
 use Rattle.std.proofs.lemmas.List.Sorted.{answers_always}
 use Rattle.sqlite_trees.proofs.ListLemmas.{all-get_or, all-permutation}
 use Rattle.sheet_types.specs.Lines.{IsUuid}

@@ -18,4 +18,5 @@ returns-then-not-branch-clause-none c = λ h.
 pub returns-in_default-in_order-clause-none : goal.returns-in_default-in_order-clause-none
 returns-in_default-in_order-clause-none c = λ h.
     one_twice c.args.entries.items h
-    (subst (λ l. IsDistinct bytes_eq (map held_key l) → ⊥) c.in_ok-items.ensures c.in_default-in_order.ensures.twice)
+    (subst (λ l. IsDistinct bytes_eq (map held_key l) → ⊥) c.in_ok-items.ensures
+    c.in_default-in_order.ensures.twice)

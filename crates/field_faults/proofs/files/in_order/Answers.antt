@@ -21,7 +21,12 @@ returns-then-is_sorted_by-clause-order c =
 pub returns-else-is_sorted_by-clause-twice : goal.returns-else-is_sorted_by-clause-twice
 returns-else-is_sorted_by-clause-twice c = λ apart.
     let kind : HeldItem → ℕ = λ i. kind_number (kind_of i.content) in
-    let key : HeldItem → ℕ × ℕ × ℕ = λ i. (kind_number (kind_of i.content), sign i.number, unsigned_abs i.number) in
+    let key : HeldItem → ℕ × ℕ × ℕ = λ i. (
+      kind_number (kind_of i.content),
+      sign i.number,
+      unsigned_abs
+          i.number,
+    ) in
     let sorted = c.sort_unstable_by_key.ensures.sorted key (answers_always _ _ _ (λ f a r g h. search rules)) in
     let now = c.sort_unstable_by_key.new.self.items in
     let set : IsArranged held_key now = sorted_set held_key now

@@ -32,7 +32,8 @@ returns-in-Media c = λ before has.
     let judge = c.args.judge.now in
     let numbers = c.requires in
     let ids : c.as_slice-ids.result.now ≡ ids_of (kind_of c.args.item.now.content) judge.items.now =
-    c.as_slice-ids.ensures.value ∙ numbers.media ∙ ap (λ k. ids_of (kind_of k) judge.items.now) (sym c.in-Media.is) in
+    c.as_slice-ids.ensures.value ∙ numbers.media ∙ ap (λ k. ids_of (kind_of k) judge.items.now)
+    (sym c.in-Media.is) in
     c.number_reason.ensures
     ∙ of_number judge.frame.now judge.items.now judge.more c.args.exported before c.args.item.now _ c.in-Media.is
     c.is_renumbered_in.result

@@ -2,4 +2,6 @@ use Rattle.field_sql.proofs.Texts.{joined, ok_is}
 use Rattle.field_sql.proofs.listing.stock_holds.Goals as goal
 
 pub returns : goal.returns
-returns c = ok_is c.format.result _ _ (joined c.start-start.ensures (joined c.no_register-register.ensures (joined c.in_ok-tiles.ensures (joined c.in_ok-points.ensures c.in_ok-body.ensures)))) c.format.ensures.ok
+returns c = ok_is c.format.result _ _ (joined c.start-start.ensures
+    (joined c.no_register-register.ensures (joined c.in_ok-tiles.ensures
+    (joined c.in_ok-points.ensures c.in_ok-body.ensures)))) c.format.ensures.ok

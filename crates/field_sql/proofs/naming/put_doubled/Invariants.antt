@@ -5,7 +5,8 @@ use Rattle.field_sql.specs.Naming.{doubled}
 use Rattle.field_sql.proofs.naming.put_doubled.Given as goal
 
 abbrev pub invariant-parts : goal.invariant-parts
-invariant-parts l = (string_bytes l.text ++ doubled l.mark l.rest ≡ string_bytes l.initial.text ++ doubled l.mark l.name) × IsUtf8 l.rest
+invariant-parts l = (string_bytes l.text ++ doubled l.mark l.rest ≡ string_bytes l.initial.text
+    ++ doubled l.mark l.name) × IsUtf8 l.rest
 
 abbrev pub decreases-parts : goal.decreases-parts
 decreases-parts l = length l.rest

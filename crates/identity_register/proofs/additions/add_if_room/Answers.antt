@@ -27,8 +27,7 @@ returns-in_err-insert_identity-clause-steps g c =
     steps_failed _ c.from_residual-in_err-insert_identity.ensures.0
     (add_steps (record {
       item = record { identity = c.args.identity; content = c.args.content.now };
-      number =
-          c.in-Some.number;
+      number = c.in-Some.number;
     }) (gap_found {F = Fault} _ c.in_ok-number.field-0 c.in-Some.number c.in-Some.is
     c.in_ok-number.ensures.steps) (simp (to_z-of_z, number) at c.in_ok-put_content.ensures.steps)
     (identity_makes c.stored_kind.result (pos (kind_number (kind_of c.args.content.now))) c.in-Some.number

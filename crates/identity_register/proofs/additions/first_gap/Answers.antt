@@ -1,4 +1,5 @@
-use Rattle.std.proofs.Common.{◌≡◌, ℤ, ◌∙◌, ◌+ℤ◌, pos, true, Some, refl, arith, to_z-of_z, w64, to_z, of_z}
+use Rattle.std.proofs.Common.{◌≡◌, ℤ, ◌∙◌, ◌+ℤ◌, pos, true, Some, refl, arith, to_z-of_z, w64}
+use Rattle.std.proofs.Common.{to_z, of_z}
 use Rattle.std.proofs.lemmas.Int.{ints}
 use Rattle.sheet_types.specs.Matrix.{is_within}
 use Rattle.sqlite.specs.Held.{state}

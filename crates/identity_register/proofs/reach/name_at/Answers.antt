@@ -36,9 +36,7 @@ returns g c =
       row = row;
       there = h.0;
       kind_is = int_same row.kind c.args.kind same.0;
-      number_is =
-          int_same row.local_id c.args.number same.1;
+      number_is = int_same row.local_id c.args.number same.1;
       identity = text;
-      fit =
-          subst (λ r. IfOk r IsUuid) e c.stored_uuid.ensures.fit;
+      fit = subst (λ r. IfOk r IsUuid) e c.stored_uuid.ensures.fit;
     })

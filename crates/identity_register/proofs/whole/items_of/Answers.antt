@@ -20,8 +20,7 @@ loop-row-preserved c =
     let one : IsItemOf placed c.row-item.result item = record {
       identity = c.in_ok-item_at.ensures.identity;
       fit = c.in_ok-item_at.ensures.fit;
-      content =
-          subst (Contains placed) c.in_ok-item_at.ensures.content here;
+      content = subst (Contains placed) c.in_ok-item_at.ensures.content here;
     } in
     record {
       left = λ x h. c.loop-row.invariant.left x (Contains-In x (into_iter_items c.loop-row.left)

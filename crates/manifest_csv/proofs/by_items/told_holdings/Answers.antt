@@ -9,12 +9,12 @@ use Rattle.manifest_csv.proofs.by_items.told_holdings.Goals as goal
 
 pub returns-in_err-links : goal.returns-in_err-links
 returns-in_err-links g c = fails c.from_residual-in_err-links.result c.from_residual-in_err-links.ensures.0
-    (looks_stays c.told.ensures)
+    (looks_stays c.tell_all.ensures)
 
 pub returns : goal.returns
 returns g c =
     sees_so (λ f p told. (told.0.items ≡ map item_moved p.items) × (told.1.items ≡ map link_moved p.links))
-    c.in_ok-items.was c.told.ensures
+    c.in_ok-items.was c.tell_all.ensures
     (λ f p t says h. (
       h.0,
       links_told c.deref.result.now c.in_ok-links.links.items p.links c.in_ok-links.ensures

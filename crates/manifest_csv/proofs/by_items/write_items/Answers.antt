@@ -21,7 +21,8 @@ loop-moved-init g c = record {
 pub loop-moved-preserved : goal.loop-moved-preserved
 loop-moved-preserved g c = record {
   between = c.in_ok-write_item.ensures.between;
-  read = goes_on (OfPackage (λ p _. (item : Item) → Contains p.items item → item.identity ≡ c.moved-item.result.base
+  read = goes_on (OfPackage (λ p _. (item : Item) → Contains p.items item
+      → item.identity ≡ c.moved-item.result.base
       → Appends (text_written (λ v. Some v.items) c.loop-moved.writer)
       (text_written (λ v. Some v.items) c.write_item.new.writer) (row_text default_writer (item_fields item))))
       c.loop-moved.invariant.read c.in_ok-write_item.was (of_package _ c.write_item.result c.write_item.ensures.text)

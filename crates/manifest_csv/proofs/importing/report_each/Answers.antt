@@ -19,8 +19,7 @@ loop-at-init g c = record {
       none_yet g.S.Store c.args.requests.now c.args.world.now (g.H.Shelf.failures_of c.args.shelf.now)
       (g.W.Write.contents c.args.writer.now);
   uses = refl;
-  told =
-      nothing_told (length c.args.requests.now) (g.T.Teller.told c.args.teller.now);
+  told = nothing_told (length c.args.requests.now) (g.T.Teller.told c.args.teller.now);
 }
 
 pub returns-in_err-send-clause-reported : goal.returns-in_err-send-clause-reported
@@ -41,14 +40,11 @@ returns-in_err-send-clause-reported g c =
     (record {
       step = c.apply-reply.ensures.step;
       still = c.apply-reply.ensures.still;
-      unharmed =
-          c.apply-reply.ensures.unharmed;
+      unharmed = c.apply-reply.ensures.unharmed;
       rises = c.apply-reply.ensures.rises;
-      failed =
-          c.apply-reply.ensures.failed;
+      failed = c.apply-reply.ensures.failed;
       cause = c.apply-reply.ensures.cause;
-      usable =
-          c.apply-reply.ensures.usable;
+      usable = c.apply-reply.ensures.usable;
       shelf = c.apply-reply.ensures.shelf;
     })
     (g.W.Write.contents c.send.new.writer) line)
@@ -67,14 +63,11 @@ returns-in-Some-clause-reported g c =
     (record {
       step = c.apply-reply.ensures.step;
       still = c.apply-reply.ensures.still;
-      unharmed =
-          c.apply-reply.ensures.unharmed;
+      unharmed = c.apply-reply.ensures.unharmed;
       rises = c.apply-reply.ensures.rises;
-      failed =
-          c.apply-reply.ensures.failed;
+      failed = c.apply-reply.ensures.failed;
       cause = c.apply-reply.ensures.cause;
-      usable =
-          c.apply-reply.ensures.usable;
+      usable = c.apply-reply.ensures.usable;
       shelf = c.apply-reply.ensures.shelf;
     })
     (g.W.Write.contents c.send.new.writer) c.in-Some.fault (subst (IsEndOf c.apply-reply.result) c.in-Some.is
@@ -96,14 +89,11 @@ loop-at-preserved g c =
           (record {
             step = c.apply-reply.ensures.step;
             still = c.apply-reply.ensures.still;
-            unharmed =
-                c.apply-reply.ensures.unharmed;
+            unharmed = c.apply-reply.ensures.unharmed;
             rises = c.apply-reply.ensures.rises;
-            failed =
-                c.apply-reply.ensures.failed;
+            failed = c.apply-reply.ensures.failed;
             cause = c.apply-reply.ensures.cause;
-            usable =
-                c.apply-reply.ensures.usable;
+            usable = c.apply-reply.ensures.usable;
             shelf = c.apply-reply.ensures.shelf;
           })
           (g.W.Write.contents c.send.new.writer) line (subst (IsEndOf c.apply-reply.result) c.in_default.is

@@ -12,5 +12,6 @@ returns c =
     let pixel : FitsSigned w64 c.pixel_size_of-pixel_size.result = search rules in
     let product = simp to_z-of_z at c.tiles_at-tiles.ensures.product in
     let size = rw product at (simp to_z-of_z at c.pixel_size_of-pixel_size.ensures.size) in
-    let span : FitsSigned w64 (c.args.tile *ℤ c.pixel_size_of-pixel_size.result) = omega (arith, ints, simp to_z-of_z at c.pixel_size_of-pixel_size.ensures.span) in
+    let span : FitsSigned w64 (c.args.tile *ℤ c.pixel_size_of-pixel_size.result) =
+    omega (arith, ints, simp to_z-of_z at c.pixel_size_of-pixel_size.ensures.span) in
     simp to_z-of_z (rw (size, product) refl)

@@ -15,7 +15,8 @@ returns c =
     let high = c.ranges.high in
     let matrix = c.ranges.matrix in
     let levels = c.ranges.levels in
-    let d : c.is_divided.result ≡ divides c.pixels-last.result c.extent.result = simp to_z-of_z at c.is_divided.ensures in
+    let d : c.is_divided.result ≡ divides c.pixels-last.result c.extent.result =
+    simp to_z-of_z at c.is_divided.ensures in
     let p = simp to_z-of_z at c.pixels-last.ensures.product in
     let t = simp to_z-of_z at c.tiles_at.ensures.product in
     let e = simp to_z-of_z at c.extent.ensures in

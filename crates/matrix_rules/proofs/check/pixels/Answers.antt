@@ -11,7 +11,10 @@ returns-clause-positive c =
     let tile = c.ranges.tile in
     let wide_tiles : FitsSigned w128 c.args.tiles = sfits_widen tt tiles in
     let wide_tile : FitsSigned w128 c.args.tile = sfits_widen tt tile in
-    let range = product_range c.args.tiles c.args.tile 2305843009213693952 4096 c.requires.tiles.0 c.requires.tiles.1 c.requires.tile.0 c.requires.tile.1 in
+    let range = product_range c.args.tiles c.args.tile 2305843009213693952 4096 c.requires.tiles.0 c.requires.tiles.1
+    c.requires.tile.0 c.requires.tile.1 in
     let positive : pos 0 <ℤ (c.args.tiles *ℤ c.args.tile) = omega (arith, ints) in
-    let fits : FitsSigned w128 (c.args.tiles *ℤ c.args.tile) = fits_between w128 (c.args.tiles *ℤ c.args.tile) (9444732965739290427392) (omega (arith, ints)) range.1 (lit< tt) in
+    let fits : FitsSigned w128 (c.args.tiles *ℤ c.args.tile) =
+    fits_between w128 (c.args.tiles *ℤ c.args.tile) (9444732965739290427392) (omega (arith, ints)) range.1
+    (lit< tt) in
     simp to_z-of_z positive

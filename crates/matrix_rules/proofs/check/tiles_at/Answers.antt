@@ -7,6 +7,9 @@ pub returns-clause-range : goal.returns-clause-range
 returns-clause-range c =
     let matrix = c.ranges.matrix in
     let power : FitsSigned w64 c.doublings.result = search rules in
-    let range = product_range c.args.matrix c.doublings.result 2000000000000 1048576 c.requires.matrix.0 c.requires.matrix.1 c.doublings.ensures.range.0 c.doublings.ensures.range.1 in
-    let fits : FitsSigned w64 (c.args.matrix *ℤ c.doublings.result) = fits_between w64 (c.args.matrix *ℤ c.doublings.result) 2097152000000000000 (omega (arith, ints)) range.1 (lit< tt) in
+    let range = product_range c.args.matrix c.doublings.result 2000000000000 1048576 c.requires.matrix.0
+    c.requires.matrix.1 c.doublings.ensures.range.0 c.doublings.ensures.range.1 in
+    let fits : FitsSigned w64 (c.args.matrix *ℤ c.doublings.result) =
+    fits_between w64 (c.args.matrix *ℤ c.doublings.result) 2097152000000000000 (omega (arith, ints)) range.1
+    (lit< tt) in
     simp to_z-of_z (range.0, omega (arith, ints))

@@ -6,7 +6,8 @@ use Rattle.matrix_rules.proofs.levels.zoom_at.Goals as goal
 
 pub overflow_cast-result : goal.overflow_cast-result
 overflow_cast-result c =
-    let small = small_level c.args.frame.now c.args.level (good_frame c.args.frame.now c.requires.good) c.requires.level in
+    let small = small_level c.args.frame.now c.args.level (good_frame c.args.frame.now c.requires.good)
+    c.requires.level in
     omega (arith, ints, small.0)
 
 pub overflow_add-result : goal.overflow_add-result
@@ -15,7 +16,8 @@ overflow_add-result c =
     let small = small_level c.args.frame.now c.args.level good c.requires.level in
     let first : FitsSigned w64 c.args.frame.now.first_zoom = omega (arith, ints, good.first_zoom, small.2) in
     let level : to_z w64 c.args.level ≡ pos c.args.level = to_z_pos w64 c.args.level (omega (arith, small.0)) in
-    let sum : FitsSigned w64 (c.args.frame.now.first_zoom +ℤ pos c.args.level) = omega (arith, ints, good.first_zoom, small.2) in
+    let sum : FitsSigned w64 (c.args.frame.now.first_zoom +ℤ pos c.args.level) =
+    omega (arith, ints, good.first_zoom, small.2) in
     simp (to_z-of_z, first, level) sum
 
 pub returns-clause-zoom : goal.returns-clause-zoom
@@ -24,7 +26,8 @@ returns-clause-zoom c =
     let small = small_level c.args.frame.now c.args.level good c.requires.level in
     let first : FitsSigned w64 c.args.frame.now.first_zoom = omega (arith, ints, good.first_zoom, small.2) in
     let level : to_z w64 c.args.level ≡ pos c.args.level = to_z_pos w64 c.args.level (omega (arith, small.0)) in
-    let sum : FitsSigned w64 (c.args.frame.now.first_zoom +ℤ pos c.args.level) = omega (arith, ints, good.first_zoom, small.2) in
+    let sum : FitsSigned w64 (c.args.frame.now.first_zoom +ℤ pos c.args.level) =
+    omega (arith, ints, good.first_zoom, small.2) in
     simp (to_z-of_z, first, level, sum) refl
 
 pub returns-clause-level : goal.returns-clause-level
@@ -34,6 +37,7 @@ returns-clause-level c =
     let small = small_level c.args.frame.now c.args.level good c.requires.level in
     let first : FitsSigned w64 c.args.frame.now.first_zoom = omega (arith, ints, good.first_zoom, small.2) in
     let level : to_z w64 c.args.level ≡ pos c.args.level = to_z_pos w64 c.args.level (omega (arith, small.0)) in
-    let sum : FitsSigned w64 (c.args.frame.now.first_zoom +ℤ pos c.args.level) = omega (arith, ints, good.first_zoom, small.2) in
+    let sum : FitsSigned w64 (c.args.frame.now.first_zoom +ℤ pos c.args.level) =
+    omega (arith, ints, good.first_zoom, small.2) in
     let low : f.first_zoom ≤ℤ (f.first_zoom +ℤ pos c.args.level) = omega (arith, ints) in
     simp (to_z-of_z, first, level, sum) (grind (arith, ints, low, small.1))

@@ -12,9 +12,15 @@ returns-then-first-past c =
     let top : FitsSigned w64 ((c.args.start +ℤ c.args.length) -ℤ pos 1) = omega (arith, ints) in
     let first : FitsSigned w64 c.whole_parts-first.result = search rules in
     let past : FitsSigned w64 c.whole_parts-past.result = search rules in
-    let last : FitsSigned w64 (c.whole_parts-past.result -ℤ pos 1) = omega (arith, ints, c.whole_parts-past.ensures.range) in
+    let last : FitsSigned w64 (c.whole_parts-past.result -ℤ pos 1) =
+    omega (arith, ints, c.whole_parts-past.ensures.range) in
     let below = simp to_z-of_z at c.if-first-past.true in
-    simp to_z-of_z (omega (arith, ints, below), parts_named c.args.start c.args.end c.args.length c.whole_parts-first.result c.whole_parts-past.result c.requires.start.0 c.requires.end.0 c.requires.length.0 (simp to_z-of_z at c.whole_parts-first.ensures.parts) (simp to_z-of_z at c.whole_parts-past.ensures.parts))
+    simp to_z-of_z (
+      omega (arith, ints, below),
+      parts_named c.args.start c.args.end c.args.length
+          c.whole_parts-first.result c.whole_parts-past.result c.requires.start.0 c.requires.end.0 c.requires.length.0
+          (simp to_z-of_z at c.whole_parts-first.ensures.parts) (simp to_z-of_z at c.whole_parts-past.ensures.parts),
+    )
 
 pub returns-else-first-past : goal.returns-else-first-past
 returns-else-first-past c =
@@ -26,4 +32,7 @@ returns-else-first-past c =
     let first : FitsSigned w64 c.whole_parts-first.result = search rules in
     let past : FitsSigned w64 c.whole_parts-past.result = search rules in
     let above = simp to_z-of_z at c.if-first-past.false in
-    λ part. parts_named c.args.start c.args.end c.args.length c.whole_parts-first.result c.whole_parts-past.result c.requires.start.0 c.requires.end.0 c.requires.length.0 (simp to_z-of_z at c.whole_parts-first.ensures.parts) (simp to_z-of_z at c.whole_parts-past.ensures.parts) part ∙ nothing_within _ _ part (omega (arith, ints, above))
+    λ part. parts_named c.args.start c.args.end c.args.length c.whole_parts-first.result c.whole_parts-past.result
+    c.requires.start.0 c.requires.end.0 c.requires.length.0 (simp to_z-of_z at c.whole_parts-first.ensures.parts)
+    (simp to_z-of_z at c.whole_parts-past.ensures.parts) part
+    ∙ nothing_within _ _ part (omega (arith, ints, above))

@@ -19,7 +19,8 @@ returns-clause-some c =
     let last_row : FitsSigned w64 c.in_ok-row.last_row = search rules in
     let columns = c.in_ok-column.ensures in
     let rows = c.in_ok-row.ensures in
-    simp to_z-of_z (span_start c.in_ok-column.column c.in_ok-column.last_column c.in_ok-row.row c.in_ok-row.last_row columns.0 rows.0)
+    simp to_z-of_z (span_start c.in_ok-column.column c.in_ok-column.last_column c.in_ok-row.row c.in_ok-row.last_row
+    columns.0 rows.0)
 
 pub returns-in_err-column-clause-none : goal.returns-in_err-column-clause-none
 returns-in_err-column-clause-none c =
@@ -29,7 +30,8 @@ returns-in_err-column-clause-none c =
     let span : FitsSigned w64 c.axes_at-axes.result.across.span = search rules in
     let axes = simp to_z-of_z at c.axes_at-axes.ensures.axes in
     let level : has_level c.args.frame.now c.args.zoom ≡ true = search rules in
-    let inside = inside_at c.args.frame.now c.args.rect.now c.offsets_of-outer.result c.args.zoom c.offsets_of-outer.ensures.offsets (good_frame c.args.frame.now c.requires.good) c.requires.rect level in
+    let inside = inside_at c.args.frame.now c.args.rect.now c.offsets_of-outer.result c.args.zoom
+    c.offsets_of-outer.ensures.offsets (good_frame c.args.frame.now c.requires.good) c.requires.rect level in
     let none = rw axes at (simp to_z-of_z at c.in_err-column.ensures) in
     rw c.from_residual.ensures (λ column row. inside column row ∙ and_left _ _ (none column))
 
@@ -41,7 +43,8 @@ returns-in_err-row-clause-none c =
     let span : FitsSigned w64 c.axes_at-axes.result.down.span = search rules in
     let axes = simp to_z-of_z at c.axes_at-axes.ensures.axes in
     let level : has_level c.args.frame.now c.args.zoom ≡ true = search rules in
-    let inside = inside_at c.args.frame.now c.args.rect.now c.offsets_of-outer.result c.args.zoom c.offsets_of-outer.ensures.offsets (good_frame c.args.frame.now c.requires.good) c.requires.rect level in
+    let inside = inside_at c.args.frame.now c.args.rect.now c.offsets_of-outer.result c.args.zoom
+    c.offsets_of-outer.ensures.offsets (good_frame c.args.frame.now c.requires.good) c.requires.rect level in
     let none = rw axes at (simp to_z-of_z at c.in_err-row.ensures) in
     rw c.from_residual-in_err-row.ensures (λ column row. inside column row ∙ and_right _ _ (none row))
 
@@ -56,7 +59,8 @@ returns-clause-places c =
     let height : FitsSigned w64 c.axes_at-axes.result.down.span = search rules in
     let axes = simp to_z-of_z at c.axes_at-axes.ensures.axes in
     let level : has_level c.args.frame.now c.args.zoom ≡ true = search rules in
-    let inside = inside_at c.args.frame.now c.args.rect.now c.offsets_of-outer.result c.args.zoom c.offsets_of-outer.ensures.offsets (good_frame c.args.frame.now c.requires.good) c.requires.rect level in
+    let inside = inside_at c.args.frame.now c.args.rect.now c.offsets_of-outer.result c.args.zoom
+    c.offsets_of-outer.ensures.offsets (good_frame c.args.frame.now c.requires.good) c.requires.rect level in
     let columns = rw axes at (simp to_z-of_z at c.in_ok-column.ensures) in
     let rows = rw axes at (simp to_z-of_z at c.in_ok-row.ensures) in
     let first : FitsSigned w64 c.in_ok-column.column = search rules in

@@ -7,7 +7,6 @@ pub returns-clause-fault : goal.returns-clause-fault
 returns-clause-fault g c = record {
   brought = inl refl;
   only_read = inl (inr refl);
-  others_read =
-      λ clean. all_same g.S.Store c.args.stores.items;
+  others_read = λ clean. all_same g.S.Store c.args.stores.items;
   fault = λ clean. inl (inr refl);
 }

@@ -86,5 +86,6 @@ bring_stores-requires-clause-long g c =
     let of_all : length c.in-Ok.judged.verdict.kept.items ≡ c.len.result = c.if-not-is_of_all.ensures refl in
     let whole : vec_len c.judge_stores.new.stores ≡ length c.judge_stores.new.stores.items =
     omega (arith, c.judge_stores.new.stores.ok.0) in
-    let same : length c.deref.result.now ≡ length c.in-Ok.judged.verdict.kept.items = ap length c.deref.ensures.value in
+    let same : length c.deref.result.now ≡ length c.in-Ok.judged.verdict.kept.items =
+    ap length c.deref.ensures.value in
     omega (arith, same, of_all, c.len.ensures, whole)

@@ -16,5 +16,8 @@ returns-then-has_ground_of c =
 pub returns-else-has_ground_of : goal.returns-else-has_ground_of
 returns-else-has_ground_of c =
     let f = c.args.sight.now.frame in
-    let g = c.args.root.now.frame in
-    (λ so. absurd (true≢false (sym so ∙ c.if-has_ground_of.false)), λ e. c.has_ground_of.ensures.1 (ground_of f g e))
+    let g = c.args.root.now.frame in (
+      λ so. absurd (true≢false (sym so ∙ c.if-has_ground_of.false)),
+      λ e. c.has_ground_of.ensures.1
+          (ground_of f g e),
+    )

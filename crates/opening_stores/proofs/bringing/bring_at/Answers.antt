@@ -12,8 +12,7 @@ returns g c =
         was = c.index_mut-conn.result.now;
         place = place;
         last = c.bring.new.conn;
-        others =
-            refl;
+        others = refl;
         turned = c.bring.ensures;
       };
     }

@@ -1,5 +1,6 @@
 -- The last of the stores that are left is shared out.
-use Rattle.std.proofs.Common.{◌≡◌, ◌∷◌, [], ◌++◌, length, sym, ap, ◌∙◌, drop, get_or, suc, vec_len, arith}
+use Rattle.std.proofs.Common.{◌≡◌, ◌∷◌, [], ◌++◌, length, sym, ap, ◌∙◌, drop, get_or, suc}
+use Rattle.std.proofs.Common.{vec_len, arith}
 use Rattle.std.proofs.Math.Seq.{drop-cons}
 use Rattle.opening_stores.proofs.SharedOut.{order, below, goes_on, more_long, ends, none_left}
 use Rattle.opening_stores.proofs.sharing.share_out.Goals as goal
@@ -23,7 +24,8 @@ loop-preserved g c =
     let there : drop (length fewer) kept ≡ k ∷ drop (suc (length fewer)) kept =
     drop-cons kept (length fewer) k (below all kept c.loop.rest.items fewer c.loop.shares c.in-Some.conn
     c.requires.long c.loop.invariant.sharing last)
-    ∙ ap (λ x. x ∷ drop (suc (length fewer)) kept) (sym (c.index-kept-len.is ∙ ap (λ n. get_or kept n k) long)) in
+    ∙ ap (λ x. x ∷ drop (suc (length fewer)) kept) (sym (c.index-kept-len.is
+    ∙ ap (λ n. get_or kept n k) long)) in
     record {
       sharing = goes_on all kept c.loop.rest.items fewer c.loop.shares c.in-Some.conn c.requires.long
           c.loop.invariant.sharing last k there c.share_one.new.shares c.share_one.ensures.members

@@ -11,8 +11,7 @@ returns g c =
       looked = record {
         was = c.index_mut-conn.result.now;
         place = place;
-        last =
-            c.survey_either.new.conn;
+        last = c.survey_either.new.conn;
         others = refl;
         looked = c.survey_either.ensures;
       };

@@ -6,7 +6,7 @@ use Rattle.opening_survey.proofs.held.held_of.Goals as goal
 pub returns : goal.returns
 returns g c =
     sees_so (λ f p held. (held.0.items ≡ map item_moved p.items) × (held.1.items ≡ map link_moved p.links))
-    c.in_ok-items.was c.told.ensures
+    c.in_ok-items.was c.tell_all.ensures
     (λ f p t says held heads receipts. record {
       uuid = ap (λ h. h.uuid) heads;
       parent = ap (λ h. h.parent) heads;

@@ -14,7 +14,8 @@ use Rattle.opening_survey.proofs.survey.survey_formed.Goals as goal
 pub returns-then-not-branch : goal.returns-then-not-branch
 returns-then-not-branch g c =
     sees (λ db x. AreKeyed db → SeesFormed c.args.said c.args.formed db x)
-    (seen (λ db answer. AreFormed db → TellsTied (tables_of db) answer) c.in_ok-has_good_ties.was c.has_good_ties.ensures)
+    (seen (λ db answer. AreFormed db → TellsTied (tables_of db) answer) c.in_ok-has_good_ties.was
+    c.has_good_ties.ensures)
     (λ db told keyed said read. untied db c.args.said c.args.head c.args.formed c.without_package.result
     c.requires.heads said read (subst (TellsTied (tables_of db)) c.if-not-branch.true (told read.formed))
     c.without_package.ensures)
@@ -24,7 +25,8 @@ returns g c =
     sees (λ db x. AreKeyed db → SeesFormed c.args.said c.args.formed db x)
     (seen_then (λ db held. (f : Frame) (p : Package) → Reads f p db
     → TellsHeld (head_said c.args.head) c.args.formed.receipts.items f p held)
-    (seen (λ db answer. AreFormed db → TellsTied (tables_of db) answer) c.in_ok-has_good_ties.was c.has_good_ties.ensures)
+    (seen (λ db answer. AreFormed db → TellsTied (tables_of db) answer) c.in_ok-has_good_ties.was
+    c.has_good_ties.ensures)
     c.in_ok-held.was c.held_of.ensures)
     (λ db told keyed said read. packaged c.reads_as_a_package.ensures db c.args.said c.args.head c.args.formed _
     c.requires.heads said read (subst (TellsTied (tables_of db)) c.if-not-branch.false (told.0 read.formed))

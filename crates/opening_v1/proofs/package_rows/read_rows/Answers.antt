@@ -40,14 +40,11 @@ returns g c =
     sees (λ db found. AreFormedAt (pos 1) db → AreRowsOf (tables_of db) found) moved
     (λ db told formed. record {
       tiles = (told.0.0.0.0.0.0.0 formed.tiles).0;
-      media =
-          (told.0.0.0.0.0.0.1 formed.media).0;
+      media = (told.0.0.0.0.0.0.1 formed.media).0;
       rows = (told.0.0.0.0.0.1 formed.rows).0;
-      tiles_media =
-          (told.0.0.0.0.1 formed.tiles_media).0;
+      tiles_media = (told.0.0.0.0.1 formed.tiles_media).0;
       rows_media = (told.0.0.0.1 formed.rows_media).0;
-      identities =
-          (told.0.0.1 formed.identities).0;
+      identities = (told.0.0.1 formed.identities).0;
       receipts = (told.0.1 formed.receipts).0;
       moved =
           IsPermutation-trans (rows_of moved_shape db) c.in_ok-moved.moved.items c.in_turn.result.items

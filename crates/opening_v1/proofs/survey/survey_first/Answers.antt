@@ -12,7 +12,8 @@ use Rattle.opening_v1.proofs.survey.survey_first.Goals as goal
 
 pub returns-in_default : goal.returns-in_default
 returns-in_default g c =
-    sees (λ db x. AreKeyed db → IsFirstSeenRight db x) (seen (λ db s. AreKeyed db → IsFirstSaid db s) c.in_ok-said.was
+    sees (λ db x. AreKeyed db → IsFirstSeenRight db x) (seen (λ db s. AreKeyed db → IsFirstSaid db s)
+    c.in_ok-said.was
     c.read_first_said.ensures)
     (λ db told keyed. unformed db c.in_ok-said.said c.no_frame.result c.without_package.result (told keyed)
     (no_head db c.in_ok-said.said (sym c.head_in.ensures ∙ c.in_default.is) (told keyed))

@@ -13,7 +13,8 @@ returns-in_err-check_balance-clause-fault c =
     let seen = seen_whole all c.as_slice-sights.result.now c.in_ok-ledger.ledger.items c.as_slice.result.now
     (c.as_slice-sights.ensures.value ∙ c.in_ok-sorted.ensures) c.as_slice.ensures.value c.in_ok-ledger.ensures
     c.in_ok-check_apart.ensures.apart in
-    err_same (λ fault. (w : World) → IsWorldOf all w → IsLastOf w fault) c.from_residual-in_err-check_balance.result
+    err_same (λ fault. (w : World) → IsWorldOf all w → IsLastOf w fault)
+    c.from_residual-in_err-check_balance.result
     c.in_err-check_balance.field-0.0 c.from_residual-in_err-check_balance.ensures.1
     (λ w is. c.in_err-check_balance.ensures.fault w (seen w is))
 
@@ -26,9 +27,11 @@ returns-in_err-check_altered-clause-fault c =
     let again = seen_whole all c.as_slice-sights.result.now c.in_ok-ledger.ledger.items c.as_slice-2.result.now
     (c.as_slice-sights.ensures.value ∙ c.in_ok-sorted.ensures) c.as_slice-2.ensures.value
     c.in_ok-ledger.ensures c.in_ok-check_apart.ensures.apart in
-    err_same (λ fault. (w : World) → IsWorldOf all w → IsLastOf w fault) c.from_residual-in_err-check_altered.result
+    err_same (λ fault. (w : World) → IsWorldOf all w → IsLastOf w fault)
+    c.from_residual-in_err-check_altered.result
     c.in_err-check_altered.field-0.0 c.from_residual-in_err-check_altered.ensures.1
-    (λ w is. c.in_err-check_altered.ensures.fault w (again w is) (c.in_ok-check_balance.ensures.balanced w (seen w is)))
+    (λ w is. c.in_err-check_altered.ensures.fault w (again w is)
+    (c.in_ok-check_balance.ensures.balanced w (seen w is)))
 
 pub returns-clause-ledger : goal.returns-clause-ledger
 returns-clause-ledger c = λ w is.
@@ -42,7 +45,6 @@ returns-clause-ledger c = λ w is.
     record {
       apart = seen.seen.in_order;
       balanced = c.in_ok-check_balance.ensures.balanced w seen;
-      unaltered =
-          c.in_ok-check_altered.ensures.unaltered w again;
+      unaltered = c.in_ok-check_altered.ensures.unaltered w again;
       whole = c.in_ok-ledger.ensures w seen.seen;
     }

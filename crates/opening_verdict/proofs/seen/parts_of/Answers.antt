@@ -7,7 +7,8 @@ use Rattle.opening_verdict.proofs.seen.parts_of.Goals as goal
 pub loop-store-preserved : goal.loop-store-preserved
 loop-store-preserved c =
     let store = c.in-Some.store in
-    let next : into_iter_items c.loop-store.store-iterator ≡ store ∷ into_iter_items c.next.new.self = search rules in
+    let next : into_iter_items c.loop-store.store-iterator ≡ store ∷ into_iter_items c.next.new.self =
+    search rules in
     let long : length (into_iter_items c.loop-store.store-iterator) ≡ suc (length (into_iter_items c.next.new.self)) =
     ap length next in
     record {

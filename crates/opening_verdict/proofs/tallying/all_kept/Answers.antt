@@ -1,5 +1,6 @@
 -- One store more.
-use Rattle.std.proofs.Common.{◌<◌, length, ap, sym, subst, ◌∙◌, is_ok, Some, None, true, false, get_or, slice_get}
+use Rattle.std.proofs.Common.{◌<◌, length, ap, sym, subst, ◌∙◌, is_ok, Some, None, true, false, get_or}
+use Rattle.std.proofs.Common.{slice_get}
 use Rattle.std.proofs.Common.{arith, inr, ◌+◌}
 use Rattle.std.proofs.lemmas.Option.{slice_get-get_or}
 use Rattle.std.proofs.ResultArms.{chosen}

@@ -22,7 +22,8 @@ returns-clause-steps g c =
     (made_by relations_listed first [] (first ∷ []) refl refl c.in_ok-insert_mapping.ensures.steps)
     (made_by relations_listed second (first ∷ []) (first ∷ second ∷ []) refl refl
     c.in_ok-insert_mapping-2.ensures.steps))
-    (made_by relations_listed third (first ∷ second ∷ []) mapping_relations refl refl c.insert_mapping-3.ensures.steps)
+    (made_by relations_listed third (first ∷ second ∷ []) mapping_relations refl refl
+    c.insert_mapping-3.ensures.steps)
 
 pub returns-in_err-insert_mapping-clause-steps : goal.returns-in_err-insert_mapping-clause-steps
 returns-in_err-insert_mapping-clause-steps g c = steps_failed _ c.from_residual.ensures.0 c.insert_mapping.ensures.steps
@@ -32,4 +33,5 @@ returns-in_err-insert_mapping-2-clause-steps g c =
     steps_failed _ c.from_residual-in_err-insert_mapping-2.ensures.0
     (made_then relations_listed [] (first ∷ []) (first ∷ second ∷ [])
     (made_by relations_listed first [] (first ∷ []) refl refl c.in_ok-insert_mapping.ensures.steps)
-    (made_by relations_listed second (first ∷ []) (first ∷ second ∷ []) refl refl c.insert_mapping-2.ensures.steps))
+    (made_by relations_listed second (first ∷ []) (first ∷ second ∷ []) refl refl
+    c.insert_mapping-2.ensures.steps))

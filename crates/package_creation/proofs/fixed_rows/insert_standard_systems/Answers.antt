@@ -25,7 +25,8 @@ returns-clause-steps g c =
     (entered_by systems_listed cartesian [] (cartesian ∷ []) refl refl one.wrote one.survives)
     (entered_by systems_listed geographic (cartesian ∷ []) (cartesian ∷ geographic ∷ []) refl refl two.wrote
     two.survives))
-    (entered_by systems_listed wgs (cartesian ∷ geographic ∷ []) standard_systems refl refl three.wrote three.survives)
+    (entered_by systems_listed wgs (cartesian ∷ geographic ∷ []) standard_systems refl refl three.wrote
+    three.survives)
 
 pub returns-in_err-insert_spatial_ref_sys-clause-steps : goal.returns-in_err-insert_spatial_ref_sys-clause-steps
 returns-in_err-insert_spatial_ref_sys-clause-steps g c =

@@ -16,19 +16,17 @@ returns-clause-wrote g c clean begun =
     let row : ContentsRow = record {
       table_name = a.table_name.now;
       data_type = a.data_type.now;
-      identifier =
-          a.identifier.now;
+      identifier = a.identifier.now;
       description = a.description.now;
       last_change = a.last_change.now;
-      min_x =
-          a.min_x;
+      min_x = a.min_x;
       min_y = a.min_y;
       max_x = a.max_x;
       max_y = a.max_y;
       srs_id = a.srs_id;
     } in
     enters contents_listed row contents_insert_text (contents_insert_row row)
-    (λ there. (Int (next_rowid there), refl, refl)) old new c.execute.result _ c.settled.ensures _
+    (λ there. (Int (next_rowid there), refl, refl)) old new c.execute.result _ c.drop_count.ensures _
     (rw (
       c.params-to_sql.ensures,
       c.params-to_sql-2.ensures,

@@ -15,17 +15,14 @@ returns-clause-wrote g c clean begun =
     let row : RelationRow = record {
       id = a.id;
       base_table_name = a.base_table_name.now;
-      base_primary_column =
-          a.base_primary_column.now;
+      base_primary_column = a.base_primary_column.now;
       related_table_name = a.related_table_name.now;
-      related_primary_column =
-          a.related_primary_column.now;
+      related_primary_column = a.related_primary_column.now;
       relation_name = a.relation_name.now;
-      mapping_table_name =
-          a.mapping_table_name.now;
+      mapping_table_name = a.mapping_table_name.now;
     } in
     enters relations_listed row relation_insert_text (relation_insert_row row) (λ there. (Int (pos 0), refl, refl))
-    old new c.execute.result _ c.settled.ensures _
+    old new c.execute.result _ c.drop_count.ensures _
     (rw (
       c.params-to_sql.ensures,
       c.params-to_sql-2.ensures,

@@ -15,15 +15,13 @@ returns-clause-wrote g c clean begun =
     let row : SpatialRefSysRow = record {
       srs_name = a.srs_name.now;
       srs_id = a.srs_id;
-      organization =
-          a.organization.now;
+      organization = a.organization.now;
       organization_coordsys_id = a.organization_coordsys_id;
-      definition =
-          a.definition.now;
+      definition = a.definition.now;
       description = a.description.now;
     } in
     enters systems_listed row spatial_ref_sys_insert_text (spatial_ref_sys_insert_row row)
-    (λ there. (Int (pos 0), refl, refl)) old new c.execute.result _ c.settled.ensures _
+    (λ there. (Int (pos 0), refl, refl)) old new c.execute.result _ c.drop_count.ensures _
     (rw (
       c.params-to_sql.ensures,
       c.params-to_sql-2.ensures,

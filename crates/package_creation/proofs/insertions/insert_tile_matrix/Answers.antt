@@ -16,17 +16,15 @@ returns-clause-wrote g c clean begun =
     let row : TileMatrixRow = record {
       table_name = a.table_name.now;
       zoom_level = a.zoom_level;
-      matrix_width =
-          a.matrix_width;
+      matrix_width = a.matrix_width;
       matrix_height = a.matrix_height;
       tile_width = a.tile_width;
-      tile_height =
-          a.tile_height;
+      tile_height = a.tile_height;
       pixel_x_size = a.pixel_x_size;
       pixel_y_size = a.pixel_y_size;
     } in
     enters matrices_listed row tile_matrix_insert_text (tile_matrix_insert_row row)
-    (λ there. (Int (next_rowid there), refl, refl)) old new c.execute.result _ c.settled.ensures _
+    (λ there. (Int (next_rowid there), refl, refl)) old new c.execute.result _ c.drop_count.ensures _
     (rw (
       c.params-to_sql.ensures,
       c.params-to_sql-2.ensures,

@@ -17,13 +17,12 @@ returns-clause-wrote g c clean begun =
       table_name = a.table_name.now;
       srs_id = a.srs_id;
       min_x = a.min_x;
-      min_y =
-          a.min_y;
+      min_y = a.min_y;
       max_x = a.max_x;
       max_y = a.max_y;
     } in
     enters matrix_sets_listed row tile_matrix_set_insert_text (tile_matrix_set_insert_row row)
-    (λ there. (Int (next_rowid there), refl, refl)) old new c.execute.result _ c.settled.ensures _
+    (λ there. (Int (next_rowid there), refl, refl)) old new c.execute.result _ c.drop_count.ensures _
     (rw (
       c.params-to_sql.ensures,
       c.params-to_sql-2.ensures,

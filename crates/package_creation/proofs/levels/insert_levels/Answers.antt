@@ -1,4 +1,5 @@
-use Rattle.std.proofs.Common.{[], ◌∙◌, ◌≡◌, ◌+◌, ◌≤ℤ◌, ◌+ℤ◌, pos, refl, rules, arith, subst, to_z-of_z, unsigned_abs}
+use Rattle.std.proofs.Common.{[], ◌∙◌, ◌≡◌, ◌+◌, ◌≤ℤ◌, ◌+ℤ◌, pos, refl, rules, arith}
+use Rattle.std.proofs.Common.{subst, to_z-of_z, unsigned_abs}
 use Rattle.std.proofs.Common.{FitsSigned, w64}
 use Rattle.sqlite.specs.Held.{state}
 use Rattle.matrix_rules.proofs.Frames.{good_frame}

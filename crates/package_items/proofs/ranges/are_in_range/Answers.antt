@@ -34,8 +34,7 @@ returns g c = says_last {P = λ (t : Tables). ArePairsInRange t}
     c.all_pairs_in_range.ensures (λ t h p. record {
       tiles = h.0.tiles;
       media = h.0.media;
-      rows =
-          h.0.rows;
+      rows = h.0.rows;
       identities = h.1;
       tiles_media = p.tiles_media;
       rows_media = p.rows_media;

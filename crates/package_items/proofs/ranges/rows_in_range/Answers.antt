@@ -1,5 +1,6 @@
 -- One row more is in its ranges.
-use Rattle.std.proofs.Common.{◌≡◌, ◌∙◌, Ok, true, false, true≢false, sym, ap, to_z-of_z, rules, FitsSigned, w64}
+use Rattle.std.proofs.Common.{◌≡◌, ◌∙◌, Ok, true, false, true≢false, sym, ap, to_z-of_z, rules}
+use Rattle.std.proofs.Common.{FitsSigned, w64}
 use Rattle.store_sql.proofs.Staying.{looks_stays, stays_then}
 use Rattle.identity_register.proofs.Reaching.{stays_itself, goes_from, goes_on}
 use Rattle.package_items.specs.Answers.{Decides}

@@ -43,7 +43,8 @@ returns g c =
     c.read_names.ensures in
     let rows = looked_then (λ t x. IsPermutation (row_keys t) x.items) names c.in_ok-rows.was c.read_rows.ensures in
     let first = looked_then (λ t x. ArePairs TilesMedia t x.items) rows c.in_ok-tiles_media.was c.all_pairs.ensures in
-    let second = looked_then (λ t x. ArePairs RowsMedia t x.items) first c.in_ok-rows_media.was c.all_pairs-2.ensures in
+    let second = looked_then (λ t x. ArePairs RowsMedia t x.items) first c.in_ok-rows_media.was
+    c.all_pairs-2.ensures in
     tells AreKeysOf (looked_then (λ t x. ArePairs RowsTiles t x.items) second c.in_ok-rows_tiles.was
     c.all_pairs-3.ensures)
     (λ t h. record {
@@ -51,8 +52,7 @@ returns g c =
       rows = h.0.0.0.1;
       tiles_media = h.0.0.1.0;
       rows_media = h.0.1.0;
-      rows_tiles =
-          h.1.0;
+      rows_tiles = h.1.0;
     })
 
 -- a look that failed leaves the store as it was too

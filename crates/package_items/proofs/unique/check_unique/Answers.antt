@@ -17,8 +17,7 @@ returns g c =
       numbers = before.0.numbers;
       uuids = before.0.uuids;
       places = before.1;
-      tiles_media =
-          last.tiles_media;
+      tiles_media = last.tiles_media;
       rows_media = last.rows_media;
       rows_tiles = last.rows_tiles;
     })

@@ -17,8 +17,7 @@ returns g c =
     c.see_rows.result (both_so _ _ c.see_rows.result c.see_rows.ensures.numbers c.see_rows.ensures.uuids)
     (λ t all apart. let moves = subst (IsPermutation t.identities) (sym c.deref.ensures.value) all.0 in record {
       numbers = rows_moved t.identities found moves apart.0;
-      uuids =
-          uuids_moved t.identities found moves apart.1;
+      uuids = uuids_moved t.identities found moves apart.1;
     })
 
 -- a look that failed leaves the store as it was too

@@ -1,5 +1,6 @@
 -- One tile more is noted, and in the end all are.
-use Rattle.std.proofs.Common.{◌≡◌, ◌∙◌, [], ◌∷◌, ◌++◌, false, Ok, sym, ap, subst, to_z-of_z, rules, FitsSigned, w64}
+use Rattle.std.proofs.Common.{◌≡◌, ◌∙◌, [], ◌∷◌, ◌++◌, false, Ok, sym, ap, subst, to_z-of_z}
+use Rattle.std.proofs.Common.{rules, FitsSigned, w64}
 use Rattle.std.specs.List.{AllByRecursion, IsDistinct}
 use Rattle.package_tables.specs.Package.{Tables}
 use Rattle.sheet_types.proofs.Every.{All-weaker, All-of_map}

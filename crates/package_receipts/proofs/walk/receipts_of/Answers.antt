@@ -1,4 +1,5 @@
-use Rattle.std.proofs.Common.{◌≡◌, ◌∙◌, suc, ◌∷◌, [], sym, ap, subst, length, FitsSigned, w64, to_z-of_z, rules, arith}
+use Rattle.std.proofs.Common.{◌≡◌, ◌∙◌, suc, ◌∷◌, [], sym, ap, subst, length, FitsSigned, w64}
+use Rattle.std.proofs.Common.{to_z-of_z, rules, arith}
 use Rattle.std.specs.Vec.Iter.{into_iter_items, into_iter_len}
 use Rattle.package_receipts.proofs.Walking.{SoFar, IsCut, cut_at, went_on, refused, ended, left_over, none_long}
 use Rattle.package_receipts.proofs.Walking.{none_there}

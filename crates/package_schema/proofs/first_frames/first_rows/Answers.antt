@@ -31,11 +31,9 @@ returns g c =
     sees (λ db found. AreFormedAt (pos 1) db → AreRead (tables_of db) found) related
     (λ db told formed. record {
       systems = told.0.0.0.0 formed.spatial_ref_sys;
-      listed =
-          told.0.0.0.1 formed.contents;
+      listed = told.0.0.0.1 formed.contents;
       sets = told.0.0.1 formed.tile_matrix_set;
-      levels =
-          told.0.1 formed.tile_matrix;
+      levels = told.0.1 formed.tile_matrix;
       related = told.1 formed.relations;
     })
 

@@ -26,8 +26,7 @@ returns c =
         listed = h.0.1;
         sets = h.0.2;
         levels = h.0.3;
-        related =
-            h.1;
+        related = h.1;
       },
       λ are. all.1 ((are.systems, are.listed, are.sets, are.levels), are.related),
     )

@@ -1,4 +1,5 @@
-use Rattle.std.proofs.Common.{◌≡◌, ◌∙◌, length, pos, Some, sym, ap, rules, arith, FitsSigned, w64, to_z, to_z-of_z}
+use Rattle.std.proofs.Common.{◌≡◌, ◌∙◌, length, pos, Some, sym, ap, rules, arith, FitsSigned, w64, to_z}
+use Rattle.std.proofs.Common.{to_z-of_z}
 use Rattle.std.specs.Cmp.{unsigned_Decides}
 use Rattle.package_schema.proofs.Levelling.{candidate_is, counted, level_numbers}
 use Rattle.package_schema.proofs.frame_rows.candidate.Goals.{then-sets-ne1-via-then-sets-ne1}

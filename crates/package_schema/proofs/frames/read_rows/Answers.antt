@@ -9,11 +9,13 @@ use Rattle.package_schema.proofs.frames.read_rows.Goals as goal
 
 pub returns : goal.returns
 returns g c =
-    let systems = seen (λ db found. AreFormed db → AreAll (on (λ x. x.srs_id) int_cmp) (tables_of db).spatial_ref_sys
+    let systems = seen (λ db found. AreFormed db → AreAll (on (λ x. x.srs_id) int_cmp)
+    (tables_of db).spatial_ref_sys
     found.items) c.in_ok-systems.was c.all_spatial_ref_sys.ensures in
     let listed = seen_then (λ db found. AreFormed db → AreThose (λ _. true) (tables_of db).contents found.items)
     systems c.in_ok-listed.was c.all_contents.ensures in
-    let sets = seen_then (λ db found. AreFormed db → AreThose (λ _. true) (tables_of db).tile_matrix_set found.items)
+    let sets = seen_then (λ db found. AreFormed db → AreThose (λ _. true) (tables_of db).tile_matrix_set
+    found.items)
     listed c.in_ok-sets.was c.all_tile_matrix_sets.ensures in
     let levels = seen_then (λ db found. AreFormed db → AreAll (on (λ x. x.zoom_level) int_cmp)
     (tables_of db).tile_matrix found.items) sets c.in_ok-levels.was c.all_tile_matrices.ensures in
@@ -23,8 +25,7 @@ returns g c =
     (λ db told formed. record {
       systems = told.0.0.0.0 formed;
       listed = told.0.0.0.1 formed;
-      sets =
-          told.0.0.1 formed;
+      sets = told.0.0.1 formed;
       levels = told.0.1 formed;
       related = told.1 formed;
     })

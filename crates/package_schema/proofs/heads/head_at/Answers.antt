@@ -27,7 +27,8 @@ returns g c =
     (told.0.1.0 there) c.in_ok-rows.rows.items told.1 c.read_rows.result
     (subst (λ rows. IfSome c.read_rows.result (λ h. IsHeadOfAt (version_number c.args.version) rows (head_said h)))
     c.deref.ensures.value c.read_rows.ensures.some)
-    (subst (λ rows. IfNone c.read_rows.result ((h : Head) → IsHeadOfAt (version_number c.args.version) rows h → ⊥))
+    (subst (λ rows. IfNone c.read_rows.result ((h : Head) → IsHeadOfAt (version_number c.args.version) rows h
+    → ⊥))
     c.deref.ensures.value c.read_rows.ensures.none))
 
 -- a look that failed leaves the store as it was too

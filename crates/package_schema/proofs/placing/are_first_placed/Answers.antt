@@ -9,7 +9,8 @@ pub returns : goal.returns
 returns g c =
     sees_schema (λ s found. IsTrue found ↔ AreFirstPlaced s)
     (seen (λ _ _. ⊤) c.in_ok-answer_nothing.was c.answer_nothing.ensures) c.schema.ensures.live
-    (subst (λ s. IsTrue c.has_first_tables.result ↔ AreFirstPlaced s) c.schema.ensures.value c.has_first_tables.ensures)
+    (subst (λ s. IsTrue c.has_first_tables.result ↔ AreFirstPlaced s) c.schema.ensures.value
+    c.has_first_tables.ensures)
 
 -- a look that failed leaves the store as it was too
 pub returns-in_err-answer_nothing : goal.returns-in_err-answer_nothing

@@ -7,4 +7,5 @@ pub returns : goal.returns
 returns g c =
     let e = c.query_all.ensures in
     looks_in_order known all (λ rows. rows.items) _ refl g.S.Store g.met.S.Store.shut_if_dirty g.met.S.Store.settled
-    c.args.conn.now c.query_all.new.self c.requires c.query_all.result e.ok e.err e.mode e.survives (λ x. refl) all_ranked (λ found. found.items) c.all_of.result c.all_of.ensures.values
+    c.args.conn.now c.query_all.new.self c.requires c.query_all.result e.ok e.err e.mode e.survives (λ x. refl)
+    all_ranked (λ found. found.items) c.all_of.result c.all_of.ensures.values

@@ -15,5 +15,7 @@ returns-clause-wrote g c clean begun =
     let a = c.args in
     let old = state g.S.Store a.tx.now.conn.now in
     let new = state g.S.Store c.execute.new.self.conn.now in
-    leaves attributes_listed (λ r. is_same (column r 0) (Int a.id)) (λ x. int_eq x.id a.id) (λ v x. (same_number x.id a.id)) delete_text delete_plan _ refl (λ spelling. refl) old new c.execute.result _ c.settled.ensures
+    leaves attributes_listed (λ r. is_same (column r 0) (Int a.id)) (λ x. int_eq x.id a.id)
+    (λ v x. (same_number x.id a.id)) delete_text delete_plan _ refl (λ spelling. refl) old new c.execute.result
+    _ c.drop_count.ensures
     (simp (to_z-of_z, c.ranges.id) at (rw (c.params-to_sql.ensures) at (c.execute.ensures.runs clean begun)))

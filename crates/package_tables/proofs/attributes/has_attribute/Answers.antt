@@ -7,5 +7,8 @@ use Rattle.package_tables.proofs.attributes.has_attribute.Goals as goal
 pub returns : goal.returns
 returns g c =
     let e = c.query_all.ensures in
-    looks_any attributes_listed (has_attribute c.args.id) (λ rows. rows.items) _ (rw (c.params-to_sql.ensures) (simp (to_z-of_z, c.ranges.id) refl)) g.S.Store g.met.S.Store.shut_if_dirty g.met.S.Store.settled
-    c.args.conn.now c.query_all.new.self c.requires c.query_all.result e.ok e.err e.mode e.survives c.has_any.result c.has_any.ensures.any
+    looks_any attributes_listed (has_attribute c.args.id) (λ rows. rows.items) _
+    (rw (c.params-to_sql.ensures) (simp (to_z-of_z, c.ranges.id) refl)) g.S.Store g.met.S.Store.shut_if_dirty
+    g.met.S.Store.settled
+    c.args.conn.now c.query_all.new.self c.requires c.query_all.result e.ok e.err e.mode e.survives c.has_any.result
+    c.has_any.ensures.any

@@ -13,6 +13,13 @@ returns-clause-wrote g c clean begun =
     let old = state g.S.Store a.tx.now.conn.now in
     let new = state g.S.Store c.execute.new.self.conn.now in
     let row : AttributeRow = record { id = a.id; x = a.x; y = a.y; code = a.code; label = a.label.now } in
-    enters attributes_listed row insert_text (insert_row row) (λ there. (Int (pos 0), refl, refl)) old new c.execute.result _ c.settled.ensures _
-    (rw (c.params-to_sql.ensures, c.params-to_sql-2.ensures, c.params-to_sql-3.ensures, c.params-to_sql-4.ensures, c.params-to_sql-5.ensures) (simp (to_z-of_z, c.ranges.id, c.ranges.x, c.ranges.y, c.ranges.code) refl))
+    enters attributes_listed row insert_text (insert_row row) (λ there. (Int (pos 0), refl, refl)) old new
+    c.execute.result _ c.drop_count.ensures _
+    (rw (
+      c.params-to_sql.ensures,
+      c.params-to_sql-2.ensures,
+      c.params-to_sql-3.ensures,
+      c.params-to_sql-4.ensures,
+      c.params-to_sql-5.ensures,
+    ) (simp (to_z-of_z, c.ranges.id, c.ranges.x, c.ranges.y, c.ranges.code) refl))
     (c.execute.ensures.runs clean begun)

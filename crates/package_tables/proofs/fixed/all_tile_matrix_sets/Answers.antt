@@ -6,5 +6,7 @@ use Rattle.package_tables.proofs.fixed.all_tile_matrix_sets.Goals as goal
 pub returns : goal.returns
 returns g c =
     let e = c.query_all.ensures in
-    looks_all tile_matrix_set_known all_tile_matrix_sets (λ rows. rows.items) _ refl g.S.Store g.met.S.Store.shut_if_dirty g.met.S.Store.settled
-    c.args.conn.now c.query_all.new.self c.requires c.query_all.result e.ok e.err e.mode e.survives (λ found. found.items) c.all_of.result c.all_of.ensures.values
+    looks_all tile_matrix_set_known all_tile_matrix_sets (λ rows. rows.items) _ refl g.S.Store
+    g.met.S.Store.shut_if_dirty g.met.S.Store.settled
+    c.args.conn.now c.query_all.new.self c.requires c.query_all.result e.ok e.err e.mode e.survives
+    (λ found. found.items) c.all_of.result c.all_of.ensures.values

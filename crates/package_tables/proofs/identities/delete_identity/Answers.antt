@@ -16,5 +16,9 @@ returns-clause-wrote g c clean begun =
     let a = c.args in
     let old = state g.S.Store a.tx.now.conn.now in
     let new = state g.S.Store c.execute.new.self.conn.now in
-    leaves identities_listed (λ r. is_same (column r 1) (Int a.kind) && is_same (column r 2) (Int a.local_id)) (λ x. int_eq x.kind a.kind && int_eq x.local_id a.local_id) (λ v x. (both_same (same_number x.kind a.kind) (same_number x.local_id a.local_id))) delete_text delete_plan _ refl (λ spelling. refl) old new c.execute.result _ c.settled.ensures
-    (simp (to_z-of_z, c.ranges.kind, c.ranges.local_id) at (rw (c.params-to_sql.ensures, c.params-to_sql-2.ensures) at (c.execute.ensures.runs clean begun)))
+    leaves identities_listed (λ r. is_same (column r 1) (Int a.kind) && is_same (column r 2) (Int a.local_id))
+    (λ x. int_eq x.kind a.kind && int_eq x.local_id a.local_id)
+    (λ v x. (both_same (same_number x.kind a.kind) (same_number x.local_id a.local_id))) delete_text delete_plan
+    _ refl (λ spelling. refl) old new c.execute.result _ c.drop_count.ensures
+    (simp (to_z-of_z, c.ranges.kind, c.ranges.local_id) at (rw (c.params-to_sql.ensures, c.params-to_sql-2.ensures) at
+    (c.execute.ensures.runs clean begun)))

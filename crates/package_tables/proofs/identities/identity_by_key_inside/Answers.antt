@@ -7,5 +7,8 @@ use Rattle.package_tables.proofs.identities.identity_by_key_inside.Goals as goal
 pub returns-clause-told : goal.returns-clause-told
 returns-clause-told g c =
     let e = c.query_all.ensures in
-    tells_one known (identity_by_key c.args.kind c.args.local_id) (λ rows. rows.items) _ (rw (c.params-to_sql.ensures, c.params-to_sql-2.ensures) (simp (to_z-of_z, c.ranges.kind, c.ranges.local_id) refl))
-    (state g.S.Store c.args.tx.now.conn.now) (state g.S.Store c.query_all.new.self.conn.now) c.query_all.result e.ok e.err c.first_of.result c.first_of.ensures.first
+    tells_one known (identity_by_key c.args.kind c.args.local_id) (λ rows. rows.items) _
+    (rw (c.params-to_sql.ensures, c.params-to_sql-2.ensures)
+    (simp (to_z-of_z, c.ranges.kind, c.ranges.local_id) refl))
+    (state g.S.Store c.args.tx.now.conn.now) (state g.S.Store c.query_all.new.self.conn.now) c.query_all.result e.ok
+    e.err c.first_of.result c.first_of.ensures.first

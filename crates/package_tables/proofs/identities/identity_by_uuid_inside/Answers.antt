@@ -8,4 +8,5 @@ pub returns-clause-told : goal.returns-clause-told
 returns-clause-told g c =
     let e = c.query_all.ensures in
     tells_one known (identity_by_uuid c.args.uuid.now) (λ rows. rows.items) _ (rw (c.params-to_sql.ensures) refl)
-    (state g.S.Store c.args.tx.now.conn.now) (state g.S.Store c.query_all.new.self.conn.now) c.query_all.result e.ok e.err c.first_of.result c.first_of.ensures.first
+    (state g.S.Store c.args.tx.now.conn.now) (state g.S.Store c.query_all.new.self.conn.now) c.query_all.result e.ok
+    e.err c.first_of.result c.first_of.ensures.first

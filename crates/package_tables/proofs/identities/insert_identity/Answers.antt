@@ -14,6 +14,8 @@ returns-clause-wrote g c clean begun =
     let old = state g.S.Store a.tx.now.conn.now in
     let new = state g.S.Store c.execute.new.self.conn.now in
     let row : IdentityRow = record { kind = a.kind; local_id = a.local_id; uuid = a.uuid.now } in
-    enters identities_listed row insert_text (insert_row row) (λ there. (Int (next_rowid there), refl, refl)) old new c.execute.result _ c.settled.ensures _
-    (rw (c.params-to_sql.ensures, c.params-to_sql-2.ensures, c.params-to_sql-3.ensures) (simp (to_z-of_z, c.ranges.kind, c.ranges.local_id) refl))
+    enters identities_listed row insert_text (insert_row row) (λ there. (Int (next_rowid there), refl, refl)) old new
+    c.execute.result _ c.drop_count.ensures _
+    (rw (c.params-to_sql.ensures, c.params-to_sql-2.ensures, c.params-to_sql-3.ensures)
+    (simp (to_z-of_z, c.ranges.kind, c.ranges.local_id) refl))
     (c.execute.ensures.runs clean begun)

@@ -15,6 +15,8 @@ returns-clause-wrote g c clean begun =
     let old = state g.S.Store a.tx.now.conn.now in
     let new = state g.S.Store c.execute.new.self.conn.now in
     let row : MappingRow = record { base_id = a.base_id; related_id = a.related_id } in
-    enters (pairs_listed m) row (inserts m) (inserts_row m row) (λ there. (Int (next_rowid there), refl, refl)) old new c.execute.result _ c.settled.ensures _
-    (rw (c.params-to_sql.ensures, c.params-to_sql-2.ensures) (simp (to_z-of_z, c.ranges.base_id, c.ranges.related_id) refl))
+    enters (pairs_listed m) row (inserts m) (inserts_row m row) (λ there. (Int (next_rowid there), refl, refl)) old
+    new c.execute.result _ c.drop_count.ensures _
+    (rw (c.params-to_sql.ensures, c.params-to_sql-2.ensures)
+    (simp (to_z-of_z, c.ranges.base_id, c.ranges.related_id) refl))
     (rw c.insert_text.ensures at (c.execute.ensures.runs clean begun))

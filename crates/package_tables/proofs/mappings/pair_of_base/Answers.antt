@@ -7,5 +7,8 @@ pub returns : goal.returns
 returns g c =
     let m = c.args.mapping in
     let e = rw c.of_base_text.ensures at c.query_all.ensures in
-    looks_one (known m) (of_base m c.args.base_id) (λ rows. rows.items) _ (rw (c.params-to_sql.ensures) (simp (to_z-of_z, c.ranges.base_id) refl)) g.S.Store g.met.S.Store.shut_if_dirty g.met.S.Store.settled
-    c.args.conn.now c.query_all.new.self c.requires c.query_all.result e.ok e.err e.mode e.survives c.first_of.result c.first_of.ensures.first
+    looks_one (known m) (of_base m c.args.base_id) (λ rows. rows.items) _
+    (rw (c.params-to_sql.ensures) (simp (to_z-of_z, c.ranges.base_id) refl)) g.S.Store g.met.S.Store.shut_if_dirty
+    g.met.S.Store.settled
+    c.args.conn.now c.query_all.new.self c.requires c.query_all.result e.ok e.err e.mode e.survives c.first_of.result
+    c.first_of.ensures.first

@@ -7,5 +7,8 @@ pub returns : goal.returns
 returns g c =
     let m = c.args.mapping in
     let e = rw c.of_related_text.ensures at c.query_all.ensures in
-    looks_all (known m) (of_related m c.args.related_id) (λ rows. rows.items) _ (rw (c.params-to_sql.ensures) (simp (to_z-of_z, c.ranges.related_id) refl)) g.S.Store g.met.S.Store.shut_if_dirty g.met.S.Store.settled
-    c.args.conn.now c.query_all.new.self c.requires c.query_all.result e.ok e.err e.mode e.survives (λ found. found.items) c.all_of.result c.all_of.ensures.values
+    looks_all (known m) (of_related m c.args.related_id) (λ rows. rows.items) _
+    (rw (c.params-to_sql.ensures) (simp (to_z-of_z, c.ranges.related_id) refl)) g.S.Store
+    g.met.S.Store.shut_if_dirty g.met.S.Store.settled
+    c.args.conn.now c.query_all.new.self c.requires c.query_all.result e.ok e.err e.mode e.survives
+    (λ found. found.items) c.all_of.result c.all_of.ensures.values

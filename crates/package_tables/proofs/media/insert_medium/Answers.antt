@@ -13,6 +13,8 @@ returns-clause-wrote g c clean begun =
     let old = state g.S.Store a.tx.now.conn.now in
     let new = state g.S.Store c.execute.new.self.conn.now in
     let row : MediaRow = record { id = a.id; «data» = a.data.now; content_type = a.content_type.now } in
-    enters media_listed row insert_text (insert_row row) (λ there. (Int (pos 0), refl, refl)) old new c.execute.result _ c.settled.ensures _
-    (rw (c.params-to_sql.ensures, c.params-to_sql-2.ensures, c.params-to_sql-3.ensures) (simp (to_z-of_z, c.ranges.id) refl))
+    enters media_listed row insert_text (insert_row row) (λ there. (Int (pos 0), refl, refl)) old new
+    c.execute.result _ c.drop_count.ensures _
+    (rw (c.params-to_sql.ensures, c.params-to_sql-2.ensures, c.params-to_sql-3.ensures)
+    (simp (to_z-of_z, c.ranges.id) refl))
     (c.execute.ensures.runs clean begun)

@@ -13,7 +13,25 @@ returns-clause-wrote g c clean begun =
     let a = c.args in
     let old = state g.S.Store a.tx.now.conn.now in
     let new = state g.S.Store c.execute.new.self.conn.now in
-    let row : MovedRow = record { seq = a.seq; position = a.position; kind = a.kind; base = a.base.now; other = a.other.now; size = a.size; fingerprint = a.fingerprint.now } in
-    enters moved_listed row insert_text (insert_row row) (λ there. (Int (next_rowid there), refl, refl)) old new c.execute.result _ c.settled.ensures _
-    (rw (c.params-to_sql.ensures, c.params-to_sql-2.ensures, c.params-to_sql-3.ensures, c.params-to_sql-4.ensures, c.params-to_sql-5.ensures, c.params-to_sql-6.ensures, c.params-to_sql-7.ensures) (simp (to_z-of_z, c.ranges.seq, c.ranges.position, c.ranges.kind, c.ranges.size) refl))
+    let row : MovedRow = record {
+      seq = a.seq;
+      position = a.position;
+      kind = a.kind;
+      base = a.base.now;
+      other = a.other.now;
+      size = a.size;
+      fingerprint = a.fingerprint.now;
+    } in
+    enters moved_listed row insert_text (insert_row row) (λ there. (Int (next_rowid there), refl, refl)) old new
+    c.execute.result _ c.drop_count.ensures _
+    (rw (
+      c.params-to_sql.ensures,
+      c.params-to_sql-2.ensures,
+      c.params-to_sql-3.ensures,
+      c.params-to_sql-4.ensures,
+      c.params-to_sql-5.ensures,
+      c.params-to_sql-6.ensures,
+      c.params-to_sql-7.ensures,
+    )
+    (simp (to_z-of_z, c.ranges.seq, c.ranges.position, c.ranges.kind, c.ranges.size) refl))
     (c.execute.ensures.runs clean begun)

@@ -6,5 +6,8 @@ use Rattle.package_tables.proofs.moved.moved_of_kind.Goals as goal
 pub returns : goal.returns
 returns g c =
     let e = c.query_all.ensures in
-    looks_one moved_known (moved_of_kind c.args.base.now c.args.kind) (λ rows. rows.items) _ (rw (c.params-to_sql.ensures, c.params-to_sql-2.ensures) (simp (to_z-of_z, c.ranges.kind))) g.S.Store g.met.S.Store.shut_if_dirty g.met.S.Store.settled
-    c.args.conn.now c.query_all.new.self c.requires c.query_all.result e.ok e.err e.mode e.survives c.first_of.result c.first_of.ensures.first
+    looks_one moved_known (moved_of_kind c.args.base.now c.args.kind) (λ rows. rows.items) _
+    (rw (c.params-to_sql.ensures, c.params-to_sql-2.ensures) (simp (to_z-of_z, c.ranges.kind))) g.S.Store
+    g.met.S.Store.shut_if_dirty g.met.S.Store.settled
+    c.args.conn.now c.query_all.new.self c.requires c.query_all.result e.ok e.err e.mode e.survives c.first_of.result
+    c.first_of.ensures.first

@@ -6,5 +6,8 @@ use Rattle.package_tables.proofs.receipts.receipt_after.Goals as goal
 pub returns : goal.returns
 returns g c =
     let e = c.query_all.ensures in
-    looks_next receipts_known (receipt_after c.args.seq) (λ rows. rows.items) _ (rw (c.params-to_sql.ensures) (simp (to_z-of_z, c.ranges.seq) refl)) g.S.Store g.met.S.Store.shut_if_dirty g.met.S.Store.settled
-    c.args.conn.now c.query_all.new.self c.requires c.query_all.result e.ok e.err e.mode e.survives c.first_of.result c.first_of.ensures.first
+    looks_next receipts_known (receipt_after c.args.seq) (λ rows. rows.items) _
+    (rw (c.params-to_sql.ensures) (simp (to_z-of_z, c.ranges.seq) refl)) g.S.Store g.met.S.Store.shut_if_dirty
+    g.met.S.Store.settled
+    c.args.conn.now c.query_all.new.self c.requires c.query_all.result e.ok e.err e.mode e.survives c.first_of.result
+    c.first_of.ensures.first

@@ -12,7 +12,26 @@ returns-clause-wrote g c clean begun =
     let a = c.args in
     let old = state g.S.Store a.tx.now.conn.now in
     let new = state g.S.Store c.execute.new.self.conn.now in
-    let row : TileRow = record { id = a.id; zoom_level = a.zoom_level; tile_column = a.tile_column; tile_row = a.tile_row; tile_data = a.tile_data.now } in
-    enters tiles_listed row insert_text (insert_row row) (λ there. (Int (pos 0), refl, refl)) old new c.execute.result _ c.settled.ensures _
-    (rw (c.params-to_sql.ensures, c.params-to_sql-2.ensures, c.params-to_sql-3.ensures, c.params-to_sql-4.ensures, c.params-to_sql-5.ensures) (simp (to_z-of_z, c.ranges.id, c.ranges.zoom_level, c.ranges.tile_column, c.ranges.tile_row) refl))
+    let row : TileRow = record {
+      id = a.id;
+      zoom_level = a.zoom_level;
+      tile_column = a.tile_column;
+      tile_row = a.tile_row;
+      tile_data = a.tile_data.now;
+    } in
+    enters tiles_listed row insert_text (insert_row row) (λ there. (Int (pos 0), refl, refl)) old new
+    c.execute.result _ c.drop_count.ensures _
+    (rw (
+      c.params-to_sql.ensures,
+      c.params-to_sql-2.ensures,
+      c.params-to_sql-3.ensures,
+      c.params-to_sql-4.ensures,
+      c.params-to_sql-5.ensures,
+    ) (simp (
+      to_z-of_z,
+      c.ranges.id,
+      c.ranges.zoom_level,
+      c.ranges.tile_column,
+      c.ranges.tile_row,
+    ) refl))
     (c.execute.ensures.runs clean begun)

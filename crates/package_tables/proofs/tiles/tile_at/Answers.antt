@@ -6,5 +6,9 @@ use Rattle.package_tables.proofs.tiles.tile_at.Goals as goal
 pub returns : goal.returns
 returns g c =
     let e = c.query_all.ensures in
-    looks_one known (tile_at c.args.zoom_level c.args.tile_column c.args.tile_row) (λ rows. rows.items) _ (rw (c.params-to_sql.ensures, c.params-to_sql-2.ensures, c.params-to_sql-3.ensures) (simp (to_z-of_z, c.ranges.zoom_level, c.ranges.tile_column, c.ranges.tile_row) refl)) g.S.Store g.met.S.Store.shut_if_dirty g.met.S.Store.settled
-    c.args.conn.now c.query_all.new.self c.requires c.query_all.result e.ok e.err e.mode e.survives c.first_of.result c.first_of.ensures.first
+    looks_one known (tile_at c.args.zoom_level c.args.tile_column c.args.tile_row) (λ rows. rows.items) _
+    (rw (c.params-to_sql.ensures, c.params-to_sql-2.ensures, c.params-to_sql-3.ensures)
+    (simp (to_z-of_z, c.ranges.zoom_level, c.ranges.tile_column, c.ranges.tile_row) refl)) g.S.Store
+    g.met.S.Store.shut_if_dirty g.met.S.Store.settled
+    c.args.conn.now c.query_all.new.self c.requires c.query_all.result e.ok e.err e.mode e.survives c.first_of.result
+    c.first_of.ensures.first

@@ -8,4 +8,5 @@ pub returns : goal.returns
 returns g c =
     let e = c.query_all.ensures in
     looks_ids tiles_listed ids (λ rows. rows.items) _ refl g.S.Store g.met.S.Store.shut_if_dirty g.met.S.Store.settled
-    c.args.conn.now c.query_all.new.self c.requires c.query_all.result e.ok e.err e.mode e.survives (λ x. refl) refl (λ v x. refl) (λ found. found.items) c.numbers_of.result c.numbers_of.ensures.numbers
+    c.args.conn.now c.query_all.new.self c.requires c.query_all.result e.ok e.err e.mode e.survives (λ x. refl) refl
+    (λ v x. refl) (λ found. found.items) c.numbers_of.result c.numbers_of.ensures.numbers

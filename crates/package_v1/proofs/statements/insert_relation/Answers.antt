@@ -16,11 +16,9 @@ returns-clause-steps g c =
     let row : RelationRow = record {
       id = a.id;
       base_table_name = a.base.now;
-      base_primary_column =
-          a.base_column.now;
+      base_primary_column = a.base_column.now;
       related_table_name = a.related.now;
-      related_primary_column =
-          a.related_column.now;
+      related_primary_column = a.related_column.now;
       relation_name = a.name.now;
       mapping_table_name = a.mapping.now;
     } in

@@ -6,6 +6,5 @@ returns-in-Ok-create-clause-new g c =
     record {
       stands = c.in-Ok-create.ensures.made;
       opens = c.in-Ok-create.ensures.opens;
-      usable =
-          c.in-Ok-create.ensures.usable;
+      usable = c.in-Ok-create.ensures.usable;
     }

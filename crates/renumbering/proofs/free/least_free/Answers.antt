@@ -1,4 +1,5 @@
-use Rattle.std.proofs.Common.{◌≡◌, ℤ, pos, ◌+ℤ◌, ◌++◌, ◌∷◌, [], ◌≤◌, sym, subst, ap, ◌∙◌, length, w64, to_z, of_z}
+use Rattle.std.proofs.Common.{◌≡◌, ℤ, pos, ◌+ℤ◌, ◌++◌, ◌∷◌, [], ◌≤◌, sym, subst, ap}
+use Rattle.std.proofs.Common.{◌∙◌, length, w64, to_z, of_z}
 use Rattle.std.proofs.Common.{arith, length-append}
 use Rattle.std.specs.Ordering.{int_eq}
 use Rattle.std.specs.List.{list_any}
@@ -17,7 +18,8 @@ loop-key-preserved c =
     let key = to_z w64 c.loop-key.key-bits in
     let used = c.args.used.now in
     let before = c.loop-key.invariant.least in
-    let next : key +ℤ pos 1 ≡ to_z w64 (of_z w64 (key +ℤ pos 1)) = next_key key before.from c.loop-key-test.true in
+    let next : key +ℤ pos 1 ≡ to_z w64 (of_z w64 (key +ℤ pos 1)) =
+    next_key key before.from c.loop-key-test.true in
     let is : c.is_among.result ≡ list_any (int_eq key) used =
     c.is_among.ensures ∙ ap (list_any (int_eq key)) c.deref.ensures.value ∙ c.in_ok-taken.ensures.same key in
     elim c.if-not-is_among.branch [

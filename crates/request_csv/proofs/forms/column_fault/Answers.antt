@@ -6,4 +6,5 @@ use Rattle.request_csv.proofs.forms.column_fault.Goals as goal
 
 pub returns-clause-none : goal.returns-clause-none
 returns-clause-none c =
-    ok_none_then c.first_unmet.result (λ met. asked_by (fields_of c.args.row.now) c.form_of.result c.requires.whole c.form_of.ensures (rw c.columns_of.ensures at met)) c.first_unmet.ensures.none
+    ok_none_then c.first_unmet.result (λ met. asked_by (fields_of c.args.row.now) c.form_of.result c.requires.whole
+    c.form_of.ensures (rw c.columns_of.ensures at met)) c.first_unmet.ensures.none

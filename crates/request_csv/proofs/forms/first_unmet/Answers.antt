@@ -12,7 +12,9 @@ returns-then-not-branch-clause-some c =
     let k = c.loop-column.column in
     let low : k < length c.args.wants.now = search rules in
     let unmet : ¬ MeetsAt fields k (slice_index_or c.args.wants.now k ItsName) = search rules in
-    first_after fields 0 c.args.wants.now k k ItsName (record { column = k; want = slice_index_or c.args.wants.now k ItsName }) low (omega arith) c.loop-column.invariant unmet refl refl
+    first_after fields 0 c.args.wants.now k k ItsName (record
+    { column = k; want = slice_index_or c.args.wants.now k ItsName }) low (omega arith) c.loop-column.invariant
+    unmet refl refl
 
 pub loop-column-preserved : goal.loop-column-preserved
 loop-column-preserved c =

@@ -13,4 +13,5 @@ returns-then-len-texts c =
     let fields = fields_of c.args.row.now in
     fields_decided c.all.result fields c.args.texts.now (cc)
     (cases_from_all _ _ _ (λ p. IsTextAt fields p.0 p.1.now) (λ p. ¬ IsTextAt fields p.0 p.1.now) c.all.ensures.ran
-    (YieldsList-from_enumerate (YieldsList-from_slice c.args.texts.now cc) (cc)) (λ x q k. search (rules, tests)) (λ x q k. search (rules, tests)))
+    (YieldsList-from_enumerate (YieldsList-from_slice c.args.texts.now cc) (cc)) (λ x q k. search (rules, tests))
+    (λ x q k. search (rules, tests)))

@@ -26,7 +26,9 @@ loop-row-preserved g c =
     let s = rw (c.in-Some.is, c.in-Ok.is) at ((c.next.ensures.steps inv.left inv.plain).0 inv.ready) in
     let good : is_ok c.push.result ≡ true = search rules in
     let items = rw good at c.push.ensures.items in
-    let m = more_reached g.R.Read.remaining (g.R.Read.remaining c.args.reader) c.loop-row.row-iterator.rdr c.next.new.self.rdr (fields_of c.in-Ok.row) (map fields_of c.loop-row.rows.items) inv.config inv.reached s.0 in
+    let m = more_reached g.R.Read.remaining (g.R.Read.remaining c.args.reader) c.loop-row.row-iterator.rdr
+    c.next.new.self.rdr (fields_of c.in-Ok.row) (map fields_of c.loop-row.rows.items) inv.config inv.reached
+    s.0 in
     record {
       plain = s.0.3 ∙ inv.plain;
       ready = inl s.1;

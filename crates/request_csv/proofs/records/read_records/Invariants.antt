@@ -12,6 +12,7 @@ invariant-loop-row g l = record {
   ready : Ready l.row-iterator.rdr;
   left : 0 < l.row-iterator.left;
   config : l.row-iterator.rdr.config ≡ default_config;
-  reached : IfSome (g.R.Read.remaining l.fn.reader) (λ xs. (y : List ℕ) × (source_of g.R.Read.remaining l.row-iterator.rdr ≡ Some y)
+  reached : IfSome (g.R.Read.remaining l.fn.reader) (λ xs. (y : List ℕ)
+      × (source_of g.R.Read.remaining l.row-iterator.rdr ≡ Some y)
       × Reached default_config st.StartRecord (strip_bom xs) (map fields_of l.rows.items) l.row-iterator.rdr.state y);
 }

@@ -66,14 +66,11 @@ returns-in_err-send-clause-reported g c =
     (record {
       step = c.apply-reply.ensures.step;
       still = c.apply-reply.ensures.still;
-      unharmed =
-          c.apply-reply.ensures.unharmed;
+      unharmed = c.apply-reply.ensures.unharmed;
       rises = c.apply-reply.ensures.rises;
-      failed =
-          c.apply-reply.ensures.failed;
+      failed = c.apply-reply.ensures.failed;
       cause = c.apply-reply.ensures.cause;
-      usable =
-          c.apply-reply.ensures.usable;
+      usable = c.apply-reply.ensures.usable;
       shelf = c.apply-reply.ensures.shelf;
     })
     (used_for g.H.Shelf.asks g.H.Shelf.takes g.S.Store c.loop-at.world.members request _ _
@@ -106,14 +103,11 @@ returns-in-Some-clause-reported g c =
     (record {
       step = c.apply-reply.ensures.step;
       still = c.apply-reply.ensures.still;
-      unharmed =
-          c.apply-reply.ensures.unharmed;
+      unharmed = c.apply-reply.ensures.unharmed;
       rises = c.apply-reply.ensures.rises;
-      failed =
-          c.apply-reply.ensures.failed;
+      failed = c.apply-reply.ensures.failed;
       cause = c.apply-reply.ensures.cause;
-      usable =
-          c.apply-reply.ensures.usable;
+      usable = c.apply-reply.ensures.usable;
       shelf = c.apply-reply.ensures.shelf;
     })
     (used_for g.H.Shelf.asks g.H.Shelf.takes g.S.Store c.loop-at.world.members request _ _
@@ -149,14 +143,11 @@ loop-at-preserved g c =
           (record {
             step = c.apply-reply.ensures.step;
             still = c.apply-reply.ensures.still;
-            unharmed =
-                c.apply-reply.ensures.unharmed;
+            unharmed = c.apply-reply.ensures.unharmed;
             rises = c.apply-reply.ensures.rises;
-            failed =
-                c.apply-reply.ensures.failed;
+            failed = c.apply-reply.ensures.failed;
             cause = c.apply-reply.ensures.cause;
-            usable =
-                c.apply-reply.ensures.usable;
+            usable = c.apply-reply.ensures.usable;
             shelf = c.apply-reply.ensures.shelf;
           })
           (used_for g.H.Shelf.asks g.H.Shelf.takes g.S.Store c.loop-at.world.members request _ _

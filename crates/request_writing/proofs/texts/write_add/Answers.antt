@@ -1,5 +1,7 @@
-use Rattle.std.proofs.Common.{rules, FitsSigned, w64, sym, ◌≡◌, ◌∷◌, [], ℕ, List, IfOk, OnOk, Some, codes, map}
-use Rattle.std.proofs.Common.{string_bytes, ◌+◌, ◌-◌, ◌*◌, ◌<◌, ◌≤◌, length, ◌/◌, ◌%◌, Bool, true, false, nat_eq}
+use Rattle.std.proofs.Common.{rules, FitsSigned, w64, sym, ◌≡◌, ◌∷◌, [], ℕ, List, IfOk, OnOk, Some}
+use Rattle.std.proofs.Common.{codes, map}
+use Rattle.std.proofs.Common.{string_bytes, ◌+◌, ◌-◌, ◌*◌, ◌<◌, ◌≤◌, length, ◌/◌, ◌%◌}
+use Rattle.std.proofs.Common.{Bool, true, false, nat_eq}
 use Rattle.std.proofs.Common.{nat_lt, ◌++◌, slice_index_or, slice_set, bit_and, bit_or, Fits, w8, w32, Bor, MutBor}
 use Rattle.std.proofs.lemmas.Int.{to_z-of_z}
 use Rattle.std.specs.Fmt.{signed_decimal}

@@ -1,5 +1,7 @@
-use Rattle.std.proofs.Common.{rules, sym, ◌≡◌, ◌∷◌, [], ℕ, List, IfOk, OnOk, Some, codes, map, string_bytes, ◌+◌, ◌-◌}
-use Rattle.std.proofs.Common.{◌*◌, ◌<◌, ◌≤◌, length, ◌/◌, ◌%◌, Bool, true, false, nat_eq, nat_lt, ◌++◌}
+use Rattle.std.proofs.Common.{rules, sym, ◌≡◌, ◌∷◌, [], ℕ, List, IfOk, OnOk, Some, codes, map}
+use Rattle.std.proofs.Common.{string_bytes, ◌+◌, ◌-◌}
+use Rattle.std.proofs.Common.{◌*◌, ◌<◌, ◌≤◌, length, ◌/◌, ◌%◌, Bool, true, false, nat_eq}
+use Rattle.std.proofs.Common.{nat_lt, ◌++◌}
 use Rattle.std.proofs.Common.{slice_index_or, slice_set, bit_and, bit_or, Fits, w8, w32, w64, Bor, MutBor}
 use Rattle.std.specs.Fmt.{signed_decimal}
 use Rattle.std.specs.Io.KnownBytes.{Appends}

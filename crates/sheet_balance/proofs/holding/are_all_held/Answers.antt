@@ -11,10 +11,16 @@ use Rattle.sheet_balance.proofs.holding.are_all_held.Goals as goal
 
 pub returns-then-not-is_held : goal.returns-then-not-is_held
 returns-then-not-is_held c =
-    let k = btree_map_turn deref_pair c.loop-thing.yielded c.into_iter-thing-iterator.result c.loop-thing.thing-iterator c.next.new.self c.next.result (c.in-Some.thing, c.in-Some.place) c.loop-thing.yielded_by c.in-Some.is c.next.ensures.steps nat_list_cmp_total c.args.places.now (search rules) (search rules) in
-    says_no (λ all. denied c.is_held.result c.is_held.ensures c.if-not-is_held.true (λ some. all c.in-Some.thing.now (ap (λ o. is_some (option_and_then (λ p. p) o)) k.1 ∙ some)))
+    let k = btree_map_turn deref_pair c.loop-thing.yielded c.into_iter-thing-iterator.result
+    c.loop-thing.thing-iterator c.next.new.self c.next.result (c.in-Some.thing, c.in-Some.place)
+    c.loop-thing.yielded_by c.in-Some.is c.next.ensures.steps nat_list_cmp_total c.args.places.now
+    (search rules) (search rules) in
+    says_no (λ all. denied c.is_held.result c.is_held.ensures c.if-not-is_held.true
+    (λ some. all c.in-Some.thing.now (ap (λ o. is_some (option_and_then (λ p. p) o)) k.1 ∙ some)))
 
 pub returns : goal.returns
 returns c =
-    let nothing : c.loop-thing.thing-iterator ≡ [] = rest_all deref_pair c.loop-thing.thing-iterator c.next.new.self c.next.result c.in-None.is c.next.ensures.steps in
-    says_yes (found_held c.args.held.now c.args.places.now.entries (c.loop-thing.invariant.2 (subst (AllByRecursion (IsHeld c.args.held.now)) (sym nothing) tt)))
+    let nothing : c.loop-thing.thing-iterator ≡ [] = rest_all deref_pair c.loop-thing.thing-iterator c.next.new.self
+    c.next.result c.in-None.is c.next.ensures.steps in
+    says_yes (found_held c.args.held.now c.args.places.now.entries
+    (c.loop-thing.invariant.2 (subst (AllByRecursion (IsHeld c.args.held.now)) (sym nothing) tt)))

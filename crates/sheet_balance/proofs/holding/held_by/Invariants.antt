@@ -8,4 +8,5 @@ use Rattle.sheet_balance.proofs.holding.held_by.Given as goal
 
 -- what those so far hold
 abbrev pub invariant-loop-sight : goal.invariant-loop-sight
-invariant-loop-sight l = (thing : List ℕ) → contains (slice_cmp nat_cmp) l.held thing ≡ list_any (has_seen thing) (take l.sight-index l.sights)
+invariant-loop-sight l = (thing : List ℕ) → contains (slice_cmp nat_cmp) l.held thing
+    ≡ list_any (has_seen thing) (take l.sight-index l.sights)

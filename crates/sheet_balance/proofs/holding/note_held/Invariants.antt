@@ -8,4 +8,5 @@ use Rattle.sheet_balance.proofs.holding.note_held.Given as goal
 
 -- those so far are held
 abbrev pub invariant-loop-moved : goal.invariant-loop-moved
-invariant-loop-moved l = (thing : List ℕ) → contains (slice_cmp nat_cmp) l.held thing ≡ (contains (slice_cmp nat_cmp) l.initial.held thing || has moved_thing thing (take l.moved-index l.things))
+invariant-loop-moved l = (thing : List ℕ) → contains (slice_cmp nat_cmp) l.held thing
+    ≡ (contains (slice_cmp nat_cmp) l.initial.held thing || has moved_thing thing (take l.moved-index l.things))

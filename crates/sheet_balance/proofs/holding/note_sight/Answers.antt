@@ -12,7 +12,9 @@ pub returns : goal.returns
 returns c = λ thing.
     let s = c.args.sight.now in
     let old = contains (slice_cmp nat_cmp) c.args.held.now thing in
-    c.in_ok-note_held-2.ensures thing ∙ ap (λ b. b || has moved_thing thing c.as_slice-2.result.now) (c.in_ok-note_held.ensures thing)
-    ∙ ap (λ xs. (old || has moved_thing thing c.as_slice.result.now) || has moved_thing thing xs) c.as_slice-2.ensures
+    c.in_ok-note_held-2.ensures thing ∙ ap (λ b. b || has moved_thing thing c.as_slice-2.result.now)
+    (c.in_ok-note_held.ensures thing)
+    ∙ ap (λ xs. (old || has moved_thing thing c.as_slice.result.now) || has moved_thing thing xs)
+    c.as_slice-2.ensures
     ∙ ap (λ xs. (old || has moved_thing thing xs) || has moved_thing thing s.links) c.as_slice.ensures
     ∙ or_assoc old (has moved_thing thing s.items) (has moved_thing thing s.links)

@@ -6,4 +6,5 @@ use Rattle.sheet_balance.proofs.holding.stand_in.Given as goal
 
 -- each so far
 abbrev pub invariant-loop-moved : goal.invariant-loop-moved
-invariant-loop-moved l = AllByRecursion (λ m. place_in l.places (moved_thing m) ≡ Some l.fn.package) (take l.moved-index l.things)
+invariant-loop-moved l = AllByRecursion (λ m. place_in l.places (moved_thing m) ≡ Some l.fn.package)
+    (take l.moved-index l.things)

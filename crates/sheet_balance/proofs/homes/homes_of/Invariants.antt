@@ -8,8 +8,10 @@ use Rattle.sheet_balance.proofs.homes.homes_of.Given as goal
 abbrev pub invariant-loop-rest : goal.invariant-loop-rest
 invariant-loop-rest l = record {
   within : l.rest ≤ length l.ledger;
-  homes : AreInTurn (drop l.rest l.ledger) → AllByRecursion (HasHome l.homes (drop l.rest l.ledger)) (drop l.rest l.ledger);
-  merged : AreInTurn (drop l.rest l.ledger) → (p : List ℕ) → home_in l.merged p ≡ home_after (drop l.rest l.ledger) p;
+  homes : AreInTurn (drop l.rest l.ledger) → AllByRecursion (HasHome l.homes (drop l.rest l.ledger))
+      (drop l.rest l.ledger);
+  merged : AreInTurn (drop l.rest l.ledger) → (p : List ℕ) → home_in l.merged p
+      ≡ home_after (drop l.rest l.ledger) p;
 }
 
 abbrev pub decreases-loop-rest : goal.decreases-loop-rest

@@ -5,5 +5,6 @@ use Rattle.sheet_balance.proofs.judging.judge.Goals as goal
 pub returns : goal.returns
 returns c =
     if_ok c.judge_ledger.result _ _
-    (λ balanced said w seen. said w (seen_with c.in_ok-ledger.ledger.items c.as_slice.result.now c.args.sights.now w seen (c.in_ok-ledger.ensures w seen) c.as_slice.ensures.value))
+    (λ balanced said w seen. said w (seen_with c.in_ok-ledger.ledger.items c.as_slice.result.now c.args.sights.now w
+    seen (c.in_ok-ledger.ensures w seen) c.as_slice.ensures.value))
     c.judge_ledger.ensures

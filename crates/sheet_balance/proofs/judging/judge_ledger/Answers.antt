@@ -4,15 +4,20 @@ use Rattle.sheet_balance.proofs.Judged.{seen_one, none_seen, not_sound, judged, 
 use Rattle.sheet_balance.proofs.judging.judge_ledger.Goals as goal
 
 pub returns-in_default : goal.returns-in_default
-returns-in_default c = λ w seen. says_no (λ b. none_seen c.archive_of.result w c.in_default.is (c.archive_of.ensures w seen.seen))
+returns-in_default c = λ w seen. says_no (λ b. none_seen c.archive_of.result w c.in_default.is
+    (c.archive_of.ensures w seen.seen))
 
 pub returns-then-not-branch : goal.returns-then-not-branch
 returns-then-not-branch c = λ w seen.
-    says_no (not_sound w c.in-Some.archive c.args.ledger.now c.args.sights.now c.in_ok-is_sound.field-0 (seen_one c.in-Some.archive c.archive_of.result w c.in-Some.is (c.archive_of.ensures w seen.seen)) seen c.in_ok-is_sound.ensures c.if-not-branch.true)
+    says_no (not_sound w c.in-Some.archive c.args.ledger.now c.args.sights.now c.in_ok-is_sound.field-0
+    (seen_one c.in-Some.archive c.archive_of.result w c.in-Some.is (c.archive_of.ensures w seen.seen)) seen
+    c.in_ok-is_sound.ensures c.if-not-branch.true)
 
 pub returns : goal.returns
 returns c =
     if_ok c.is_accounted.result _ _
     (λ accounted said w seen.
-    judged w c.in-Some.archive c.args.ledger.now c.args.sights.now c.in_ok-is_sound.field-0 accounted (seen_one c.in-Some.archive c.archive_of.result w c.in-Some.is (c.archive_of.ensures w seen.seen)) seen c.in_ok-is_sound.ensures c.if-not-branch.false (said w seen))
+    judged w c.in-Some.archive c.args.ledger.now c.args.sights.now c.in_ok-is_sound.field-0 accounted
+    (seen_one c.in-Some.archive c.archive_of.result w c.in-Some.is (c.archive_of.ensures w seen.seen)) seen
+    c.in_ok-is_sound.ensures c.if-not-branch.false (said w seen))
     c.is_accounted.ensures

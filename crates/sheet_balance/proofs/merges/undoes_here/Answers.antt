@@ -7,4 +7,5 @@ use Rattle.sheet_balance.proofs.merges.undoes_here.Goals as goal
 
 pub returns-in-None : goal.returns-in-None
 returns-in-None c =
-    says_yes (λ _. subst (AllByRecursion (StandsBefore c.args.home c.args.receipt.now.seq)) (sym (ap (λ o. lents_in c.args.splits.now (unwrap_or o [])) c.in-None.is ∙ c.requires)) tt)
+    says_yes (λ _. subst (AllByRecursion (StandsBefore c.args.home c.args.receipt.now.seq))
+    (sym (ap (λ o. lents_in c.args.splits.now (unwrap_or o [])) c.in-None.is ∙ c.requires)) tt)

@@ -6,4 +6,5 @@ use Rattle.sheet_balance.proofs.Seen.{seen_all}
 use Rattle.sheet_balance.proofs.sights.ledger_of.Goals as goal
 
 pub returns : goal.returns
-returns c = λ w seen. c.in_ok-in_order.ensures ∙ ap (arranged receipt_key) (c.in_ok-all_receipts.ensures ∙ seen_all c.args.sights.now w.packages seen.packages)
+returns c = λ w seen. c.in_ok-in_order.ensures ∙ ap (arranged receipt_key)
+    (c.in_ok-all_receipts.ensures ∙ seen_all c.args.sights.now w.packages seen.packages)

@@ -10,8 +10,10 @@ loop-sight-preserved c =
     let i = c.loop-sight.sight-index in
     let s = c.sight-item.result in
     record {
-      has = λ p. lents_more (λ x. lents_among x.uuid p x.receipts.items) [] (lents_in c.loop-sight.splits p) (lents_in c.note_splits.new.splits p) (take i c.args.sights.now) (take (i + 1) c.args.sights.now) s
+      has = λ p. lents_more (λ x. lents_among x.uuid p x.receipts.items) [] (lents_in c.loop-sight.splits p)
+          (lents_in c.note_splits.new.splits p) (take i c.args.sights.now) (take (i + 1) c.args.sights.now) s
           (one_more c.args.sights.now i s c.loop-sight-test.true c.sight-item.is) (c.loop-sight.invariant.has p)
-          (c.in_ok-note_splits.ensures.noted p ∙ ap (λ rs. lents_in c.loop-sight.splits p ++ lents_among s.uuid p rs) c.as_slice.ensures.value);
+          (c.in_ok-note_splits.ensures.noted p ∙ ap (λ rs. lents_in c.loop-sight.splits p
+          ++ lents_among s.uuid p rs) c.as_slice.ensures.value);
       whole = c.in_ok-note_splits.ensures.whole ∙ c.loop-sight.invariant.whole;
     }

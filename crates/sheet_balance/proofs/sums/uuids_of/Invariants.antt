@@ -7,4 +7,5 @@ use Rattle.sheet_balance.proofs.sums.uuids_of.Given as goal
 
 -- those of the sights so far
 abbrev pub invariant-loop-sight : goal.invariant-loop-sight
-invariant-loop-sight l = (p : List ℕ) → contains (slice_cmp nat_cmp) l.uuids p ≡ has (λ s. s.uuid) p (take l.sight-index l.sights)
+invariant-loop-sight l = (p : List ℕ) → contains (slice_cmp nat_cmp) l.uuids p
+    ≡ has (λ s. s.uuid) p (take l.sight-index l.sights)

@@ -4,4 +4,5 @@ use Rattle.sheet_laws.specs.Laws.{StoreSight}
 use Rattle.sheet_laws.proofs.Faults.{no_fault}
 
 pub returns : goal.returns
-returns c = λ stores w stands. no_fault StoreSight (λ s. s.head) (λ s. s.claims) (λ s. s.is_formed ≡ true) (λ s. s.is_tied ≡ true) (λ s. s.frame) (λ s. s.reads_as) stores w stands
+returns c = λ stores w stands. no_fault StoreSight (λ s. s.head) (λ s. s.claims) (λ s. s.is_formed ≡ true)
+    (λ s. s.is_tied ≡ true) (λ s. s.frame) (λ s. s.reads_as) stores w stands

@@ -9,4 +9,5 @@ use Rattle.sheet_ledger.proofs.agreeing.all_agree.Given as goal
 
 -- each so far is allowed
 abbrev pub invariant-loop-moved : goal.invariant-loop-moved
-invariant-loop-moved l = AllByRecursion (λ m. Allows (get (slice_cmp nat_cmp) l.told (moved_thing m)) (said_of m)) (take l.moved-index l.things)
+invariant-loop-moved l = AllByRecursion (λ m. Allows (get (slice_cmp nat_cmp) l.told (moved_thing m)) (said_of m))
+    (take l.moved-index l.things)

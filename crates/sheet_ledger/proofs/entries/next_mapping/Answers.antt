@@ -7,4 +7,5 @@ pub returns-in_default-clause-none : goal.returns-in_default-clause-none
 returns-in_default-clause-none c = no_front_uncut OfMapping c.args.text.now c.in_default.ensures.none
 
 pub returns-in-None-clause-none : goal.returns-in-None-clause-none
-returns-in-None-clause-none c = no_front_cut OfMapping c.args.text.now c.in-Some.front.now c.in-Some.rest.now c.in-Some.ensures.some c.in-Some.ensures.lacks (record { none = λ f. c.in-None.ensures.none f.0 f.1 })
+returns-in-None-clause-none c = no_front_cut OfMapping c.args.text.now c.in-Some.front.now c.in-Some.rest.now
+    c.in-Some.ensures.some c.in-Some.ensures.lacks (record { none = λ f. c.in-None.ensures.none f.0 f.1 })

@@ -12,4 +12,5 @@ returns-in_default-clause-none c = number_of_size c.args.text.now c.in_default.e
 pub returns-then-number-lt0-clause-none : goal.returns-then-number-lt0-clause-none
 returns-then-number-lt0-clause-none c =
     let f : FitsSigned w64 c.in-Some.number = search rules in
-    no_size_below c.in-Some.number c.args.text.now c.in-Some.ensures.some c.in-Some.ensures.fit (simp to_z-of_z at c.if-number-lt0.true)
+    no_size_below c.in-Some.number c.args.text.now c.in-Some.ensures.some c.in-Some.ensures.fit
+    (simp to_z-of_z at c.if-number-lt0.true)

@@ -5,4 +5,6 @@ use Rattle.sheet_ledger.proofs.Uuids.{fits_by_text}
 use Rattle.sheet_ledger.proofs.fitting.fits.Goals as goal
 
 pub returns : goal.returns
-returns c = fits_by_text c.args.id c.encode_lower-text.result.now (c.encode_lower-text.ensures.text ∙ ap uuid_text c.hyphenated.ensures) (rw c.hyphenated.ensures at c.encode_lower-text.ensures.parsed)
+returns c = fits_by_text c.args.id c.encode_lower-text.result.now
+    (c.encode_lower-text.ensures.text ∙ ap uuid_text c.hyphenated.ensures)
+    (rw c.hyphenated.ensures at c.encode_lower-text.ensures.parsed)

@@ -4,4 +4,5 @@ use Rattle.sheet_ledger.proofs.Verbs.{StandsFirst, no_split}
 use Rattle.sheet_ledger.proofs.loans.is_split.Goals as goal
 
 pub returns-in_default : goal.returns-in_default
-returns-in_default c = no_split c.args.receipt.now.line c.verb_of.result.now (subst (λ t. StandsFirst t c.verb_of.result.now) c.as_str-line.ensures c.verb_of.ensures) c.in_default.not-split
+returns-in_default c = no_split c.args.receipt.now.line c.verb_of.result.now
+    (subst (λ t. StandsFirst t c.verb_of.result.now) c.as_str-line.ensures c.verb_of.ensures) c.in_default.not-split

@@ -9,4 +9,5 @@ use Rattle.sheet_ledger.proofs.loans.last_merges.Given as goal
 
 -- the last merges of the receipts so far
 abbrev pub invariant-loop-receipt : goal.invariant-loop-receipt
-invariant-loop-receipt l = (p : List ℕ) (n : ℕ) → option_map_or (nat_lt n) (get (slice_cmp nat_cmp) l.merges p) false ≡ list_any (λ r. is_merge r && ends_at r.source p) (after n (take l.receipt-index l.receipts))
+invariant-loop-receipt l = (p : List ℕ) (n : ℕ) → option_map_or (nat_lt n) (get (slice_cmp nat_cmp) l.merges p)
+    false ≡ list_any (λ r. is_merge r && ends_at r.source p) (after n (take l.receipt-index l.receipts))

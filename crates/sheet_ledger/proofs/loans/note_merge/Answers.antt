@@ -10,4 +10,5 @@ pub returns : goal.returns
 returns c =
     let was : c.unwrap_or-last.result ≡ unwrap_or (get (slice_cmp nat_cmp) c.args.merges.now c.args.source) 0 = cc in
     let top : c.max.result ≡ max c.unwrap_or-last.result c.args.seq = search rules in
-    noted c.args.merges.now c.insert.new.self c.args.source c.unwrap_or-last.result c.args.seq c.max.result was top c.in_ok-insert.ensures.updates
+    noted c.args.merges.now c.insert.new.self c.args.source c.unwrap_or-last.result c.args.seq c.max.result was top
+    c.in_ok-insert.ensures.updates

@@ -6,4 +6,5 @@ use Rattle.sheet_ledger.proofs.moving.all_stand.Given as goal
 
 -- each so far stands there
 abbrev pub invariant-loop-moved : goal.invariant-loop-moved
-invariant-loop-moved l = AllByRecursion (λ m. place_in l.places (moved_thing m) ≡ l.source) (take l.moved-index l.things)
+invariant-loop-moved l = AllByRecursion (λ m. place_in l.places (moved_thing m) ≡ l.source)
+    (take l.moved-index l.things)

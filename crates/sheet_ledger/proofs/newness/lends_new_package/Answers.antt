@@ -9,4 +9,8 @@ use Rattle.sheet_ledger.proofs.newness.lends_new_package.Goals as goal
 
 pub returns-in-None : goal.returns-in-None
 returns-in-None c =
-    says_yes (λ _. (ap (λ o. contains (slice_cmp nat_cmp) c.args.lent.now (unwrap_or o [])) c.in-None.is ∙ c.requires, ap (λ o. ends_at o c.args.archive) c.in-None.is))
+    says_yes (λ _. (
+      ap (λ o. contains (slice_cmp nat_cmp) c.args.lent.now (unwrap_or o [])) c.in-None.is
+          ∙ c.requires,
+      ap (λ o. ends_at o c.args.archive) c.in-None.is,
+    ))

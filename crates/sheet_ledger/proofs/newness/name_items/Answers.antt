@@ -11,5 +11,8 @@ use Rattle.sheet_ledger.proofs.newness.name_items.Goals as goal
 pub loop-moved-preserved : goal.loop-moved-preserved
 loop-moved-preserved c =
     let i = c.loop-moved.moved-index in
-    named_more (λ m id. is_item_kind m.kind && bytes_eq m.base id) (contains (slice_cmp nat_cmp) c.args.named.now) (contains (slice_cmp nat_cmp) c.loop-moved.named) (contains (slice_cmp nat_cmp) c.name_item.new.named)
-    (take i c.args.things.now) (take (i + 1) c.args.things.now) c.moved-item.result (one_more c.args.things.now i c.moved-item.result c.loop-moved-test.true c.moved-item.is) c.loop-moved.invariant c.in_ok-name_item.ensures
+    named_more (λ m id. is_item_kind m.kind && bytes_eq m.base id) (contains (slice_cmp nat_cmp) c.args.named.now)
+    (contains (slice_cmp nat_cmp) c.loop-moved.named) (contains (slice_cmp nat_cmp) c.name_item.new.named)
+    (take i c.args.things.now) (take (i + 1) c.args.things.now) c.moved-item.result
+    (one_more c.args.things.now i c.moved-item.result c.loop-moved-test.true c.moved-item.is)
+    c.loop-moved.invariant c.in_ok-name_item.ensures

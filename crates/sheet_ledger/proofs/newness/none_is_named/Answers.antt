@@ -8,4 +8,6 @@ use Rattle.sheet_ledger.proofs.newness.none_is_named.Goals as goal
 
 pub loop-moved-preserved : goal.loop-moved-preserved
 loop-moved-preserved c =
-    all_more (λ m. contains (slice_cmp nat_cmp) c.args.named.now m.base ≡ false) c.args.things.now c.loop-moved.moved-index c.moved-item.result c.loop-moved-test.true c.moved-item.is c.loop-moved.invariant (sym c.contains.ensures ∙ c.if-contains.false)
+    all_more (λ m. contains (slice_cmp nat_cmp) c.args.named.now m.base ≡ false) c.args.things.now
+    c.loop-moved.moved-index c.moved-item.result c.loop-moved-test.true c.moved-item.is c.loop-moved.invariant
+    (sym c.contains.ensures ∙ c.if-contains.false)

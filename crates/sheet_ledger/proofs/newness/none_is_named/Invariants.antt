@@ -7,4 +7,5 @@ use Rattle.sheet_ledger.proofs.newness.none_is_named.Given as goal
 
 -- no base so far is named
 abbrev pub invariant-loop-moved : goal.invariant-loop-moved
-invariant-loop-moved l = AllByRecursion (λ m. contains (slice_cmp nat_cmp) l.named m.base ≡ false) (take l.moved-index l.things)
+invariant-loop-moved l = AllByRecursion (λ m. contains (slice_cmp nat_cmp) l.named m.base ≡ false)
+    (take l.moved-index l.things)

@@ -6,4 +6,5 @@ use Rattle.sheet_ledger.proofs.places.note_all.Given as goal
 
 -- the things so far stand there
 abbrev pub invariant-loop-moved : goal.invariant-loop-moved
-invariant-loop-moved l = (thing : List ℕ) → place_in l.places thing ≡ cond (has moved_thing thing (take l.moved-index l.things)) l.target (place_in l.initial.places thing)
+invariant-loop-moved l = (thing : List ℕ) → place_in l.places thing
+    ≡ cond (has moved_thing thing (take l.moved-index l.things)) l.target (place_in l.initial.places thing)

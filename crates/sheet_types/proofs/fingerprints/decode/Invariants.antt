@@ -5,4 +5,5 @@ use Rattle.sheet_types.proofs.fingerprints.decode.Given as goal
 
 -- each byte so far is that of the digest
 abbrev pub invariant-loop-place : goal.invariant-loop-place
-invariant-loop-place l = (length l.digest ≡ 32) × ((digest : List ℕ) → IsDigest digest → l.text ≡ encode_lower digest → take l.place l.digest ≡ take l.place digest)
+invariant-loop-place l = (length l.digest ≡ 32) × ((digest : List ℕ) → IsDigest digest
+    → l.text ≡ encode_lower digest → take l.place l.digest ≡ take l.place digest)

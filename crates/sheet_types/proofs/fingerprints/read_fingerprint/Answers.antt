@@ -8,7 +8,8 @@ use Rattle.sheet_types.proofs.fingerprints.read_fingerprint.Goals as goal
 pub returns-then-text-ne64-clause-none : goal.returns-then-text-ne64-clause-none
 returns-then-text-ne64-clause-none c = λ digest h is.
     let long = h.long in
-    let spelled : length c.args.text.now ≡ 2 * length digest = ap length is ∙ length-encode_with lower_digits digest in
+    let spelled : length c.args.text.now ≡ 2 * length digest =
+    ap length is ∙ length-encode_with lower_digits digest in
     omega (arith, long, spelled, c.if-text-ne64.true)
 
 pub returns-else-eq-clause-none : goal.returns-else-eq-clause-none

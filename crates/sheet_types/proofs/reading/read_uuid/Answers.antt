@@ -4,4 +4,5 @@ use Rattle.sheet_types.proofs.UuidTexts.{unread}
 use Rattle.sheet_types.proofs.reading.read_uuid.Goals as goal
 
 pub returns-in-Err : goal.returns-in-Err
-returns-in-Err c = unread c.parse_str.result c.in-Err.field-0 c.args.text.now c.in-Err.is c.parse_str.ensures.ok (omega arith)
+returns-in-Err c = unread c.parse_str.result c.in-Err.field-0 c.args.text.now c.in-Err.is c.parse_str.ensures.ok
+    (omega arith)

@@ -13,7 +13,8 @@ none_so P Q follows (Some x) p = tt
 none_so P Q follows None p = follows p
 
 -- what stands before the extension
-before : (name text other : List ℕ) → name ≡ text ++ extension → name ≡ file_name other → text ≡ uuid_text other
+before : (name text other : List ℕ) → name ≡ text ++ extension → name ≡ file_name other
+    → text ≡ uuid_text other
 before name text other is file = append_cancel_right text (uuid_text other) extension (sym is ∙ file)
 
 pub returns-in-Some-clause-some : goal.returns-in-Some-clause-some

@@ -10,7 +10,8 @@ loop-name-preserved c =
       | in-Some+in_ok-push w ↦
           loop_some (λ name. name.now) c.args.names.now c.loop-name.name-index _ c.loop-name.packages.items
           c.match-package_of.packages.items w.in-Some.package c.loop-name-test.true
-          (ap (λ v. v.items) w.packages-is ∙ w.in_ok-push.ensures.items) w.in-Some.ensures.some w.in-Some.ensures.only
+          (ap (λ v. v.items) w.packages-is ∙ w.in_ok-push.ensures.items) w.in-Some.ensures.some
+          w.in-Some.ensures.only
           c.loop-name.invariant
       | in_default w ↦
           loop_none (λ name. name.now) c.args.names.now c.loop-name.name-index _ c.loop-name.packages.items

@@ -34,6 +34,7 @@ pub returns-else-eq-clause-none : goal.returns-else-eq-clause-none
 returns-else-eq-clause-none c = λ id fit is.
     let same : c.in-Ok.id ≡ id = reads_one c.args.text.now c.in-Ok.id id (omega arith) c.in-Ok.ensures.bytes fit is in
     let text : c.as_bytes.result.now ≡ c.args.text.now =
-    c.as_bytes.ensures.value ∙ c.encode_lower.ensures.text ∙ ap uuid_text (c.hyphenated.ensures ∙ same) ∙ sym is in
+    c.as_bytes.ensures.value ∙ c.encode_lower.ensures.text ∙ ap uuid_text (c.hyphenated.ensures ∙ same)
+    ∙ sym is in
     let equal = (slice_eq-Decides Decides-eqb _ _ _ c.eq.ensures).1 text in
     cc (equal, c.if-eq.false)

@@ -3,7 +3,8 @@ use Rattle.store_memory.proofs.Cleanness.{always_clean}
 use Rattle.store_memory.proofs.opening.blank_in_files.Goals as goal
 
 -- what holds where the disk is clean
-settled : {T E : Type 0} (P Clean : T → Type 0) (r : Result T E) → ((x : T) → Clean x) → IfOk r (λ x. Clean x → P x) → IfOk r P
+settled : {T E : Type 0} (P Clean : T → Type 0) (r : Result T E) → ((x : T) → Clean x)
+    → IfOk r (λ x. Clean x → P x) → IfOk r P
 settled P Clean (Ok x) clean said = said (clean x)
 settled P Clean (Err e) clean said = tt
 

@@ -12,11 +12,19 @@ returns-clause-steps g c =
     let old = state g.S.Store a.tx.now.conn.now in
     let new = state g.S.Store c.execute.new.self.conn.now in
     write_steps (AddsNote a.seq a.place a.text.now) old new c.execute.result
-    (λ clean begun. inserted_inside _ note_table insert_text _ _ (insert_row a.seq a.place a.text.now) old new c.execute.result
-    (simp (to_z-of_z, c.ranges.seq, c.ranges.place) at (rw (c.params-to_sql.ensures, c.params-to_sql-2.ensures, c.params-to_sql-3.ensures) at (c.execute.ensures.runs clean begun))))
+    (λ clean begun. inserted_inside _ note_table insert_text _ _ (insert_row a.seq a.place a.text.now) old new
+    c.execute.result
+    (simp (to_z-of_z, c.ranges.seq, c.ranges.place) at (rw (
+      c.params-to_sql.ensures,
+      c.params-to_sql-2.ensures,
+      c.params-to_sql-3.ensures,
+    ) at (c.execute.ensures.runs clean begun))))
     c.execute.ensures.survives
 
 pub returns-clause-excused : goal.returns-clause-excused
 returns-clause-excused g c =
-    excused_by _ _ (state g.S.Store c.args.tx.now.conn.now) (state g.S.Store c.execute.new.self.conn.now) c.execute.result
-    (λ clean begun. simp (to_z-of_z, c.ranges.seq, c.ranges.place) at (rw (c.params-to_sql.ensures, c.params-to_sql-2.ensures, c.params-to_sql-3.ensures) at (c.execute.ensures.runs clean begun)))
+    excused_by _ _ (state g.S.Store c.args.tx.now.conn.now) (state g.S.Store c.execute.new.self.conn.now)
+    c.execute.result
+    (λ clean begun. simp (to_z-of_z, c.ranges.seq, c.ranges.place) at
+    (rw (c.params-to_sql.ensures, c.params-to_sql-2.ensures, c.params-to_sql-3.ensures) at
+    (c.execute.ensures.runs clean begun)))

@@ -6,5 +6,6 @@ use Rattle.store_sql.proofs.keys.has_reference.Goals as goal
 
 pub returns : goal.returns
 returns c =
-    let any : IsTrue c.any.result ↔ Any (λ r. Names r (reference_of c.args.form.now)) c.args.references.now = search rules in
+    let any : IsTrue c.any.result ↔ Any (λ r. Names r (reference_of c.args.form.now)) c.args.references.now =
+    search rules in
     (λ yes. record { one = any.0 yes }, λ h. any.1 h.one)

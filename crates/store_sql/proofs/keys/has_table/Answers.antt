@@ -10,5 +10,9 @@ returns c =
     let t = c.in-Some-get.table.now in
     let named : table_named s c.args.form.now.name.now ≡ Some c.in-Some.at = search rules in
     let there : slice_get s.tables c.in-Some.at ≡ Some t = search rules in
-    let all = four _ _ _ _ c.has_columns_of-columns.ensures c.has_keys_of-keys.ensures (rw c.as_slice.ensures at c.is_first_of_tree-first.ensures) c.is_low.ensures in
-    (λ yes. placed s c.args.form.now c.in-Some.at t named there (all.0 yes), λ is. all.1 (unplaced s c.args.form.now c.in-Some.at t named there is))
+    let all = four _ _ _ _ c.has_columns_of-columns.ensures c.has_keys_of-keys.ensures
+    (rw c.as_slice.ensures at c.is_first_of_tree-first.ensures) c.is_low.ensures in (
+      λ yes. placed s c.args.form.now c.in-Some.at t named there (all.0 yes),
+      λ is. all.1
+          (unplaced s c.args.form.now c.in-Some.at t named there is),
+    )

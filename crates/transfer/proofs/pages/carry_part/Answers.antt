@@ -13,7 +13,8 @@ pub returns-then-not-came-clause-steps : goal.returns-then-not-came-clause-steps
 returns-then-not-came-clause-steps g c =
     let s0 = state g.S.Store c.args.source.now in
     let s1 = state g.S.Store c.carry_items.new.source in
-    let all : c.len-items.result ≡ length c.args.selection.now.identities.items = omega (arith, c.len-items.ensures) in
+    let all : c.len-items.result ≡ length c.args.selection.now.identities.items =
+    omega (arith, c.len-items.ensures) in
     let ids = cut_items c.deref.result.now c.args.selection.now.identities.items c.args.from c.args.to c.min.result
     c.min-2.result c.len-items.result c.deref.ensures.value all c.min.ensures c.min-2.ensures
     c.requires.order in
@@ -25,7 +26,8 @@ pub returns-clause-steps : goal.returns-clause-steps
 returns-clause-steps g c =
     let s0 = state g.S.Store c.args.source.now in
     let s1 = state g.S.Store c.carry_items.new.source in
-    let all : c.len-items.result ≡ length c.args.selection.now.identities.items = omega (arith, c.len-items.ensures) in
+    let all : c.len-items.result ≡ length c.args.selection.now.identities.items =
+    omega (arith, c.len-items.ensures) in
     let ids = cut_items c.deref.result.now c.args.selection.now.identities.items c.args.from c.args.to c.min.result
     c.min-2.result c.len-items.result c.deref.ensures.value all c.min.ensures c.min-2.ensures
     c.requires.order in

@@ -7,7 +7,6 @@ returns-clause-steps g c = steps_weaker (λ _. PutsLink c.args.relation)
     (λ _ it f q reads absent. it f q reads (record {
       base = c.fits.ensures;
       other = c.fits-2.ensures;
-      new =
-          absent.new;
+      new = absent.new;
       ends = absent.ends;
     })) c.link.ensures.steps

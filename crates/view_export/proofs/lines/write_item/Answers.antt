@@ -23,7 +23,8 @@ returns-in_ok-geometry-in-Row c =
     simp (to_z-of_z, fits_word f c.requires, x, y) at c.in_ok-geometry-in-Row.ensures in
     let same = ap (λ g. feature_row n id g c.in-Row.code c.as_str-in-Row-2.result.now)
     (c.as_str-in-Row.ensures.value ∙ drawn)
-    ∙ ap (λ l. feature_row n id (blob (point f.srs_id c.in-Row.x c.in-Row.y)) c.in-Row.code l) c.as_str-in-Row-2.ensures
+    ∙ ap (λ l. feature_row n id (blob (point f.srs_id c.in-Row.x c.in-Row.y)) c.in-Row.code l)
+    c.as_str-in-Row-2.ensures
     ∙ sym (ap (content_rows f n id) c.in-Row.is) in
     ok_is c.feature_row.result _ _ same (simp (to_z-of_z, code) at c.feature_row.ensures)
 

@@ -12,6 +12,5 @@ returns g c =
       place = place;
       last = c.ask.new.conn;
       others = refl;
-      looked =
-          c.ask.ensures;
+      looked = c.ask.ensures;
     }

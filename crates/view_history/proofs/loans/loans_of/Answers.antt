@@ -7,5 +7,6 @@ use Rattle.view_history.proofs.loans.loans_of.Goals as goal
 
 pub returns : goal.returns
 returns g c =
-    asks_so g.S.Store (λ packages answers. AllZip (λ p loan. loan ≡ p.loan) packages answers.items) c.ask_each.result
+    asks_so g.S.Store (λ packages answers. AllZip (λ p loan. loan ≡ p.loan) packages answers.items)
+    c.ask_each.result
     (λ packages loans each. zip_map (λ p. p.loan) packages loans.items each) c.ask_each.ensures

@@ -8,6 +8,7 @@ use Rattle.view_items.proofs.parts.parts_at_once.Goals as goal
 pub returns-clause-told : goal.returns-clause-told
 returns-clause-told g c = λ clean w stands.
     let told = c.in_ok-items.ensures.told clean w stands in
-    let found : Some (c.as_slice.result.now, c.in-Some.links.items) ≡ holdings_answer w c.args.package = search rules in
+    let found : Some (c.as_slice.result.now, c.in-Some.links.items) ≡ holdings_answer w c.args.package =
+    search rules in
     let held = held_found w c.args.package c.as_slice.result.now c.in-Some.links.items found in
     (c.in_ok-kept.ensures ∙ ap (flat_map (g.P.Part.parts c.args.part.now)) held.0, held.1)

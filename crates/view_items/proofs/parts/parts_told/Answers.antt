@@ -36,4 +36,5 @@ returns-clause-kept g c = λ clean w stands all.
     let items = (holdings w c.args.package).items in
     let past : length c.args.told.now ≤ c.loop-moved.moved-index = omega (arith, c.loop-moved-test.false) in
     c.loop-moved.invariant.kept clean w stands all
-    ∙ ap (flat_map (g.P.Part.parts c.args.part.now)) (all_past items c.args.told.now c.loop-moved.moved-index all past)
+    ∙ ap (flat_map (g.P.Part.parts c.args.part.now)) (all_past items c.args.told.now c.loop-moved.moved-index all
+    past)

@@ -14,5 +14,6 @@ returns c =
       is,
       c.in_ok-own.ensures,
       c.in_ok-put_end.ensures ∙ ap (λ t. t ++ end_text own live)
-          (c.in_ok-put_told_if.ensures ∙ ap (λ t. t ++ told_if c.args.register live lender) c.new-text.ensures.bytes),
+          (c.in_ok-put_told_if.ensures ∙ ap (λ t. t ++ told_if c.args.register live lender)
+          c.new-text.ensures.bytes),
     )

@@ -19,7 +19,8 @@ returns-clause-so c = λ w framed seen made told.
       frame = sym framed;
       packages = c.in_ok-packages.ensures
           ∙ ap (arranged loan_key) (c.in_ok-lives.ensures w kept made receipts);
-      archive = ap (option_map (λ (p : Live). p.uuid)) (ap (λ l. slice_get l 0) (sym c.deref-4.ensures.value) ∙ first);
+      archive = ap (option_map (λ (p : Live). p.uuid)) (ap (λ l. slice_get l 0) (sym c.deref-4.ensures.value)
+          ∙ first);
       things = c.in_ok-things.ensures ∙ seen.held.things;
       ties = seen.held.ties;
       receipts = told;

@@ -7,7 +7,8 @@ use Rattle.view_searches.proofs.Sifted.{identities_more, nothing_more}
 use Rattle.view_searches.proofs.searches.found_moved.Goals as goal
 
 pub loop-thing-init : goal.loop-thing-init
-loop-thing-init c = λ before it. subst (λ ids. IsFound c.args.word.now ids c.args.found) (sym (nothing_more before)) it
+loop-thing-init c = λ before it. subst (λ ids. IsFound c.args.word.now ids c.args.found) (sym (nothing_more before))
+    it
 
 pub loop-thing-preserved : goal.loop-thing-preserved
 loop-thing-preserved c = λ before it.

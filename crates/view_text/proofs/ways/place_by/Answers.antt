@@ -1,5 +1,6 @@
 -- A receipt that names the item moves it, and another leaves it where it is.
-use Rattle.std.proofs.Common.{◌≡◌, ◌∙◌, ◌+◌, ◌++◌, ◌∷◌, [], ℕ, List, take, subst, sym, arith, true, false}
+use Rattle.std.proofs.Common.{◌≡◌, ◌∙◌, ◌+◌, ◌++◌, ◌∷◌, [], ℕ, List, take, subst, sym}
+use Rattle.std.proofs.Common.{arith, true, false}
 use Rattle.std.proofs.lemmas.Grind.{common_steps}
 use Rattle.sheet_types.specs.Balance.{names_identity}
 use Rattle.sheet_types.specs.declared.receipt.Receipt.{Receipt}

@@ -10,7 +10,8 @@ use Rattle.view_world.proofs.ways.way_of.Goals as goal
 pub returns : goal.returns
 returns g c =
     looks_into g.S.Store _ c.args.world c.way_in-found.new.stores.items c.way_in-found.result
-    (counted_so (λ n. (w : World) → StandsFor g.S.Store c.args.world w → n ≡ length w.packages) c.way_in-found.result
+    (counted_so (λ n. (w : World) → StandsFor g.S.Store c.args.world w → n ≡ length w.packages)
+    c.way_in-found.result
     c.count_of-count.result (length (held g.S.Store c.args.world))
     (rw c.into_stores-stores.ensures at c.way_in-found.ensures.counted) c.count_of-count.ensures)
     (λ w found stands given. given)

@@ -9,12 +9,14 @@ pub returns-in-Some : goal.returns-in-Some
 returns-in-Some g c = λ w stands live.
     let sights = c.in_ok-sights.sights.items in
     let found : entry (λ (s : PackageSight). s.uuid) c.args.package sights ≡ Some c.in-Some.sight.now =
-    ap (entry (λ (s : PackageSight). s.uuid) c.args.package) (sym c.as_slice.ensures.value) ∙ sym c.in-Some.ensures in
+    ap (entry (λ (s : PackageSight). s.uuid) c.args.package) (sym c.as_slice.ensures.value)
+    ∙ sym c.in-Some.ensures in
     ticket_seen w c.args.package sights c.in-Some.sight.now (c.in_ok-sights.ensures w stands) found
 
 pub returns : goal.returns
 returns g c = λ w stands live.
     let sights = c.in_ok-sights.sights.items in
     let none : entry (λ (s : PackageSight). s.uuid) c.args.package sights ≡ None =
-    ap (entry (λ (s : PackageSight). s.uuid) c.args.package) (sym c.as_slice.ensures.value) ∙ sym c.in-None.ensures in
+    ap (entry (λ (s : PackageSight). s.uuid) c.args.package) (sym c.as_slice.ensures.value)
+    ∙ sym c.in-None.ensures in
     absurd (is_seen w c.args.package sights (c.in_ok-sights.ensures w stands) none live)

@@ -1,5 +1,6 @@
 -- Room is made, the child's store is filled, and then the parent lends.
-use Rattle.std.proofs.Common.{◌≡◌, inl, refl, subst, sym, ap, ◌∙◌, arith, [], length, vec_len, None, Some, Ok, Err}
+use Rattle.std.proofs.Common.{◌≡◌, inl, refl, subst, sym, ap, ◌∙◌, arith, [], length, vec_len, None, Some}
+use Rattle.std.proofs.Common.{Ok, Err}
 use Rattle.sheet_types.specs.declared.receipt.Receipt.{Receipt}
 use Rattle.world_changes.specs.Carries.{Carries}
 use Rattle.world_loans.specs.Loans.{IsLent}

@@ -16,8 +16,8 @@ returns g c =
       place = place;
       last = c.ask.new.conn;
       others = refl;
-      turned =
-          c.ask.ensures;
+      turned = c.ask.ensures;
     }) c.requires.rests
-    (λ x w p here told q there. let same : p ≡ q = cc in subst (λ v. g.Q.Question.tells c.args.question.now v x) same
+    (λ x w p here told q there. let same : p ≡ q = cc in subst (λ v. g.Q.Question.tells c.args.question.now v x)
+    same
     told)

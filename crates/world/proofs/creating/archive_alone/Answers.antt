@@ -14,7 +14,8 @@ use Rattle.world.proofs.Beginning.{first_member, alone}
 use Rattle.world.proofs.creating.archive_alone.Goals as goal
 
 -- the archive's own member is the only one
-one_member : {S : Type 0} (g : Ghosts S) (archive : List ℕ) (conn : Held S) (none all : List (Member S)) → none ≡ []
+one_member : {S : Type 0} (g : Ghosts S) (archive : List ℕ) (conn : Held S) (none all : List (Member S))
+    → none ≡ []
     → all ≡ none ++ first_member g archive conn ∷ [] → all ≡ first_member g archive conn ∷ []
 one_member g archive conn none all empty is = is ∙ ap (λ ms. ms ++ first_member g archive conn ∷ []) empty
 

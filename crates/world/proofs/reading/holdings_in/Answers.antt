@@ -10,7 +10,8 @@ use Rattle.world_queries.proofs.Questions.{asks_answer, asks_failed, asks_still}
 use Rattle.world.proofs.reading.holdings_in.Goals as goal
 
 live_answer : (w : World) (id : List ℕ) (items : List Item) (links : List Relation) → is_live w id ≡ true
-    → items ≡ (holdings w id).items → links ≡ (holdings w id).links → Some (items, links) ≡ holdings_answer w id
+    → items ≡ (holdings w id).items → links ≡ (holdings w id).links
+    → Some (items, links) ≡ holdings_answer w id
 live_answer w id items links live same_items same_links =
     ap (λ is. Some (is, links)) same_items ∙ ap (λ ls. Some ((holdings w id).items, ls)) same_links
     ∙ ap (λ b. then_some b ((holdings w id).items, (holdings w id).links)) (sym live)

@@ -8,7 +8,8 @@ use Rattle.world_changes.proofs.StayingOpen.{open_if_dropped, open_if_uncommitte
 use Rattle.world_changes.proofs.carrying_out.apply_to_package.Goals as goal
 
 -- an error of the commit is none of before it
-committing : {X : Type 0} (r : Result X TurnFault) (made fault : Fault) → IsErrAnd r (λ turn. turn ≡ Committing made)
+committing : {X : Type 0} (r : Result X TurnFault) (made fault : Fault)
+    → IsErrAnd r (λ turn. turn ≡ Committing made)
     → r ≡ Err (Before fault) → ⊥
 committing (Ok x) made fault told is = absurd (let t = told in cc)
 committing (Err turn) made fault told is = let t = told in cc

@@ -25,8 +25,7 @@ returns-in-Err-clause-rests g c =
       was = c.index_mut-member.result.now;
       place = place;
       last = c.filled_store.new.source;
-      others =
-          refl;
+      others = refl;
       turned = c.filled_store.ensures.source;
     }) c.filled_store.ensures.source.rests c.requires.rests
 
@@ -38,8 +37,7 @@ returns-in-Err-clause-stay g c =
     c.args.due.now.at {Turn = Stays} (record {
       was = c.index_mut-member.result.now;
       place = place;
-      last =
-          c.filled_store.new.source;
+      last = c.filled_store.new.source;
       others = refl;
       turned = c.filled_store.ensures.source;
     })
@@ -54,8 +52,7 @@ returns-in-Ok-clause-rests g c =
       was = c.index_mut-member.result.now;
       place = place;
       last = c.filled_store.new.source;
-      others =
-          refl;
+      others = refl;
       turned = c.filled_store.ensures.source;
     }) c.filled_store.ensures.source.rests c.requires.rests
 
@@ -67,8 +64,7 @@ returns-in-Ok-clause-stay g c =
     c.args.due.now.at {Turn = Stays} (record {
       was = c.index_mut-member.result.now;
       place = place;
-      last =
-          c.filled_store.new.source;
+      last = c.filled_store.new.source;
       others = refl;
       turned = c.filled_store.ensures.source;
     })
@@ -83,8 +79,7 @@ returns-in-Ok-clause-opens g c clean was =
       was = c.index_mut-member.result.now;
       place = place;
       last = c.filled_store.new.source;
-      others =
-          refl;
+      others = refl;
       turned = c.filled_store.ensures.source;
     } in
     turn_open g.S.Store c.args.members.now.items _ c.args.due.now.at turn
@@ -100,8 +95,7 @@ returns-in-Ok-clause-keeps g c clean w next count same are lent disk =
       was = c.index_mut-member.result.now;
       place = place;
       last = c.filled_store.new.source;
-      others =
-          refl;
+      others = refl;
       turned = c.filled_store.ensures.source;
     } in
     let source = turn_clean g.S.Store c.args.members.now.items _ c.args.due.now.at turn clean in
@@ -125,8 +119,7 @@ returns-in-Err-clause-uses g c =
       was = c.index_mut-member.result.now;
       place = place;
       last = c.filled_store.new.source;
-      others =
-          refl;
+      others = refl;
       turned = c.filled_store.ensures.source;
     } in
     let due = c.args.due.now in

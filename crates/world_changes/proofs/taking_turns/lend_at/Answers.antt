@@ -33,7 +33,6 @@ returns-clause-turned g c =
       place = place;
       last = c.lend.new.conn;
       others = refl;
-      turns =
-          c.in_ok-lend.ensures.turns;
+      turns = c.in_ok-lend.ensures.turns;
       was_open = c.in_ok-lend.ensures.was_open;
     }

@@ -35,7 +35,6 @@ returns-clause-turned g c =
       place = place;
       last = c.take_home.new.conn;
       others = refl;
-      turns =
-          c.in_ok-take_home.ensures.turns;
+      turns = c.in_ok-take_home.ensures.turns;
       was_open = c.in_ok-take_home.ensures.was_open;
     }

@@ -45,8 +45,7 @@ returns-clause-turned g c =
       was = c.index_mut-member.result.now;
       place = place;
       last = c.apply_to_package.new.conn;
-      others =
-          refl;
+      others = refl;
       turn = record { turns = t.turns; was_open = t.was_open };
     }
 

@@ -16,15 +16,18 @@ one_by_add : (command : Command) → ((uuid : List ℕ) × (identity : List ℕ)
     × (command ≡ Add uuid identity content)) → ChangesOnePackage command
 one_by_add command (uuid, identity, content, is) = subst ChangesOnePackage (sym is) tt
 
-one_by_delete : (command : Command) → ((uuid : List ℕ) × (identity : List ℕ) × (command ≡ Delete uuid identity))
+one_by_delete : (command : Command) → ((uuid : List ℕ) × (identity : List ℕ)
+    × (command ≡ Delete uuid identity))
     → ChangesOnePackage command
 one_by_delete command (uuid, identity, is) = subst ChangesOnePackage (sym is) tt
 
-one_by_link : (command : Command) → ((uuid : List ℕ) × (mapping : Mapping) × (base : List ℕ) × (other : List ℕ)
+one_by_link : (command : Command) → ((uuid : List ℕ) × (mapping : Mapping) × (base : List ℕ)
+    × (other : List ℕ)
     × (command ≡ Link uuid mapping base other)) → ChangesOnePackage command
 one_by_link command (uuid, mapping, base, other, is) = subst ChangesOnePackage (sym is) tt
 
-one_by_unlink : (command : Command) → ((uuid : List ℕ) × (mapping : Mapping) × (base : List ℕ) × (other : List ℕ)
+one_by_unlink : (command : Command) → ((uuid : List ℕ) × (mapping : Mapping) × (base : List ℕ)
+    × (other : List ℕ)
     × (command ≡ Unlink uuid mapping base other)) → ChangesOnePackage command
 one_by_unlink command (uuid, mapping, base, other, is) = subst ChangesOnePackage (sym is) tt
 

@@ -28,8 +28,7 @@ pub returns-in-Some-clause-place : goal.returns-in-Some-clause-place
 returns-in-Some-clause-place g c = record {
   from = c.requires.from;
   into = c.requires.within;
-  two =
-      c.requires.two;
+  two = c.requires.two;
   number = c.requires.number;
   counted = one_more_within c.args.members.now c.args.at _ c.args.count
       c.in-Some.ensures.0.1;

@@ -1,5 +1,6 @@
 -- Each item is looked at, and the first of those that clash is kept.
-use Rattle.std.proofs.Common.{◌≡◌, ◌<◌, ◌≤◌, ◌∙◌, refl, sym, ap, subst, Ok, Some, None, length, slice_get, take, arith}
+use Rattle.std.proofs.Common.{◌≡◌, ◌<◌, ◌≤◌, ◌∙◌, refl, sym, ap, subst, Ok, Some, None, length}
+use Rattle.std.proofs.Common.{slice_get, take, arith}
 use Rattle.std.proofs.lemmas.List.{take_all}
 use Rattle.std.proofs.lemmas.Option.{slice_get_read}
 use Rattle.world_decisions.specs.DecidingMerges.{first_clash}

@@ -20,8 +20,7 @@ returns g c =
       was = c.index_mut-member.result.now;
       place = place;
       last = c.has_tile_at.new.conn;
-      others =
-          refl;
+      others = refl;
       turned = looks;
     }) c.requires.rests
     (λ found w p here told q there. let same : p ≡ q = cc in told

@@ -22,8 +22,7 @@ returns g c =
       place = place;
       last = c.select.new.conn;
       others = refl;
-      turned =
-          c.select.ensures.selected;
+      turned = c.select.ensures.selected;
     }) c.requires.rests
     (λ answer w p here told q there. let one : p ≡ q = cc in subst
     (λ x. IsCutOf c.args.frame.now c.args.mode c.args.rect.now x answer) one told))

@@ -62,8 +62,7 @@ returns-in-Ok-clause-asks g c =
     let before = sym (told.0 knows (record {
       frame = is.of_world.frame;
       asked = is.split.asked;
-      deep =
-          lends.depth;
+      deep = lends.depth;
     })) in
     told.1.1 (record {
       counted = is.of_world.counted;

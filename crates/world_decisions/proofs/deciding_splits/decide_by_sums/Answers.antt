@@ -27,7 +27,6 @@ returns-clause-place g c =
       at = c.requires.at;
       child_at = c.requires.child_at;
       number = c.requires.number;
-      counted =
-          ltb-false greatest_receipts (c.args.count + 1) over.1;
+      counted = ltb-false greatest_receipts (c.args.count + 1) over.1;
       shallow = c.requires.shallow;
     }

@@ -14,7 +14,8 @@ loop-at-preserved g c =
     c.if-not-is_at_rest.ensures.yes refl in
     record {
       each = AllWithin-more P c.args.members.now 0 c.loop-at.at c.loop-at.invariant.each
-          (λ d. subst P (get_or_default c.args.members.now c.loop-at.at c.index-members-at.result d c.loop-at-test.true)
+          (λ d. subst P (get_or_default c.args.members.now c.loop-at.at c.index-members-at.result d
+          c.loop-at-test.true)
           rests);
     }
 

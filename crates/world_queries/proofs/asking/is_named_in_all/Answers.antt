@@ -42,7 +42,8 @@ pub returns : goal.returns
 returns g c =
     let past : length c.args.members.now.items ≤ c.loop-at.at =
     omega (arith, c.len-at-end.ensures, c.loop-at-test.false) in
-    asked_all g.S.Store (λ p. is_named p c.args.identity ≡ false) (λ w found. found ≡ is_used w c.args.identity) _ _ _
+    asked_all g.S.Store (λ p. is_named p c.args.identity ≡ false) (λ w found. found ≡ is_used w c.args.identity)
+    _ _ _
     false past
     (λ w register each. sym (used_is_named w c.args.identity register
     ∙ none_any (λ x. is_named x c.args.identity) w.packages each)) c.loop-at.invariant.asked

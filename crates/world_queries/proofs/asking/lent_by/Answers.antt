@@ -11,8 +11,7 @@ returns g c =
       looked = record {
         was = c.index_mut-member.result.now;
         place = place;
-        last =
-            c.was_lent.new.conn;
+        last = c.was_lent.new.conn;
         others = refl;
         turned = c.was_lent.ensures;
       };

@@ -12,8 +12,7 @@ returns g c =
         was = c.index_mut-member.result.now;
         place = place;
         last = c.names.new.conn;
-        others =
-            refl;
+        others = refl;
         turned = c.names.ensures;
       };
     }

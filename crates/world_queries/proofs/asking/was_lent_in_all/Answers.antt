@@ -23,7 +23,8 @@ returns-in_err-lent_by g c =
 
 pub returns-then-branch : goal.returns-then-branch
 returns-then-branch g c =
-    asked_here g.S.Store g.met.S.Store.shut_if_dirty g.met.S.Store.settled (λ f p found. found ≡ was_lent p c.args.id)
+    asked_here g.S.Store g.met.S.Store.shut_if_dirty g.met.S.Store.settled
+    (λ f p found. found ≡ was_lent p c.args.id)
     (λ p. was_lent p c.args.id ≡ false) _ _ _ _ _ c.loop-at.invariant.asked c.lent_by.ensures.looked
     (λ w found. found ≡ ever_lent w c.args.id) true true (c.in_ok-lent_by.was ∙ ap Ok c.if-branch.true)
     (λ w p register there told. sym (lent_in_packages w c.args.id
@@ -41,6 +42,7 @@ pub returns : goal.returns
 returns g c =
     let past : length c.args.members.now.items ≤ c.loop-at.at =
     omega (arith, c.len-at-end.ensures, c.loop-at-test.false) in
-    asked_all g.S.Store (λ p. was_lent p c.args.id ≡ false) (λ w found. found ≡ ever_lent w c.args.id) _ _ _ false past
+    asked_all g.S.Store (λ p. was_lent p c.args.id ≡ false) (λ w found. found ≡ ever_lent w c.args.id) _ _ _
+    false past
     (λ w register each. sym (lent_in_packages w c.args.id ∙ none_any (λ x. was_lent x c.args.id) w.packages each))
     c.loop-at.invariant.asked

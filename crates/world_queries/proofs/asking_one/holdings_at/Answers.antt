@@ -17,8 +17,7 @@ returns g c =
       place = place;
       last = c.holdings.new.conn;
       others = refl;
-      turned =
-          c.holdings.ensures;
+      turned = c.holdings.ensures;
     }) c.requires.rests
     (λ held w p here told q there. let same : p ≡ q = cc in (
       told.0 ∙ ap (λ (x : Package). x.items) same,

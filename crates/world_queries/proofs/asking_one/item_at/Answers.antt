@@ -16,7 +16,6 @@ returns g c =
       place = place;
       last = c.find.new.conn;
       others = refl;
-      turned =
-          c.find.ensures;
+      turned = c.find.ensures;
     }) c.requires.rests
     (λ found w p here told q there. let same : p ≡ q = cc in told ∙ ap (λ x. item_of x c.args.identity) same)

@@ -17,8 +17,7 @@ returns g c =
       was = c.index_mut-member.result.now;
       place = place;
       last = c.package_refusal.new.conn;
-      others =
-          refl;
+      others = refl;
       turned = c.package_refusal.ensures;
     }) c.requires.rests
     (λ found w p here told same q there. let one : p ≡ q = cc in told (sym same)

@@ -1,5 +1,6 @@
 -- What a command moves follows from the command alone, but of a delete from the item that the package has.
-use Rattle.std.proofs.Common.{◌≡◌, ◌∙◌, ap, sym, subst, inl, inr, ◌⊎◌, ℕ, ℤ, List, [], ◌∷◌, Option, Some, None, Ok}
+use Rattle.std.proofs.Common.{◌≡◌, ◌∙◌, ap, sym, subst, inl, inr, ◌⊎◌, ℕ, ℤ, List, []}
+use Rattle.std.proofs.Common.{◌∷◌, Option, Some, None, Ok}
 use Rattle.std.proofs.Common.{slice_get}
 use Rattle.std.specs.Option.{option_map_or}
 use Rattle.sheet_types.specs.World.{World, Package, item_of, item_moved, link_moved, holdings}
@@ -17,7 +18,8 @@ use Rattle.world_queries.proofs.asking_one.thing_moved.Goals as goal
 
 -- a delete moves the item that was found, if one was
 of_found : (w : World) (at : ℕ) (command : Command) (uuid identity : List ℕ) (found : Option Item)
-    → command ≡ Delete uuid identity → ((p : Package) → slice_get w.packages at ≡ Some p → found ≡ item_of p identity)
+    → command ≡ Delete uuid identity → ((p : Package) → slice_get w.packages at ≡ Some p
+    → found ≡ item_of p identity)
     → slice_get w.packages at ≡ Some (holdings w (package_of command))
     → moved w command ≡ option_map_or (λ i. item_moved i ∷ []) found []
 of_found w at command uuid identity found is told here =

@@ -14,7 +14,8 @@ use Rattle.world_queries.proofs.receipts.line_over.Goals as goal
 told : (command : Command) (thing : Moved) (p identity : List ℕ) (content : Content) (text : List ℕ)
     → command ≡ Add p identity content
     → ((digest : List ℕ) → thing.fingerprint ≡ Some digest → text
-    ≡ entry_line (Adds p thing.base thing.kind thing.size digest)) → IsAddedBy command thing → text ≡ line command
+    ≡ entry_line (Adds p thing.base thing.kind thing.size digest)) → IsAddedBy command thing
+    → text ≡ line command
 told command thing p identity content text is says adds =
     let same : thing ≡ item_moved (added_item identity content) = subst (λ x. IsAddedBy x thing) is adds in
     rw is (subst (λ m. ((digest : List ℕ) → m.fingerprint ≡ Some digest

@@ -14,28 +14,55 @@ returns-clause-value c =
     let n5 : FitsSigned w64 c.in_ok-number_at-5.field-0 = search rules in
     let n6 : FitsSigned w64 c.in_ok-number_at-6.field-0 = search rules in
     let n7 : FitsSigned w64 c.in_ok-number_at-7.field-0 = search rules in
-    simp (to_z-of_z, n1, n2, n3, n4, n5, n6, n7) (columns 8 c.args.row.now count ∙ rw (c.in_ok-text_at.ensures.text, c.in_ok-number_at.ensures.number, c.in_ok-number_at-2.ensures.number, c.in_ok-number_at-3.ensures.number, c.in_ok-number_at-4.ensures.number, c.in_ok-number_at-5.ensures.number, c.in_ok-number_at-6.ensures.number, c.in_ok-number_at-7.ensures.number) refl)
+    simp (to_z-of_z, n1, n2, n3, n4, n5, n6, n7) (columns 8 c.args.row.now count
+    ∙ rw (
+      c.in_ok-text_at.ensures.text,
+      c.in_ok-number_at.ensures.number,
+      c.in_ok-number_at-2.ensures.number,
+      c.in_ok-number_at-3.ensures.number,
+      c.in_ok-number_at-4.ensures.number,
+      c.in_ok-number_at-5.ensures.number,
+      c.in_ok-number_at-6.ensures.number,
+      c.in_ok-number_at-7.ensures.number,
+    ) refl)
 
 pub returns-in_err-number_at-clause-none : goal.returns-in_err-number_at-clause-none
-returns-in_err-number_at-clause-none c = no_number tile_matrix_shown 1 c.args.row.now c.from_residual.result c.in_err-number_at.field-0.0 c.from_residual.ensures.1 c.in_err-number_at.ensures.none (λ x. x.zoom_level) (λ x. refl)
+returns-in_err-number_at-clause-none c = no_number tile_matrix_shown 1 c.args.row.now c.from_residual.result
+    c.in_err-number_at.field-0.0 c.from_residual.ensures.1 c.in_err-number_at.ensures.none (λ x. x.zoom_level)
+    (λ x. refl)
 
 pub returns-in_err-number_at-2-clause-none : goal.returns-in_err-number_at-2-clause-none
-returns-in_err-number_at-2-clause-none c = no_number tile_matrix_shown 2 c.args.row.now c.from_residual-in_err-number_at-2.result c.in_err-number_at-2.field-0.0 c.from_residual-in_err-number_at-2.ensures.1 c.in_err-number_at-2.ensures.none (λ x. x.matrix_width) (λ x. refl)
+returns-in_err-number_at-2-clause-none c = no_number tile_matrix_shown 2 c.args.row.now
+    c.from_residual-in_err-number_at-2.result c.in_err-number_at-2.field-0.0
+    c.from_residual-in_err-number_at-2.ensures.1 c.in_err-number_at-2.ensures.none (λ x. x.matrix_width) (λ x. refl)
 
 pub returns-in_err-number_at-3-clause-none : goal.returns-in_err-number_at-3-clause-none
-returns-in_err-number_at-3-clause-none c = no_number tile_matrix_shown 3 c.args.row.now c.from_residual-in_err-number_at-3.result c.in_err-number_at-3.field-0.0 c.from_residual-in_err-number_at-3.ensures.1 c.in_err-number_at-3.ensures.none (λ x. x.matrix_height) (λ x. refl)
+returns-in_err-number_at-3-clause-none c = no_number tile_matrix_shown 3 c.args.row.now
+    c.from_residual-in_err-number_at-3.result c.in_err-number_at-3.field-0.0
+    c.from_residual-in_err-number_at-3.ensures.1 c.in_err-number_at-3.ensures.none (λ x. x.matrix_height)
+    (λ x. refl)
 
 pub returns-in_err-number_at-4-clause-none : goal.returns-in_err-number_at-4-clause-none
-returns-in_err-number_at-4-clause-none c = no_number tile_matrix_shown 4 c.args.row.now c.from_residual-in_err-number_at-4.result c.in_err-number_at-4.field-0.0 c.from_residual-in_err-number_at-4.ensures.1 c.in_err-number_at-4.ensures.none (λ x. x.tile_width) (λ x. refl)
+returns-in_err-number_at-4-clause-none c = no_number tile_matrix_shown 4 c.args.row.now
+    c.from_residual-in_err-number_at-4.result c.in_err-number_at-4.field-0.0
+    c.from_residual-in_err-number_at-4.ensures.1 c.in_err-number_at-4.ensures.none (λ x. x.tile_width) (λ x. refl)
 
 pub returns-in_err-number_at-5-clause-none : goal.returns-in_err-number_at-5-clause-none
-returns-in_err-number_at-5-clause-none c = no_number tile_matrix_shown 5 c.args.row.now c.from_residual-in_err-number_at-5.result c.in_err-number_at-5.field-0.0 c.from_residual-in_err-number_at-5.ensures.1 c.in_err-number_at-5.ensures.none (λ x. x.tile_height) (λ x. refl)
+returns-in_err-number_at-5-clause-none c = no_number tile_matrix_shown 5 c.args.row.now
+    c.from_residual-in_err-number_at-5.result c.in_err-number_at-5.field-0.0
+    c.from_residual-in_err-number_at-5.ensures.1 c.in_err-number_at-5.ensures.none (λ x. x.tile_height) (λ x. refl)
 
 pub returns-in_err-number_at-6-clause-none : goal.returns-in_err-number_at-6-clause-none
-returns-in_err-number_at-6-clause-none c = no_number tile_matrix_shown 6 c.args.row.now c.from_residual-in_err-number_at-6.result c.in_err-number_at-6.field-0.0 c.from_residual-in_err-number_at-6.ensures.1 c.in_err-number_at-6.ensures.none (λ x. x.pixel_x_size) (λ x. refl)
+returns-in_err-number_at-6-clause-none c = no_number tile_matrix_shown 6 c.args.row.now
+    c.from_residual-in_err-number_at-6.result c.in_err-number_at-6.field-0.0
+    c.from_residual-in_err-number_at-6.ensures.1 c.in_err-number_at-6.ensures.none (λ x. x.pixel_x_size) (λ x. refl)
 
 pub returns-in_err-number_at-7-clause-none : goal.returns-in_err-number_at-7-clause-none
-returns-in_err-number_at-7-clause-none c = no_number tile_matrix_shown 7 c.args.row.now c.from_residual-in_err-number_at-7.result c.in_err-number_at-7.field-0.0 c.from_residual-in_err-number_at-7.ensures.1 c.in_err-number_at-7.ensures.none (λ x. x.pixel_y_size) (λ x. refl)
+returns-in_err-number_at-7-clause-none c = no_number tile_matrix_shown 7 c.args.row.now
+    c.from_residual-in_err-number_at-7.result c.in_err-number_at-7.field-0.0
+    c.from_residual-in_err-number_at-7.ensures.1 c.in_err-number_at-7.ensures.none (λ x. x.pixel_y_size) (λ x. refl)
 
 pub returns-in_err-text_at-clause-none : goal.returns-in_err-text_at-clause-none
-returns-in_err-text_at-clause-none c = no_text tile_matrix_shown 0 c.args.row.now c.from_residual-in_err-text_at.result c.in_err-text_at.field-0.0 c.from_residual-in_err-text_at.ensures.1 c.in_err-text_at.ensures.none (λ x. x.table_name) (λ x. refl)
+returns-in_err-text_at-clause-none c = no_text tile_matrix_shown 0 c.args.row.now
+    c.from_residual-in_err-text_at.result c.in_err-text_at.field-0.0 c.from_residual-in_err-text_at.ensures.1
+    c.in_err-text_at.ensures.none (λ x. x.table_name) (λ x. refl)

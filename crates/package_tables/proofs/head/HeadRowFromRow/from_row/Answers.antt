@@ -11,25 +11,47 @@ returns-clause-value c =
     let n1 : FitsSigned w64 c.in_ok-number_at-2.field-0 = search rules in
     let n4 : FitsSigned w64 c.in_ok-number_at-3.field-0 = search rules in
     let n5 : FitsSigned w64 c.in_ok-number_at-4.field-0 = search rules in
-    simp (to_z-of_z, n0, n1, n4, n5) (columns 7 c.args.row.now count ∙ rw (c.in_ok-number_at.ensures.number, c.in_ok-number_at-2.ensures.number, c.in_ok-text_at.ensures.text, c.in_ok-text_at-2.ensures.text, c.in_ok-number_at-3.ensures.number, c.in_ok-number_at-4.ensures.number, c.in_ok-text_at-3.ensures.text) refl)
+    simp (to_z-of_z, n0, n1, n4, n5) (columns 7 c.args.row.now count
+    ∙ rw (
+      c.in_ok-number_at.ensures.number,
+      c.in_ok-number_at-2.ensures.number,
+      c.in_ok-text_at.ensures.text,
+      c.in_ok-text_at-2.ensures.text,
+      c.in_ok-number_at-3.ensures.number,
+      c.in_ok-number_at-4.ensures.number,
+      c.in_ok-text_at-3.ensures.text,
+    ) refl)
 
 pub returns-in_err-number_at-clause-none : goal.returns-in_err-number_at-clause-none
-returns-in_err-number_at-clause-none c = no_number head_shown 0 c.args.row.now c.from_residual.result c.in_err-number_at.field-0.0 c.from_residual.ensures.1 c.in_err-number_at.ensures.none (λ x. x.id) (λ x. refl)
+returns-in_err-number_at-clause-none c = no_number head_shown 0 c.args.row.now c.from_residual.result
+    c.in_err-number_at.field-0.0 c.from_residual.ensures.1 c.in_err-number_at.ensures.none (λ x. x.id) (λ x. refl)
 
 pub returns-in_err-number_at-2-clause-none : goal.returns-in_err-number_at-2-clause-none
-returns-in_err-number_at-2-clause-none c = no_number head_shown 1 c.args.row.now c.from_residual-in_err-number_at-2.result c.in_err-number_at-2.field-0.0 c.from_residual-in_err-number_at-2.ensures.1 c.in_err-number_at-2.ensures.none (λ x. x.version) (λ x. refl)
+returns-in_err-number_at-2-clause-none c = no_number head_shown 1 c.args.row.now
+    c.from_residual-in_err-number_at-2.result c.in_err-number_at-2.field-0.0
+    c.from_residual-in_err-number_at-2.ensures.1 c.in_err-number_at-2.ensures.none (λ x. x.version) (λ x. refl)
 
 pub returns-in_err-number_at-3-clause-none : goal.returns-in_err-number_at-3-clause-none
-returns-in_err-number_at-3-clause-none c = no_number head_shown 4 c.args.row.now c.from_residual-in_err-number_at-3.result c.in_err-number_at-3.field-0.0 c.from_residual-in_err-number_at-3.ensures.1 c.in_err-number_at-3.ensures.none (λ x. x.depth) (λ x. refl)
+returns-in_err-number_at-3-clause-none c = no_number head_shown 4 c.args.row.now
+    c.from_residual-in_err-number_at-3.result c.in_err-number_at-3.field-0.0
+    c.from_residual-in_err-number_at-3.ensures.1 c.in_err-number_at-3.ensures.none (λ x. x.depth) (λ x. refl)
 
 pub returns-in_err-number_at-4-clause-none : goal.returns-in_err-number_at-4-clause-none
-returns-in_err-number_at-4-clause-none c = no_number head_shown 5 c.args.row.now c.from_residual-in_err-number_at-4.result c.in_err-number_at-4.field-0.0 c.from_residual-in_err-number_at-4.ensures.1 c.in_err-number_at-4.ensures.none (λ x. x.loan) (λ x. refl)
+returns-in_err-number_at-4-clause-none c = no_number head_shown 5 c.args.row.now
+    c.from_residual-in_err-number_at-4.result c.in_err-number_at-4.field-0.0
+    c.from_residual-in_err-number_at-4.ensures.1 c.in_err-number_at-4.ensures.none (λ x. x.loan) (λ x. refl)
 
 pub returns-in_err-text_at-clause-none : goal.returns-in_err-text_at-clause-none
-returns-in_err-text_at-clause-none c = no_text head_shown 2 c.args.row.now c.from_residual-in_err-text_at.result c.in_err-text_at.field-0.0 c.from_residual-in_err-text_at.ensures.1 c.in_err-text_at.ensures.none (λ x. x.package) (λ x. refl)
+returns-in_err-text_at-clause-none c = no_text head_shown 2 c.args.row.now c.from_residual-in_err-text_at.result
+    c.in_err-text_at.field-0.0 c.from_residual-in_err-text_at.ensures.1 c.in_err-text_at.ensures.none
+    (λ x. x.package) (λ x. refl)
 
 pub returns-in_err-text_at-2-clause-none : goal.returns-in_err-text_at-2-clause-none
-returns-in_err-text_at-2-clause-none c = no_text head_shown 3 c.args.row.now c.from_residual-in_err-text_at-2.result c.in_err-text_at-2.field-0.0 c.from_residual-in_err-text_at-2.ensures.1 c.in_err-text_at-2.ensures.none (λ x. x.parent) (λ x. refl)
+returns-in_err-text_at-2-clause-none c = no_text head_shown 3 c.args.row.now c.from_residual-in_err-text_at-2.result
+    c.in_err-text_at-2.field-0.0 c.from_residual-in_err-text_at-2.ensures.1 c.in_err-text_at-2.ensures.none
+    (λ x. x.parent) (λ x. refl)
 
 pub returns-in_err-text_at-3-clause-none : goal.returns-in_err-text_at-3-clause-none
-returns-in_err-text_at-3-clause-none c = no_text head_shown 6 c.args.row.now c.from_residual-in_err-text_at-3.result c.in_err-text_at-3.field-0.0 c.from_residual-in_err-text_at-3.ensures.1 c.in_err-text_at-3.ensures.none (λ x. x.created) (λ x. refl)
+returns-in_err-text_at-3-clause-none c = no_text head_shown 6 c.args.row.now c.from_residual-in_err-text_at-3.result
+    c.in_err-text_at-3.field-0.0 c.from_residual-in_err-text_at-3.ensures.1 c.in_err-text_at-3.ensures.none
+    (λ x. x.created) (λ x. refl)

@@ -9,10 +9,15 @@ returns-clause-value c =
     let count : length c.args.row.now ≡ 2 = omega (arith, c.column_count.ensures, c.if-column_count-ne2.false) in
     let n0 : FitsSigned w64 c.in_ok-number_at.field-0 = search rules in
     let n1 : FitsSigned w64 c.in_ok-number_at-2.field-0 = search rules in
-    simp (to_z-of_z, n0, n1) (columns 2 c.args.row.now count ∙ rw (c.in_ok-number_at.ensures.number, c.in_ok-number_at-2.ensures.number) refl)
+    simp (to_z-of_z, n0, n1) (columns 2 c.args.row.now count
+    ∙ rw (c.in_ok-number_at.ensures.number, c.in_ok-number_at-2.ensures.number) refl)
 
 pub returns-in_err-number_at-clause-none : goal.returns-in_err-number_at-clause-none
-returns-in_err-number_at-clause-none c = no_number mapping_shown 0 c.args.row.now c.from_residual.result c.in_err-number_at.field-0.0 c.from_residual.ensures.1 c.in_err-number_at.ensures.none (λ x. x.base_id) (λ x. refl)
+returns-in_err-number_at-clause-none c = no_number mapping_shown 0 c.args.row.now c.from_residual.result
+    c.in_err-number_at.field-0.0 c.from_residual.ensures.1 c.in_err-number_at.ensures.none (λ x. x.base_id)
+    (λ x. refl)
 
 pub returns-in_err-number_at-2-clause-none : goal.returns-in_err-number_at-2-clause-none
-returns-in_err-number_at-2-clause-none c = no_number mapping_shown 1 c.args.row.now c.from_residual-in_err-number_at-2.result c.in_err-number_at-2.field-0.0 c.from_residual-in_err-number_at-2.ensures.1 c.in_err-number_at-2.ensures.none (λ x. x.related_id) (λ x. refl)
+returns-in_err-number_at-2-clause-none c = no_number mapping_shown 1 c.args.row.now
+    c.from_residual-in_err-number_at-2.result c.in_err-number_at-2.field-0.0
+    c.from_residual-in_err-number_at-2.ensures.1 c.in_err-number_at-2.ensures.none (λ x. x.related_id) (λ x. refl)

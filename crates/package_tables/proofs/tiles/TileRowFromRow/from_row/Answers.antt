@@ -11,19 +11,35 @@ returns-clause-value c =
     let n1 : FitsSigned w64 c.in_ok-number_at-2.field-0 = search rules in
     let n2 : FitsSigned w64 c.in_ok-number_at-3.field-0 = search rules in
     let n3 : FitsSigned w64 c.in_ok-number_at-4.field-0 = search rules in
-    simp (to_z-of_z, n0, n1, n2, n3) (columns 5 c.args.row.now count ∙ rw (c.in_ok-number_at.ensures.number, c.in_ok-number_at-2.ensures.number, c.in_ok-number_at-3.ensures.number, c.in_ok-number_at-4.ensures.number, c.in_ok-bytes_at.ensures.bytes) refl)
+    simp (to_z-of_z, n0, n1, n2, n3) (columns 5 c.args.row.now count
+    ∙ rw (
+      c.in_ok-number_at.ensures.number,
+      c.in_ok-number_at-2.ensures.number,
+      c.in_ok-number_at-3.ensures.number,
+      c.in_ok-number_at-4.ensures.number,
+      c.in_ok-bytes_at.ensures.bytes,
+    ) refl)
 
 pub returns-in_err-number_at-clause-none : goal.returns-in_err-number_at-clause-none
-returns-in_err-number_at-clause-none c = no_number tile_shown 0 c.args.row.now c.from_residual.result c.in_err-number_at.field-0.0 c.from_residual.ensures.1 c.in_err-number_at.ensures.none (λ x. x.id) (λ x. refl)
+returns-in_err-number_at-clause-none c = no_number tile_shown 0 c.args.row.now c.from_residual.result
+    c.in_err-number_at.field-0.0 c.from_residual.ensures.1 c.in_err-number_at.ensures.none (λ x. x.id) (λ x. refl)
 
 pub returns-in_err-number_at-2-clause-none : goal.returns-in_err-number_at-2-clause-none
-returns-in_err-number_at-2-clause-none c = no_number tile_shown 1 c.args.row.now c.from_residual-in_err-number_at-2.result c.in_err-number_at-2.field-0.0 c.from_residual-in_err-number_at-2.ensures.1 c.in_err-number_at-2.ensures.none (λ x. x.zoom_level) (λ x. refl)
+returns-in_err-number_at-2-clause-none c = no_number tile_shown 1 c.args.row.now
+    c.from_residual-in_err-number_at-2.result c.in_err-number_at-2.field-0.0
+    c.from_residual-in_err-number_at-2.ensures.1 c.in_err-number_at-2.ensures.none (λ x. x.zoom_level) (λ x. refl)
 
 pub returns-in_err-number_at-3-clause-none : goal.returns-in_err-number_at-3-clause-none
-returns-in_err-number_at-3-clause-none c = no_number tile_shown 2 c.args.row.now c.from_residual-in_err-number_at-3.result c.in_err-number_at-3.field-0.0 c.from_residual-in_err-number_at-3.ensures.1 c.in_err-number_at-3.ensures.none (λ x. x.tile_column) (λ x. refl)
+returns-in_err-number_at-3-clause-none c = no_number tile_shown 2 c.args.row.now
+    c.from_residual-in_err-number_at-3.result c.in_err-number_at-3.field-0.0
+    c.from_residual-in_err-number_at-3.ensures.1 c.in_err-number_at-3.ensures.none (λ x. x.tile_column) (λ x. refl)
 
 pub returns-in_err-number_at-4-clause-none : goal.returns-in_err-number_at-4-clause-none
-returns-in_err-number_at-4-clause-none c = no_number tile_shown 3 c.args.row.now c.from_residual-in_err-number_at-4.result c.in_err-number_at-4.field-0.0 c.from_residual-in_err-number_at-4.ensures.1 c.in_err-number_at-4.ensures.none (λ x. x.tile_row) (λ x. refl)
+returns-in_err-number_at-4-clause-none c = no_number tile_shown 3 c.args.row.now
+    c.from_residual-in_err-number_at-4.result c.in_err-number_at-4.field-0.0
+    c.from_residual-in_err-number_at-4.ensures.1 c.in_err-number_at-4.ensures.none (λ x. x.tile_row) (λ x. refl)
 
 pub returns-in_err-bytes_at-clause-none : goal.returns-in_err-bytes_at-clause-none
-returns-in_err-bytes_at-clause-none c = no_bytes tile_shown 4 c.args.row.now c.from_residual-in_err-bytes_at.result c.in_err-bytes_at.field-0.0 c.from_residual-in_err-bytes_at.ensures.1 c.in_err-bytes_at.ensures.none (λ x. x.tile_data) (λ x. refl)
+returns-in_err-bytes_at-clause-none c = no_bytes tile_shown 4 c.args.row.now c.from_residual-in_err-bytes_at.result
+    c.in_err-bytes_at.field-0.0 c.from_residual-in_err-bytes_at.ensures.1 c.in_err-bytes_at.ensures.none
+    (λ x. x.tile_data) (λ x. refl)

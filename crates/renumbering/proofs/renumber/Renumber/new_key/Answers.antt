@@ -1,4 +1,5 @@
-use Rattle.std.proofs.Common.{◌≡◌, ◌<◌, ℤ, ap, ◌∙◌, subst, sym, get_or, length, to_z, of_z, to_z-of_z, FitsSigned}
+use Rattle.std.proofs.Common.{◌≡◌, ◌<◌, ℤ, ap, ◌∙◌, subst, sym, get_or, length, to_z, of_z}
+use Rattle.std.proofs.Common.{to_z-of_z, FitsSigned}
 use Rattle.std.proofs.Common.{w64, rules, Some, None, List, IsSome, false, Ok, Err, zip}
 use Rattle.std.proofs.lemmas.Bool.{false≢true}
 use Rattle.std.specs.List.{list_any}

@@ -22,14 +22,16 @@ returns-in_ok-check_header-in-Some-Ok-clause-stands g c =
     let config : rows.rdr.config ≡ default_config = rw is (rw (f, e) at fr.config ∙ c.new.ensures.config) in
     let source : source_of rem rows.rdr ≡ option_map strip_bom text = rw is fr.source in
     let state : rows.rdr.state ≡ st.StartRecord = rw is fr.state in
-    let step = rw (c.in-Some-Ok.is, c.in-Some-Ok.field-0-is) at ((c.next.ensures.steps c.into_byte_records-rows.ensures.left plain).0 ready) in
+    let step = rw (c.in-Some-Ok.is, c.in-Some-Ok.field-0-is) at
+    ((c.next.ensures.steps c.into_byte_records-rows.ensures.left plain).0 ready) in
     record {
       plain = step.0.3 ∙ plain;
       ready = inl step.1;
       left = step.2;
       config = step.0.2 ∙ config;
       counted = refl;
-      read = header_read rem rows.rdr c.next.new.self.rdr config state text (fields_of c.in-Some-Ok.row) source step.0 c.in_ok-check_header-in-Some-Ok.ensures.ok;
+      read = header_read rem rows.rdr c.next.new.self.rdr config state text (fields_of c.in-Some-Ok.row) source step.0
+          c.in_ok-check_header-in-Some-Ok.ensures.ok;
     }
 
 pub returns-in_err-check_header-in-Some-Ok-clause-fault : goal.returns-in_err-check_header-in-Some-Ok-clause-fault
@@ -46,8 +48,10 @@ returns-in_err-check_header-in-Some-Ok-clause-fault g c =
     let config : rows.rdr.config ≡ default_config = rw is (rw (f, e) at fr.config ∙ c.new.ensures.config) in
     let source : source_of rem rows.rdr ≡ option_map strip_bom text = rw is fr.source in
     let state : rows.rdr.state ≡ st.StartRecord = rw is fr.state in
-    let step = rw (c.in-Some-Ok.is, c.in-Some-Ok.field-0-is) at ((c.next.ensures.steps c.into_byte_records-rows.ensures.left plain).0 ready) in
-    let fact = header_met rem rows.rdr c.next.new.self.rdr config state text (fields_of c.in-Some-Ok.row) c.in_err-check_header-in-Some-Ok.field-0.0 source step.0 c.in_err-check_header-in-Some-Ok.ensures.fault in
+    let step = rw (c.in-Some-Ok.is, c.in-Some-Ok.field-0-is) at
+    ((c.next.ensures.steps c.into_byte_records-rows.ensures.left plain).0 ready) in
+    let fact = header_met rem rows.rdr c.next.new.self.rdr config state text (fields_of c.in-Some-Ok.row)
+    c.in_err-check_header-in-Some-Ok.field-0.0 source step.0 c.in_err-check_header-in-Some-Ok.ensures.fault in
     let exit = err_from_is_err_and c.from_residual.result c.from_residual.ensures.1 in
     rw (exit.1, exit.2) (inr fact)
 

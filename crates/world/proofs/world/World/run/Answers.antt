@@ -18,14 +18,11 @@ loop-request-preserved g c =
     record {
       step = c.apply-reply.ensures.uses.step;
       still = c.apply-reply.ensures.still;
-      unharmed =
-          c.apply-reply.ensures.unharmed;
+      unharmed = c.apply-reply.ensures.unharmed;
       rises = c.apply-reply.ensures.rises;
-      failed =
-          c.apply-reply.ensures.failed;
+      failed = c.apply-reply.ensures.failed;
       cause = c.apply-reply.ensures.cause;
-      usable =
-          c.apply-reply.ensures.usable;
+      usable = c.apply-reply.ensures.usable;
       shelf = c.apply-reply.ensures.shelf;
     } in
     let ran = run_more g.S.Store (take c.loop-request.request-index c.args.requests.now) q c.args.self.now

@@ -5,4 +5,8 @@ use Rattle.world_known.proofs.known.Known.note_all.Given as goal
 
 -- each so far
 abbrev pub invariant-loop-receipt : goal.invariant-loop-receipt
-invariant-loop-receipt l = record { notes : AllByRecursion (Notes l.self) (take l.receipt-index l.receipts); grows : Grows l.fn.self l.self }
+invariant-loop-receipt l = record {
+  notes : AllByRecursion (Notes l.self) (take l.receipt-index l.receipts);
+  grows :
+      Grows l.fn.self l.self;
+}

@@ -6,4 +6,5 @@ use Rattle.world_known.proofs.known.Known.put_new.Goals as goal
 
 pub returns-then-contains_key-clause-known : goal.returns-then-contains_key-clause-known
 returns-then-contains_key-clause-known c =
-    subst (λ ks. Contains ks c.args.id) c.self.view_is (has_key c.self.inside.places c.args.id (sym c.contains_key.ensures ∙ c.if-contains_key.true))
+    subst (λ ks. Contains ks c.args.id) c.self.view_is (has_key c.self.inside.places c.args.id
+    (sym c.contains_key.ensures ∙ c.if-contains_key.true))

@@ -12,7 +12,7 @@ use Rattle.identity_register.specs.Told.{IsToldOf}
 use Rattle.identity_register.proofs.Looking.{looked, looked_then, sees, fails}
 use Rattle.identity_register.proofs.Reaching.{looked_on}
 use Rattle.identity_register.proofs.Telling.{told_are}
-use Rattle.identity_register.proofs.told.told.Goals as goal
+use Rattle.identity_register.proofs.told.tell_all.Goals as goal
 
 pub returns : goal.returns
 returns g c =
