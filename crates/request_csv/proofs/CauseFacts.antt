@@ -14,7 +14,8 @@ use Rattle.request_csv.specs.declared.causes.ListFault.{ListFault}
 use Rattle.request_csv.specs.declared.forms.ColumnFault.{ColumnFault}
 use Rattle.request_csv.specs.declared.forms.Want.{Want}
 use Rattle.request_csv.specs.declared.forms.Want.TheVariants.{ItsName}
-use Rattle.request_csv.proofs.FormFacts.{fault_asks_nothing, met_not_first}
+use Rattle.request_csv.proofs.FormFacts.{met_not_first}
+use Rattle.request_csv.proofs.UnmetForms.{fault_asks_nothing}
 
 -- ---- the names of the columns
 

@@ -9,4 +9,5 @@ mod OneRequest
 mod OneWord
 pub mod ReaderFacts
 mod RecordFacts
+mod UnmetForms
 mod WordFacts
