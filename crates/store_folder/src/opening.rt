@@ -22,6 +22,10 @@ use std::io::ErrorKind;
 use std::os::unix::fs::MetadataExt;
 use uuid::Uuid;
 
+/// How many pages the log of a file takes before they are copied into the file: 16 MB of them.
+/// Four times what stock SQLite takes: each copying waits for the disk twice.
+const LOG_FRAMES: usize = 4000;
+
 /// The cause that the name of a file shows, where the file of a package could not be opened.
 fn cause_at(rt: &HostRuntime, path: &str, package: Uuid) -> Option<FolderFault> {
     match fs::symlink_metadata(rt, path) {
@@ -100,6 +104,7 @@ fn connect(rt: &HostRuntime, path: &str, pages: usize) -> Result<Connection<Fold
     };
     let mut options = Options::new(state.hash_one(&0u8));
     options.cache_pages = pages;
+    options.checkpoint_frames = LOG_FRAMES;
     match Connection::open_files_with(rt.alloc(), files, options, false) {
         Ok(mut conn) => {
             conn.set_clock(rt);
