@@ -28,7 +28,21 @@ def toolchain():
     made = module_from_spec(spec_from_loader("rt", loader))
     sys.modules["rt"] = made
     loader.exec_module(made)
+    remember(made.rtlib.Crate)
     return made
+
+
+def remember(crate):
+    """Lets a crate's sum and the libraries below it be reckoned once, and not once for each way down crates.txt: no source changes while edits are tried."""
+    for name in ("stamp", "below"):
+        plain, known = getattr(crate, name), {}
+
+        def told(self, plain=plain, known=known):
+            if self.name not in known:
+                known[self.name] = plain(self)
+            return known[self.name]
+
+        setattr(crate, name, told)
 
 
 def applied(rt):

@@ -24,6 +24,9 @@ The outcomes, and how the two kinds of refusal are told apart:
     does not apply              the edit does not fit the sources, or what it makes does not compile
     no verdict                  the prover met a limit, or memory or the given time ran out: said again by a later run
 
+Edits of different functions of a crate are checked together, --together at a time: a function is checked by the contracts of the others
+alone, so each verdict is that of its own edit. An edit that such a check says nothing of, or would let through, is tried once more by itself.
+
 With --aside an edit that was refused by a proof alone is tried once more with the answers of its functions set aside, and so are the right
 bodies. It counts as refused where the prover then finds values, or where a goal is open that is closed for the right bodies in the same state.
 This is dear (each goal is searched), so it has its own limit, --aside-seconds. What still is not told apart needs
@@ -113,6 +116,30 @@ def pairs_of(path):
             elif line.startswith("old:"):
                 found.append((file, line[len("old:") :].removeprefix(" ")))
     return found
+
+
+def replaced(crate, paths):
+    """Returns the texts of the files that these edits change, with all of them, or None where one does not fit beside the others."""
+    texts = {}
+    for path in paths:
+        file, old = "", None
+        with open(path, encoding="utf-8") as it:
+            lines = it.read().split("\n")
+        for line in lines:
+            word, _, rest = line.partition(":")
+            rest = rest.removeprefix(" ")
+            if word == "file":
+                file = rest.strip()
+                if file not in texts:
+                    with open(f"{crate.folder}/{file}", encoding="utf-8") as it:
+                        texts[file] = it.read()
+            elif word == "old":
+                old = rest
+            elif word == "new":
+                if not old or texts.get(file, "").count(old) != 1:
+                    return None
+                texts[file] = texts[file].replace(old, rest)
+    return texts
 
 
 def function_at(text, at, file):
@@ -218,6 +245,54 @@ class Ran:
             for goal in re.findall(r"`([^`]+)`", told[2]) if told else ():
                 found.add((told[1], goal))
         return found
+
+
+class Part(Ran):
+    """What a check of several edits said of some functions."""
+
+    def __init__(self, ran, texts, functions):
+        self.functions, self.texts = functions, texts
+        super().__init__(1, "\n".join([*filter(self.is_of, ran.lines), "only="]))
+
+    def is_of(self, line):
+        told = re.match(r"fn \w+?::([\w:+]+):", line)
+        if told:
+            return told[1] in self.functions
+        told = re.search(r"(?<![\w/])(?:\./)?proofs/([\w/+]+)/\w+\.antt:", line)
+        if told:
+            return told[1].replace("/", "::") in self.functions
+        told = re.search(r"(?<![\w/])(?:\./)?(src/[\w/]+\.rt):(\d+):\d+:", line)
+        if not told or told[1] not in self.texts:
+            return False
+        text = self.texts[told[1]]
+        lines = text.split("\n")
+        number = int(told[2])
+        # (a complaint of a contract stands at the head of the function, or in a clause)
+        for place in range(number - 1, min(number + 40, len(lines))):
+            at = sum(len(it) + 1 for it in lines[:place])
+            name = function_at(text, at, told[1])
+            if name:
+                return name in self.functions
+        return False
+
+    def is_told(self):
+        """Returns whether each function has a verdict, and one is not proved for itself, whatever it calls."""
+        told = dict(re.match(r"fn \w+?::([\w:+]+): (.*)", it).groups() for it in self.lines if it.startswith("fn "))
+        own = [it for it in told.values() if it != "proved" and not it.startswith("no proof: it calls")]
+        return set(told) >= set(self.functions) and own != []
+
+
+def apart(tries, count):
+    """Splits tries into groups of at most so many, of which no two change one function."""
+    groups = []
+    for one in tries:
+        group = next(
+            (it for it in groups if len(it) < count and not any(set(one[3]) & set(other[3]) for other in it)), None
+        )
+        if group is None:
+            groups.append(group := [])
+        group.append(one)
+    return groups
 
 
 class Room:
@@ -477,34 +552,70 @@ class Work:
         if not tries or not self.are_right(room, crate, tries):
             return
         honest = {}
-        # those of one function one after the other; those that need the whole crate last
-        for name, sum, texts, functions in sorted(tries, key=lambda it: (it[3] is None, it[3] or [])):
+        alone = [it for it in tries if it[3] is None or self.is_kept_alone(crate, it)]
+        for group in apart([it for it in tries if it not in alone], self.said.together):
             if self.is_late():
                 return
-            begun, row = time.time(), self.rows.get((crate.name, name), {})
-            if self.said.aside and row.get("sum") == sum and row.get("outcome") == ALONE:
-                outcome, why = ALONE, row["why"]
+            alone += self.group(room, crate, group) if len(group) > 1 else group
+        # those of one function one after the other; those that need the whole crate last
+        for one in sorted(alone, key=lambda it: (it[3] is None, it[3] or [])):
+            if self.is_late():
+                return
+            self.one(room, crate, one, honest)
+
+    def is_kept_alone(self, crate, one):
+        """Returns whether it is known of an edit that a proof alone refuses it, and answers are to be set aside."""
+        row = self.rows.get((crate.name, one[0]), {})
+        return self.said.aside and row.get("sum") == one[1] and row.get("outcome") == ALONE
+
+    def group(self, room, crate, group):
+        """Tries edits of different functions by one check, and returns those of which it says nothing."""
+        begun = time.time()
+        texts = replaced(crate, [f"{ROOT}/attacks/{crate.name}/{it[0]}.edit" for it in group])
+        if texts is None:
+            return group
+        functions = sorted({name for it in group for name in it[3]})
+        ran = room.check(texts, functions, seconds=self.said.seconds * 2)
+        lost = {it.partition("::")[2] for it in ran.failed()} - set(functions)
+        if ran.why or lost or ran.status != 1 or not ran.lines[-1].startswith("only="):
+            return group
+        left = []
+        for one in group:
+            part = Part(ran, texts, one[3])
+            outcome, why = outcome_of(self.rt, part, one[2]) if part.is_told() else (NONE, "")
+            if outcome == REFUSED or outcome == ALONE and not self.said.aside and why:
+                self.note(crate, one[0], one[1], outcome, why, begun)
             else:
+                left.append(one)
+        return left
+
+    def one(self, room, crate, one, honest):
+        """Tries an edit by itself."""
+        name, sum, texts, functions = one
+        begun, row = time.time(), self.rows.get((crate.name, name), {})
+        if self.is_kept_alone(crate, one):
+            outcome, why = ALONE, row["why"]
+        else:
+            ran = room.check(texts, functions)
+            if ran.status == 2 and functions and not ran.why:
+                # (the function has another name than is read here: its module stands for it)
+                functions = sorted({re.sub(r"(::[A-Z]\w*)?::\w+$", "", it) for it in functions})
                 ran = room.check(texts, functions)
-                if ran.status == 2 and functions and not ran.why:
-                    # (the function has another name than is read here: its module stands for it)
-                    functions = sorted({re.sub(r"(::[A-Z]\w*)?::\w+$", "", it) for it in functions})
-                    ran = room.check(texts, functions)
-                outcome, why = outcome_of(self.rt, ran, texts)
-                if self.said.show:
-                    print("\n".join(f"    {it[:220]}" for it in ran.lines[:60]), flush=True)
-                lost = [
-                    it
-                    for it in ran.failed()
-                    if functions and not any(it.partition("::")[2].startswith(one) for one in functions)
-                ]
-                if lost and outcome in (REFUSED, ALONE):
-                    outcome, why = NONE, f"another function is not proved either: {lost[0]}"
-            if outcome == ALONE and self.said.aside:
-                first = why
-                outcome, why = told_apart(room, honest, texts, functions)
-                why = why if outcome == REFUSED else f"{why}; {first}"
-            self.note(crate, name, sum, outcome, why, begun)
+            outcome, why = outcome_of(self.rt, ran, texts)
+            if self.said.show:
+                print("\n".join(f"    {it[:220]}" for it in ran.lines[:60]), flush=True)
+            lost = [
+                it
+                for it in ran.failed()
+                if functions and not any(it.partition("::")[2].startswith(one) for one in functions)
+            ]
+            if lost and outcome in (REFUSED, ALONE):
+                outcome, why = NONE, f"another function is not proved either: {lost[0]}"
+        if outcome == ALONE and self.said.aside:
+            first = why
+            outcome, why = told_apart(room, honest, texts, functions)
+            why = why if outcome == REFUSED else f"{why}; {first}"
+        self.note(crate, name, sum, outcome, why, begun)
 
 
 def show_open(rows, there):
@@ -520,31 +631,26 @@ def show_open(rows, there):
     return count
 
 
-def show_table(rows, there):
-    """Prints a line a crate of which edits were tried.
+def counted(rows, crate, names):
+    """Returns of a crate's edits how many there are, and how many were refused by whom, let through, without a verdict, and not tried."""
+    told = [rows.get((crate, it), {"outcome": "untried", "why": ""}) for it in names]
+    seen = [it["outcome"] for it in told]
+    looked = sum(it["outcome"] == REFUSED and it["why"].partition(":")[0] in ("looked", "") for it in told)
+    refused = seen.count(REFUSED) - looked
+    return [len(names), refused, looked, *[seen.count(it) for it in (ALONE, THROUGH, NONE, "untried")]]
 
-    What was refused is told by who saw it: the prover, somebody who read the clauses, or nobody."""
-    print(
-        "| Crate | Edits | Tried | Refused: by the prover | somebody looked | not told apart "
-        "| By a proof alone | Let through | Do not apply | No verdict |"
-    )
-    print("|---|" + "---|" * 9)
-    total = [0] * 9
-    for crate, names in there.items():
-        told = [rows[crate, it] for it in names if (crate, it) in rows]
-        why = [it["why"].partition(":")[0] for it in told if it["outcome"] == REFUSED]
-        seen = [why.count("looked"), why.count("")]
-        row = [
-            len(names),
-            len(told),
-            len(why) - sum(seen),
-            *seen,
-            *[[it["outcome"] for it in told].count(it) for it in ORDER[1:]],
-        ]
-        total = [one + other for one, other in zip(total, row)]
-        if told:
-            print(f"| `{crate}` | {' | '.join(str(it or '') for it in row)} |")
-    print(f"| all | {' | '.join(map(str, total))} |")
+
+def show_table(rows, there):
+    """Prints how the edits of each crate ended, two crates a line."""
+    cells = [[f"`{crate}`", *counted(rows, crate, names)] for crate, names in there.items()]
+    total = [sum(it) for it in list(zip(*cells))[1:]]
+    cells.append(["all", *total])
+    half = (len(cells) + 1) // 2
+    heads = ["Crate", "Edits", "Values", "Reader", "Proof", "Through", "None", "Untried"]
+    print(f"| {' | '.join(heads + heads)} |")
+    print("|---|" + "---|" * (2 * len(heads) - 1))
+    for left, right in zip(cells[:half], cells[half:] + [[""] * len(heads)]):
+        print(f"| {' | '.join(str(it or '') for it in left + right)} |")
 
 
 def main():
@@ -562,6 +668,7 @@ def main():
     words.add_argument("--until", default="", help="begin no check after this time of day, HH:MM")
     words.add_argument("--whole", action="store_true", help="also those edits that need a check of the whole crate")
     words.add_argument("--aside", action="store_true", help="set answers aside where a proof alone refused")
+    words.add_argument("--together", type=int, default=6, help="so many edits of different functions by one check")
     words.add_argument("--lanes", type=int, default=1, help="so many crates side by side")
     words.add_argument(
         "--seconds", type=int, default=420, help="the most that a try may take, in seconds of a processor"
