@@ -20,7 +20,7 @@ command over an archive with nothing in it (for Python that is the interpreter's
 the greatest, for each request or item in microseconds; then the exponent with which the time of the whole grew from the count before,
 and how many times as long as Python the program took.
 
-The side engine is the kit's engine alone (engine_floor.py), and has additions and one large split only: the same rows in the same
+The side engine is the kit's engine alone (engine_floor.py), and has additions, mixed and one large split only: the same rows in the same
 transactions, with nothing asked or judged beside them. It prints nothing.
 
 --memory: the greatest resident memory of an import of COUNT additions, and of an audit after it (10000 and 100000), of either side.
@@ -45,7 +45,7 @@ HERE = os.path.dirname(os.path.abspath(__file__))
 # The first is filled in when words are read.
 SIDES = {"sheetdesk": [], "Python": [sys.executable, os.path.join(HERE, "plain_folder.py")], "engine": []}
 # What the engine is told in place of a command, where it has the case.
-ENGINE = {"additions": "add", "one large split": "move"}
+ENGINE = {"additions": "import", "mixed": "import", "one large split": "move"}
 OTHER = "b0000000-0000-4000-8000-000000000000"
 MEMORY = "/dev/shm" if os.path.isdir("/dev/shm") else None
 
@@ -146,7 +146,7 @@ def engine_words(name, case, folder, place, lines):
     if ENGINE[name] == "move":
         other = made_of("sheetdesk", [], place, OTHER)
         return ["move", archive, os.path.join(other, f"{OTHER}.gpkg"), str(case.things // 3 if lines else 0)]
-    return ["add", archive, os.path.join(place, "timed.csv")]
+    return ["import", archive, os.path.join(place, "timed.csv")]
 
 
 def timed(side, name, case, begun, place, lines):
