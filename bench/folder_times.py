@@ -1,10 +1,10 @@
 #!/usr/bin/env python3
 """Times `sheetdesk` over a folder of packages, and the same work by plain_folder.py over stock SQLite, in one run.
 
-Usage: folder_times.py [--folder FOLDER] [--case NAME].. [--side sheetdesk|Python|engine].. [--program PROGRAM] [ROUNDS [COUNT..]]
+Usage: folder_times.py [--folder FOLDER] [--case NAME].. [--side sheetdesk|Python].. [--program PROGRAM] [ROUNDS [COUNT..]]
        folder_times.py --memory [COUNT..]
 
-(3 rounds of 1000 and 10000; all cases, sheetdesk and Python; FOLDER is where temporary files are, which should be on a disk.)
+(3 rounds of 1000 and 10000; all cases, both sides; FOLDER is where temporary files are, which should be on a disk.)
 
 - additions: an import of COUNT additions, a third each tiles, media and rows.
 - mixed: of ten requests six additions, two links, one that takes a link off, one that deletes.
@@ -20,9 +20,6 @@ command over an archive with nothing in it (for Python that is the interpreter's
 the greatest, for each request or item in microseconds; then the exponent with which the time of the whole grew from the count before,
 and how many times as long as Python the program took.
 
-The side engine is the kit's engine alone (engine_floor.py), and has additions, mixed and one large split only: the same rows in the same
-transactions, with nothing asked or judged beside them. It prints nothing.
-
 --memory: the greatest resident memory of an import of COUNT additions, and of an audit after it (10000 and 100000), of either side.
 """
 
@@ -37,16 +34,12 @@ import tempfile
 import time
 from collections import deque, namedtuple
 
-from engine_floor import floor
 from program import program
 from timed_lists import ARCHIVE, AT, FRAME, HEADER, MOST_LOANS, List, additions, mixed
 
 HERE = os.path.dirname(os.path.abspath(__file__))
 # The first is filled in when words are read.
-SIDES = {"sheetdesk": [], "Python": [sys.executable, os.path.join(HERE, "plain_folder.py")], "engine": []}
-# What the engine is told in place of a command, where it has the case.
-ENGINE = {"additions": "import", "mixed": "import", "one large split": "move"}
-OTHER = "b0000000-0000-4000-8000-000000000000"
+SIDES = {"sheetdesk": [], "Python": [sys.executable, os.path.join(HERE, "plain_folder.py")]}
 MEMORY = "/dev/shm" if os.path.isdir("/dev/shm") else None
 
 # What stands before, the words of what is timed, a list for it or None, and how many things that is.
@@ -123,10 +116,10 @@ def run(side, words):
         return Took(took, used.ru_utime + used.ru_stime, used.ru_maxrss, printed.read())
 
 
-def made_of(side, lines, place, archive=ARCHIVE):
-    """A folder in which a list was carried out; of the engine's, which makes no package, by the program."""
-    folder, side = tempfile.mkdtemp(dir=place), "sheetdesk" if side == "engine" else side
-    run(side, ["init", "--archive", archive, "--at", AT, "--frame", FRAME, folder])
+def made_of(side, lines, place):
+    """A folder in which a list was carried out, and the list's file."""
+    folder = tempfile.mkdtemp(dir=place)
+    run(side, ["init", "--archive", ARCHIVE, "--at", AT, "--frame", FRAME, folder])
     if lines:
         path = os.path.join(place, "before.csv")
         with open(path, "wb") as file:
@@ -140,16 +133,7 @@ def refuse_none(report):
         sys.exit("a request was refused")
 
 
-def engine_words(name, case, folder, place, lines):
-    """What the engine is told of a case: the file of a list, or that of a second package and how many things of a kind there are."""
-    archive = os.path.join(folder, f"{ARCHIVE}.gpkg")
-    if ENGINE[name] == "move":
-        other = made_of("sheetdesk", [], place, OTHER)
-        return ["move", archive, os.path.join(other, f"{OTHER}.gpkg"), str(case.things // 3 if lines else 0)]
-    return ["import", archive, os.path.join(place, "timed.csv")]
-
-
-def timed(side, name, case, begun, place, lines):
+def timed(side, case, begun, place, lines):
     """What a case takes over a copy of the folder that it begins with."""
     folder = os.path.join(place, "timed")
     shutil.copytree(begun, folder)
@@ -159,13 +143,11 @@ def timed(side, name, case, begun, place, lines):
         with open(path, "wb") as file:
             file.write(listed(lines))
         words.append(path)
-    if side == "engine":
-        words = engine_words(name, case, folder, place, lines)
     # So that what was copied is not written while the program waits for its own.
     os.sync()
     took = run(side, words)
     shutil.rmtree(folder)
-    if case.words == "import" and side != "engine":
+    if case.words == "import":
         refuse_none(took.printed)
     return took
 
@@ -174,8 +156,8 @@ def each_thing(took, idle, case):
     return [1e6 * (getattr(took, name) - getattr(idle, name)) / case.things for name in ("clock", "processor")]
 
 
-def idle_of(side, name, case, empty, place):
-    runs = [timed(side, name, case, empty, place, []) for _ in range(5)]
+def idle_of(side, case, empty, place):
+    runs = [timed(side, case, empty, place, []) for _ in range(5)]
     return Took(*(statistics.median(getattr(each, name) for each in runs) for name in ("clock", "processor")), 0, b"")
 
 
@@ -201,24 +183,23 @@ def measure(said, place, memory):
         before = {}
         for count in said.counts or [1000, 10000]:
             case = CASES[name](count)
-            sides = [side for side in said.sides if side != "engine" or name in ENGINE]
-            begun = {side: made_of(side, case.before, memory) for side in sides}
-            empty = {side: made_of(side, [], memory) for side in sides}
-            idle = {side: idle_of(side, name, case, empty[side], place) for side in sides}
-            costs = {side: [] for side in sides}
+            begun = {side: made_of(side, case.before, memory) for side in said.sides}
+            empty = {side: made_of(side, [], memory) for side in said.sides}
+            idle = {side: idle_of(side, case, empty[side], place) for side in said.sides}
+            costs = {side: [] for side in said.sides}
             for _ in range(said.rounds):
                 printed = set()
-                for side in sides:
-                    took = timed(side, name, case, begun[side], place, case.timed)
+                for side in said.sides:
+                    took = timed(side, case, begun[side], place, case.timed)
                     costs[side].append(each_thing(took, idle[side], case))
-                    printed.update([took.printed] if side != "engine" else [])
-                if len(printed) > 1:
+                    printed.add(took.printed)
+                if len(printed) != 1:
                     sys.exit(f"{name}, {count}: the sides do not print the same")
-            middles = {side: tell(name, count, side, costs[side], before.get(side), case.things) for side in sides}
-            before = {side: (case.things, middles[side]) for side in sides}
-            for side in [it for it in sides if it != "Python" and "Python" in middles]:
-                ratios = [one / other if min(one, other) > 0 else float("nan") for one, other in zip(middles[side], middles["Python"])]
-                print(f"{'':9} {name:15} {count:6}: {side} takes {ratios[0]:.2f} times as long as Python by the clock, {ratios[1]:.2f} of the processor", flush=True)
+            middles = {side: tell(name, count, side, costs[side], before.get(side), case.things) for side in said.sides}
+            before = {side: (case.things, middles[side]) for side in said.sides}
+            if len(middles) == 2:
+                ratios = [one / other if min(one, other) > 0 else float("nan") for one, other in zip(middles["sheetdesk"], middles["Python"])]
+                print(f"{'':9} {name:15} {count:6}: sheetdesk takes {ratios[0]:.2f} times as long as Python by the clock, {ratios[1]:.2f} of the processor", flush=True)
             for folder in [*begun.values(), *empty.values()]:
                 shutil.rmtree(folder)
 
@@ -250,10 +231,9 @@ def main():
     words.add_argument("--side", action="append", choices=SIDES, dest="sides")
     words.add_argument("numbers", type=int, nargs="*")
     said = words.parse_args()
-    said.sides = said.sides or ["sheetdesk", "Python"]
+    said.sides = said.sides or list(SIDES)
     said.rounds, said.counts = (3, said.numbers) if said.memory else ([*said.numbers, 3][0], said.numbers[1:])
     SIDES["sheetdesk"] = [said.program or program()]
-    SIDES["engine"] = [floor()] if "engine" in said.sides else []
     print(f"load {os.getloadavg()[0]:.1f} at the start" + ("" if said.memory else f", {said.rounds} rounds"))
     with tempfile.TemporaryDirectory(dir=said.folder) as place, tempfile.TemporaryDirectory(dir=MEMORY) as memory:
         if said.memory:

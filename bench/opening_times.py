@@ -7,12 +7,11 @@ Usage: opening_times.py [--folder FOLDER] [--program PROGRAM] [ROUNDS [COUNT..]]
 (5 rounds of 10000 and 100000 items; FOLDER is where temporary files are, which should be on a disk.)
 
 An archive takes in COUNT items, a third each tiles, media and rows, with a link for each tile, and lends nine tenths of them by nine
-splits: by an import of the program, in memory, which is copied. In each round five take their turns over the same files:
+splits: by an import of the program, in memory, which is copied. In each round three take their turns over the same files:
 
 - sheetdesk: `audit`, which looks at all that an opening certifies.
 - reading: Python over stock SQLite, each row of each table once, and the SHA-256 of the content of each tile, medium and row (--read).
 - auditing: `plain_folder.py audit`, Python that looks at the same as the program.
-- opened, rows: the kit's engine alone (engine_floor.py). It opens the same files, which checks them; the second takes each row once besides.
 
 Times are by the clock and of the processor, less those of the same command over an archive with nothing in it: the median of the rounds
 with the least and the greatest, in seconds; the exponent from the count before; and how many times as long as reading each took. Told
@@ -29,7 +28,6 @@ import statistics
 import sys
 import tempfile
 
-from engine_floor import floor
 from folder_times import MEMORY, SIDES, made_of, run
 from program import program
 from timed_lists import List
@@ -40,13 +38,7 @@ TILE = 256
 SIZE = 1048576
 OTHERS = ["gpkg_spatial_ref_sys", "gpkg_contents", "gpkg_tile_matrix_set", "gpkg_tile_matrix", "gpkgext_relations", "sheet_package",
           "sheet_identity", "tiles_media", "rows_media", "rows_tiles", "sheet_receipts", "sheet_items"]
-COMMANDS = {
-    "sheetdesk": ("sheetdesk", ["audit"]),
-    "reading": ("reading", ["--read"]),
-    "auditing": ("Python", ["audit"]),
-    "opened": ("engine", ["open"]),
-    "rows": ("engine", ["read"]),
-}
+COMMANDS = {"sheetdesk": ("sheetdesk", ["audit"]), "reading": ("reading", ["--read"]), "auditing": ("Python", ["audit"])}
 
 
 class Blocks(List):
@@ -99,12 +91,6 @@ def read(folder):
     return items, receipts, all_digests
 
 
-def words_for(side, words, folder):
-    """The words of a side over a folder: the engine is told its files."""
-    files = [os.path.join(folder, name) for name in sorted(os.listdir(folder)) if name.endswith(".gpkg")]
-    return [*words, *(files if side == "engine" else [folder])]
-
-
 def spelled(values):
     return f"{statistics.median(values):7.2f} ({min(values):.2f} to {max(values):.2f})"
 
@@ -116,16 +102,16 @@ def measure(count, rounds, place, before):
     with tempfile.TemporaryDirectory(dir=MEMORY) as memory:
         made = shutil.copytree(made_of("sheetdesk", lines, memory), os.path.join(place, "made"))
     empty = made_of("sheetdesk", [], place)
-    due = {"sheetdesk": f"good {receipts}\n", "auditing": f"good {receipts}\n", "reading": f"{items} items, {receipts} receipts", "opened": "", "rows": ""}
+    due = {"sheetdesk": f"good {receipts}\n", "auditing": f"good {receipts}\n", "reading": f"{items} items, {receipts} receipts"}
     took = {name: [] for name in COMMANDS}
     idle = {}
     for name, (side, words) in COMMANDS.items():
-        runs = [run(side, words_for(side, words, empty)) for _ in range(5)]
+        runs = [run(side, [*words, empty]) for _ in range(5)]
         idle[name] = [statistics.median(getattr(each, what) for each in runs) for what in ("clock", "processor")]
     os.sync()
     for _ in range(rounds):
         for name, (side, words) in COMMANDS.items():
-            ran = run(side, words_for(side, words, made))
+            ran = run(side, [*words, made])
             if not ran.printed.decode().startswith(due[name]):
                 sys.exit(f"{name}: wanted {due[name]!r}; came {ran.printed!r}")
             took[name].append((ran.clock - idle[name][0], ran.processor - idle[name][1], ran.memory))
@@ -156,7 +142,6 @@ def main():
         print(f"{items} items, {receipts} receipts, {digest:064x}")
         return
     SIDES["sheetdesk"] = [said.program or program()]
-    SIDES["engine"] = [floor()]
     SIDES["reading"] = [sys.executable, os.path.abspath(__file__)]
     rounds, counts = [*said.numbers, 5][0], said.numbers[1:] or [10000, 100000]
     print(f"load {os.getloadavg()[0]:.1f} at the start, {rounds} rounds")
