@@ -1,27 +1,26 @@
 -- What was looked up of a list, one after the other.
 use Rattle.std.specs.Prelude.{◌≡◌, ◌&&◌, ◌||◌, ℕ, Bool, true, false, List, [], ◌∷◌, Option}
 use Rattle.std.specs.Prelude.{Some, None, Result, Ok}
-use Rattle.std.specs.Prelude.{Err, IfOk, MatchOption, bytes_eq, is_some, length, refl}
-use Rattle.std.proofs.Common.{sym, ap, subst, ◌∙◌, inl, inr, ◌==◌, arith}
+use Rattle.std.specs.Prelude.{Err, IfOk, MatchOption, bytes_eq, length, refl}
+use Rattle.std.proofs.Common.{ap, ◌∙◌, ◌==◌, arith}
 use Rattle.std.specs.List.{list_any, AllByRecursion}
 use Rattle.std.proofs.lemmas.Bool.Decides.{nat_tests}
-use Rattle.sheet_types.specs.Custody.{is_used, kept}
+use Rattle.sheet_types.specs.Custody.{is_used}
 use Rattle.sheet_types.specs.Refuse.{identity_used}
 use Rattle.sheet_types.specs.World.{World}
-use Rattle.sheet_types.specs.declared.command.Command.{Command}
 use Rattle.sheet_types.specs.declared.command.Command.TheVariants.{Add}
 use Rattle.sheet_types.specs.declared.command.Content.{Content}
 use Rattle.sheet_types.specs.declared.command.Item.{Item}
 use Rattle.sheet_types.specs.declared.command.Relation.{Relation}
 use Rattle.sheet_types.specs.declared.command.Request.{Request}
-use Rattle.sheet_types.proofs.Basics.{bytes_eq_itself, or-false}
+use Rattle.sheet_types.proofs.Basics.{bytes_eq_itself}
 use Rattle.sheet_types.proofs.Every.{All-weaker, none_any}
 use Rattle.field_run_laws.specs.Lists.{is_kept}
 use Rattle.field_run_laws.specs.Ready.{added}
-use Rattle.field_home_laws.specs.Free.{keeps_limits, IsEmptyOrFree, IsFreeList}
-use Rattle.command_field.specs.Freedom.{takes, AreApart, IsFreeOrTaken, IsNewIn, IsTaken, IsTwice}
+use Rattle.field_home_laws.specs.Free.{keeps_limits, IsFreeList}
+use Rattle.command_field.specs.Freedom.{takes, AreApart, IsNewIn}
 use Rattle.command_field.specs.declared.freedom.Taken.{Taken}
-use Rattle.command_field.specs.declared.freedom.Taken.TheVariants.{Identity, Request as SameRequest, TooMany}
+use Rattle.command_field.specs.declared.freedom.Taken.TheVariants.{Identity, Request as SameRequest}
 
 -- ---- one request
 

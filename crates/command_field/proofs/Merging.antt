@@ -1,5 +1,5 @@
 -- What was asked for takes no package home, whatever a store told.
-use Rattle.std.specs.Prelude.{◌≡◌, ◌⊎◌, ℕ, Bool, List, [], ◌∷◌, ◌++◌, map, None, refl, Result}
+use Rattle.std.specs.Prelude.{◌≡◌, ℕ, Bool, List, [], ◌∷◌, ◌++◌, map, None, refl, Result}
 use Rattle.std.specs.Prelude.{Ok, Err, IfOk}
 use Rattle.std.proofs.Common.{sym, subst, inl, inr}
 use Rattle.std.specs.List.{AllByRecursion}

@@ -1,5 +1,5 @@
 -- What was answered of what was read is so of each world that it was read of.
-use Rattle.std.proofs.Common.{◌≡◌, ◌∙◌, ◌==◌, ℕ, List, ◌∷◌, length, true, false, Some, None}
+use Rattle.std.proofs.Common.{◌≡◌, ◌==◌, ℕ, List, ◌∷◌, length, true, false, Some, None}
 use Rattle.std.proofs.Common.{Result, Ok, Err, IfOk}
 use Rattle.std.proofs.Common.{unwrap_or, ap, sym, subst, inl, inr, arith}
 use Rattle.std.specs.Prelude.{Bool, Option, [], refl}
@@ -15,8 +15,8 @@ use Rattle.sheet_types.specs.declared.frame.Frame.{Frame}
 use Rattle.field_changes.specs.declared.held.Held.{Held}
 use Rattle.field_faults.specs.Heads.{head_fault}
 use Rattle.field_faults.specs.Lines.{fault_lines}
-use Rattle.command_field.specs.Answers.{AnswersBy, AnswersFile, AnswersGiven, AnswersLines, AnswersText, AreHeldIn}
-use Rattle.command_field.specs.Answers.{IsTakenOf, StaysFree}
+use Rattle.command_field.specs.Answers.{AnswersBy, AnswersFile, AnswersGiven, AnswersLines, AnswersLive, AnswersText}
+use Rattle.command_field.specs.Answers.{AreHeldIn, IsSeen, IsTakenOf, StaysFree}
 use Rattle.command_field.specs.declared.asking.Answer.{Answer}
 use Rattle.command_field.specs.declared.asking.Answer.TheVariants.{Asked, NoSuchPackage, NoList, OtherPackage, Stale}
 use Rattle.command_field.specs.declared.asking.Answer.TheVariants.{OtherSystem, OtherFrame, Items, TwoAlike, NotFree}
@@ -42,31 +42,36 @@ given_of w a n f found h first x frame is number it stays =
       subst (λ (l : List Item × List Relation). StaysFree w l.0 l.1 first x) held stays,
     )
 
--- of the worlds before the holdings were read, and after
-pub told_given : {E : Type 0} (P R : World → Type 0) (a : Ask) (n : ℕ) (f : Frame) (items : List Item)
-    (links : List Relation) (h : Held) (first : Answer) (r : Result Answer E)
-    → ((w : World) → P w → f ≡ w.frame) → ((w : World) → P w
-    → Some (items, links) ≡ holdings_answer w a.«package»)
-    → ((w : World) → P w → R w)
-    → AnswersGiven f a n items links h first → IfOk r (λ x. (w : World) → R w
-    → StaysFree w items links first x)
-    → IfOk r (λ x. (w : World) → P w → is_live w a.«package» ≡ true → n ≡ ticket w a.«package»
-    → AnswersFile w a h x)
-told_given P R a n f items links h first (Ok x) frame found so given it = λ w stands live number.
-    given_of w a n f (items, links) h first x (frame w stands) (found w stands) number given (it w (so w stands))
-told_given P R a n f items links h first (Err e) frame found so given it = tt
+-- of each world in which the package is seen so
+pub told_given : {E : Type 0} (P : World → Type 0) (a : Ask) (n : ℕ) (f : Frame)
+    (items : List Item) (links : List Relation) (h : Held) (first : Answer) (r : Result Answer E)
+    → ((w : World) → P w → f ≡ w.frame)
+    → AnswersGiven f a n items links h first
+    → IfOk r (λ x. (w : World) → P w → StaysFree w items links first x)
+    → IfOk r (λ x. (w : World) → P w → IsSeen w a.«package» n (items, links) → AnswersFile w a h x)
+told_given P a n f items links h first (Ok x) frame given it = λ w stands seen.
+    given_of w a n f (items, links) h first x (frame w stands) seen.holdings seen.last given (it w stands)
+told_given P a n f items links h first (Err e) frame given it = tt
 
 -- the same of the text that lists the file
-pub told_text : {E : Type 0} (P : World → Type 0) (a : Ask) (n : ℕ) (text : Option (List ℕ)) (h : Held)
-    (r : Result Answer E)
-    → ((w : World) → P w → (is_live w a.«package» ≡ true) × (n ≡ ticket w a.«package»))
+pub told_listed : {E : Type 0} (P : World → Type 0) (a : Ask) (n : ℕ) (held : List Item × List Relation)
+    (text : Option (List ℕ)) (h : Held) (r : Result Answer E)
     → AreHeldIn text (Some h)
-    → IfOk r (λ x. (w : World) → P w → is_live w a.«package» ≡ true → n ≡ ticket w a.«package»
-    → AnswersFile w a h x)
+    → IfOk r (λ x. (w : World) → P w → IsSeen w a.«package» n held → AnswersFile w a h x)
+    → IfOk r (λ x. (w : World) → P w → IsSeen w a.«package» n held → AnswersLive w a text x)
+told_listed P a n held text h (Ok x) listed it = λ w stands seen. inr (h, listed, it w stands seen)
+told_listed P a n held text h (Err e) listed it = tt
+
+-- of the worlds before the package was read, and after
+pub told_text : {E : Type 0} (P R : World → Type 0) (a : Ask) (n : ℕ) (held : List Item × List Relation)
+    (text : Option (List ℕ)) (r : Result Answer E)
+    → ((w : World) → P w → IsSeen w a.«package» n held)
+    → ((w : World) → P w → R w)
+    → IfOk r (λ x. (w : World) → R w → IsSeen w a.«package» n held → AnswersLive w a text x)
     → IfOk r (λ x. (w : World) → P w → AnswersText w a text x)
-told_text P a n text h (Ok x) some listed it = λ w stands. let seen =
-    some w stands in inr (seen.0, inr (h, listed, it w stands seen.0 seen.1))
-told_text P a n text h (Err e) some listed it = tt
+told_text P R a n held text (Ok x) seen so it = λ w stands. let live = seen w stands in
+    inr (live.live, it w (so w stands) live)
+told_text P R a n held text (Err e) seen so it = tt
 
 -- where no line is due, what was answered is of the requests
 module _ (lines p : List ℕ) (number : ℕ) (moment : List ℕ) (items : List Item) (linked : List Relation)

@@ -2,6 +2,7 @@
 use Rattle.std.specs.Prelude.{◌≡◌, ◌⊎◌, ℕ, Bool, true, false, List, [], Option, Some, None, IfSome}
 use Rattle.std.specs.Prelude.{string_bytes}
 use Rattle.std.specs.List.{AllByRecursion}
+use Rattle.sheet_types.specs.Answers.{holdings_answer}
 use Rattle.sheet_types.specs.Custody.{ticket}
 use Rattle.sheet_types.specs.World.{World, holdings, is_live}
 use Rattle.sheet_types.specs.declared.command.Item.{Item}
@@ -82,6 +83,12 @@ AnswersFile w a h answer = (first : Answer)
     (holdings w a.«package»).links h
     first
     × StaysFree w (holdings w a.«package»).items (holdings w a.«package»).links first answer
+
+-- a live package has a receipt of this number as its last, and holds this
+pub record IsSeen (w : World) (p : List ℕ) (number : ℕ) (held : List Item × List Relation) : Type 0 where
+  pub live : is_live w p ≡ true
+  pub last : number ≡ ticket w p
+  pub holdings : Some held ≡ holdings_answer w p
 
 -- ---- of a list
 

@@ -1,5 +1,5 @@
 -- What a list of requests asks for that is not free in a world. Profile.
-use Rattle.std.specs.Prelude.{◌≡◌, ◌⊎◌, ◌&&◌, ℕ, Bool, true, false, List, map, Option, None}
+use Rattle.std.specs.Prelude.{◌≡◌, ◌⊎◌, ◌&&◌, Bool, true, false, List, map, Option}
 use Rattle.std.specs.Prelude.{MatchOption, bytes_eq}
 use Rattle.std.specs.List.{list_any}
 use Rattle.sheet_types.specs.Custody.{is_used}

@@ -11,7 +11,8 @@ ghost use Rattle.command_requests.specs.Listing.{IsUntouched};
 ghost use Rattle.field_faults.specs.Lines.{fault_lines};
 ghost use Rattle.field_faults.specs.declared.heads.HeadFault.{HeadFault};
 ghost use Rattle.command_field.specs.Answers.{AnswersBy, AnswersFile, AnswersGiven, AnswersLines, AnswersText};
-ghost use Rattle.command_field.specs.Answers.{AreHeldIn, AsksNoMerge, IsTakenOf, StaysFree, head_answer};
+ghost use Rattle.command_field.specs.Answers.{AnswersLive, AreHeldIn, AsksNoMerge, IsSeen, IsTakenOf, StaysFree};
+ghost use Rattle.command_field.specs.Answers.{head_answer};
 
 use crate::freedom::{Taken, taken_in};
 use field_changes::changes::{Holdings, Unasked, changes};
@@ -217,20 +218,17 @@ fn keep_free<S: Alter + Drop>(
     }
 }
 
-/// What is answered of a file for a live package of a world. The world is only read.
-///
-/// # Errors
-///
-/// Want of memory, a store that failed, or a world that has.
-pub fn answer_in<S: Alter + Drop>(
+/// What is answered of a file for a live package of a world, which holds this. The world is only read.
+fn answer_in<S: Alter + Drop>(
     alloc: Global,
     world: &mut World<S>,
     ask: &Ask<'_>,
     number: u64,
+    holdings: &Holdings<'_>,
     held: Held,
 ) -> Result<Answer, Fault>
-    ensures told { TellsOf S.Store (λ w answer. is_live w ask.now.package ≡ true
-        → number ≡ ticket w ask.now.package
+    ensures told { TellsOf S.Store (λ w answer. IsSeen w ask.now.package number
+        (holdings.now.items.now, holdings.now.links.now)
         → AnswersFile w ask.now held answer) world.old world.new result }
     ensures merges { IfOk result AsksNoMerge }
     ensures read { IsUntouched S.Store world.old world.new }
@@ -239,15 +237,8 @@ pub fn answer_in<S: Alter + Drop>(
         return Err(Fault::StoreFault);
     }
     let frame = world.frame();
-    let Some((items, links)) = world.holdings(alloc, ask.package)? else {
-        return Err(Fault::StoreFault);
-    };
-    let holdings = Holdings {
-        items: items.as_slice(),
-        links: links.as_slice(),
-    };
-    let first = answer_given(alloc, &frame, ask, number, &holdings, held)?;
-    keep_free(alloc, world, &holdings, first)
+    let first = answer_given(alloc, &frame, ask, number, holdings, held)?;
+    keep_free(alloc, world, holdings, first)
 }
 
 /// What the text of a reader lists; `None` where it is no list.
@@ -265,8 +256,32 @@ fn held_in<R: Read + Drop>(alloc: Global, reader: R) -> Result<Option<Held>, Fau
     }
 }
 
+/// What is answered of a list, which a reader gives, for a live package of a world, which holds this.
+fn answer_listed<S: Alter + Drop, R: Read + Drop>(
+    alloc: Global,
+    world: &mut World<S>,
+    ask: &Ask<'_>,
+    number: u64,
+    holdings: &Holdings<'_>,
+    reader: R,
+) -> Result<Answer, Fault>
+    ensures told { TellsOf S.Store (λ w answer. IsSeen w ask.now.package number
+        (holdings.now.items.now, holdings.now.links.now)
+        → AnswersLive w ask.now (R.remaining reader) answer) world.old world.new result }
+    ensures merges { IfOk result AsksNoMerge }
+    ensures read { IsUntouched S.Store world.old world.new }
+{
+    match held_in(alloc, reader)? {
+        Some(held) => answer_in(alloc, world, ask, number, holdings, held),
+        None => Ok(Answer::NoList),
+    }
+}
+
 /// What is answered of a list of what a file holds, which a reader gives. Whether the package is
 /// live is asked before anything is read. The world is only read.
+///
+/// The package is read before the list. So the contents of the list take the room that the rows of
+/// the package left, and memory holds each side once.
 ///
 /// # Errors
 ///
@@ -285,8 +300,12 @@ pub fn answer_of<S: Alter + Drop, R: Read + Drop>(
     let Some(ticket) = ticket_of(alloc, world, ask.package)? else {
         return Ok(Answer::NoSuchPackage);
     };
-    match held_in(alloc, reader)? {
-        Some(held) => answer_in(alloc, world, ask, ticket, held),
-        None => Ok(Answer::NoList),
-    }
+    let Some((items, links)) = world.holdings(alloc, ask.package)? else {
+        return Err(Fault::StoreFault);
+    };
+    let holdings = Holdings {
+        items: items.as_slice(),
+        links: links.as_slice(),
+    };
+    answer_listed(alloc, world, ask, ticket, &holdings, reader)
 }

@@ -1,7 +1,5 @@
 -- Only requests ask for something.
-use Rattle.std.proofs.Common.{◌≡◌, sym, subst}
-use Rattle.command_field.specs.Answers.{IsTakenOf}
-use Rattle.command_field.specs.declared.asking.Answer.{Answer}
+use Rattle.std.proofs.Common.{sym}
 use Rattle.command_field.proofs.asking.taken_of.Goals as goal
 
 pub returns-in-Asked-clause-told : goal.returns-in-Asked-clause-told

@@ -1,5 +1,4 @@
 -- One request more was asked of.
-use Rattle.std.proofs.Common.{◌∙◌, sym}
 use Rattle.command_requests.proofs.Untouched.{clean_before, stands_after, untouched_both}
 use Rattle.command_field.specs.Freedom.{takes, IsNewIn}
 use Rattle.command_field.proofs.Ids.{all_more, any_item}

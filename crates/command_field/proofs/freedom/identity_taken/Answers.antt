@@ -1,5 +1,5 @@
 -- What is told of the identity that is added is told of the request.
-use Rattle.std.proofs.Common.{◌≡◌, ◌∙◌, sym, ap, inr, true, false}
+use Rattle.std.proofs.Common.{◌∙◌, sym, ap}
 use Rattle.sheet_types.specs.Refuse.{identity_used}
 use Rattle.command_field.proofs.Free.{used_takes}
 use Rattle.command_field.proofs.freedom.identity_taken.Goals as goal

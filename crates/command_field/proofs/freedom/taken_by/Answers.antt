@@ -1,7 +1,6 @@
 -- The identity that is added was asked of first, and then the request's own.
 use Rattle.world.specs.Worlds.{StandsFor}
-use Rattle.std.proofs.Common.{inr}
-use Rattle.command_requests.proofs.Untouched.{clean_before, stands_after, untouched_then}
+use Rattle.command_requests.proofs.Untouched.{stands_after, untouched_then}
 use Rattle.command_field.proofs.Free.{both_new}
 use Rattle.command_field.proofs.freedom.taken_by.Goals as goal
 

@@ -1,5 +1,5 @@
 -- One that is in the set; or none.
-use Rattle.std.proofs.Common.{◌≡◌, ◌∙◌, sym, ap, true, false, bytes_eq}
+use Rattle.std.proofs.Common.{◌≡◌, ◌∙◌, sym, true, false, bytes_eq}
 use Rattle.std.specs.Ordering.{nat_cmp}
 use Rattle.std.specs.Cmp.Lexicographic.{slice_cmp}
 use Rattle.std.specs.BTreeSet.{contains}

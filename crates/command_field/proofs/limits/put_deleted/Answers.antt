@@ -1,5 +1,5 @@
 -- The identity that is deleted is put in; of another request nothing is.
-use Rattle.std.proofs.Common.{◌≡◌, ◌∙◌, sym, ap, ◌||◌}
+use Rattle.std.proofs.Common.{◌∙◌, sym, ap, ◌||◌}
 use Rattle.std.specs.Ordering.{nat_cmp}
 use Rattle.std.specs.Cmp.Lexicographic.{slice_cmp}
 use Rattle.std.specs.BTreeSet.{contains}
