@@ -15,7 +15,7 @@ pub returns-clause-told : goal.returns-clause-told
 returns-clause-told g c = λ clean.
     let some = rw c.in-Some.is at c.in_ok-ticket.ensures.some in
     let before = clean_before g.S.Store c.holdings.new.self c.answer_listed.new.world c.answer_listed.ensures.read
-        clean in
+    clean in
     told_text (StandsFor g.S.Store c.args.world.now) (StandsFor g.S.Store c.holdings.new.self)
     c.args.ask.now c.in-Some.ticket (c.as_slice.result.now, c.as_slice-2.result.now)
     (g.R.Read.remaining c.args.reader) c.answer_listed.result
