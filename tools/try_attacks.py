@@ -596,7 +596,7 @@ class Work:
         if self.is_kept_alone(crate, one):
             outcome, why = ALONE, row["why"]
         else:
-            ran = room.check(texts, functions)
+            ran, own = room.check(texts, functions), {it.rpartition("::")[2] for it in functions or ()}
             if ran.status == 2 and functions and not ran.why:
                 # (the function has another name than is read here: its module stands for it)
                 functions = sorted({re.sub(r"(::[A-Z]\w*)?::\w+$", "", it) for it in functions})
@@ -607,7 +607,9 @@ class Work:
             lost = [
                 it
                 for it in ran.failed()
-                if functions and not any(it.partition("::")[2].startswith(one) for one in functions)
+                if functions
+                and it.rpartition("::")[2] not in own
+                and not any(it.partition("::")[2].startswith(one) for one in functions)
             ]
             if lost and outcome in (REFUSED, ALONE):
                 outcome, why = NONE, f"another function is not proved either: {lost[0]}"
