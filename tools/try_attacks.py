@@ -634,25 +634,26 @@ def show_open(rows, there):
 
 
 def counted(rows, crate, names):
-    """Returns of a crate's edits how many there are, and how many were refused by whom, let through, without a verdict, and not tried."""
+    """Returns of a crate's edits how many there are, how many were refused by whom, and how many have no such end: let through, no verdict, not tried."""
     told = [rows.get((crate, it), {"outcome": "untried", "why": ""}) for it in names]
     seen = [it["outcome"] for it in told]
     looked = sum(it["outcome"] == REFUSED and it["why"].partition(":")[0] in ("looked", "") for it in told)
     refused = seen.count(REFUSED) - looked
-    return [len(names), refused, looked, *[seen.count(it) for it in (ALONE, THROUGH, NONE, "untried")]]
+    return [len(names), refused, looked, seen.count(ALONE), len(names) - seen.count(REFUSED) - seen.count(ALONE)]
 
 
 def show_table(rows, there):
-    """Prints how the edits of each crate ended, two crates a line."""
-    cells = [[f"`{crate}`", *counted(rows, crate, names)] for crate, names in there.items()]
-    total = [sum(it) for it in list(zip(*cells))[1:]]
-    cells.append(["all", *total])
+    """Prints how the edits of each crate ended, two crates a line, and the crates of which none was tried."""
+    tried = {crate: names for crate, names in there.items() if any((crate, it) in rows for it in names)}
+    cells = [[f"`{crate}`", *counted(rows, crate, names)] for crate, names in tried.items()]
+    cells.append(["all of these", *[sum(it) for it in list(zip(*cells))[1:]]])
     half = (len(cells) + 1) // 2
-    heads = ["Crate", "Edits", "Values", "Reader", "Proof", "Through", "None", "Untried"]
+    heads = ["Crate", "Edits", "Values", "Reader", "Proof", "Left"]
     print(f"| {' | '.join(heads + heads)} |")
     print("|---|" + "---|" * (2 * len(heads) - 1))
     for left, right in zip(cells[:half], cells[half:] + [[""] * len(heads)]):
         print(f"| {' | '.join(str(it or '') for it in left + right)} |")
+    print(f"\nOf these none was tried: {', '.join(f'`{it}` {len(names)}' for it, names in there.items() if it not in tried)}.")
 
 
 def main():
