@@ -653,7 +653,8 @@ def show_table(rows, there):
     print("|---|" + "---|" * (2 * len(heads) - 1))
     for left, right in zip(cells[:half], cells[half:] + [[""] * len(heads)]):
         print(f"| {' | '.join(str(it or '') for it in left + right)} |")
-    print(f"\nOf these none was tried: {', '.join(f'`{it}` {len(names)}' for it, names in there.items() if it not in tried)}.")
+    none = [f"`{it}` {len(names)}" for it, names in there.items() if it not in tried]
+    print(f"\nOf these none was tried: {', '.join(none)}." if none else "")
 
 
 def main():
