@@ -1,5 +1,5 @@
 //! The least rectangle of sheets of one zoom that covers a box.
-ghost use Rattle.std.specs.Prelude.{◌≡◌, ◌≤ℤ◌, ◌<ℤ◌, ◌*ℤ◌, false, pos, IfSome, IfNone};
+ghost use Rattle.std.specs.Prelude.{◌≡◌, ◌≤ℤ◌, ◌<ℤ◌, ◌*ℤ◌, false, true, pos, IfSome, IfNone};
 ghost use Rattle.std.specs.Prelude.{IsTrue};
 ghost use Rattle.sheet_types.specs.Matrix.{has_level, is_good_frame};
 ghost use Rattle.matrix_rules.specs.Axes.{IsAxis};
@@ -65,6 +65,7 @@ fn least_cover(frame: &Frame, zoom: i64, ground: &Ground) -> Rect
 pub fn covering(frame: &Frame, zoom: i64, ground: &Ground) -> Option<Rect>
     requires { IsTrue (is_good_frame frame.now) }
     ensures some { IfSome result (IsLeastCover frame.now zoom ground.now) }
+    ensures covered { IfSome result (λ _. can_cover frame.now zoom ground.now ≡ true) }
     ensures none { IfNone result (can_cover frame.now zoom ground.now ≡ false) }
 {
     if !has_zoom(frame, zoom) || !has_box(frame, ground) {

@@ -1,5 +1,5 @@
 -- The same of the words, and over a folder. Profile.
-use Rattle.std.specs.Prelude.{◌≡◌, ◌⊎◌, ℕ, true, false, List, Option, Some, None}
+use Rattle.std.specs.Prelude.{◌≡◌, ◌⊎◌, ℕ, true, false, List, Option, Some, None, is_some}
 use Rattle.sqlite.specs.Held.{Held}
 use Rattle.sqlite.specs.Store.{Ghosts}
 use Rattle.uuid.specs.Text.{parsed_hyphenated}
@@ -29,7 +29,8 @@ pub record Asks (words : BringWords) (a : Ask) : Type 0 where
 abbrev pub IsUnread : BringWords → What → Type 0
 IsUnread words what =
     ((what ≡ BadUuid) × (parsed_hyphenated words.«package».now ≡ None))
-    ⊎ ((what ≡ BadMoment) × (is_moment words.at.now ≡ false))
+    ⊎ ((what ≡ BadMoment) × (is_some (parsed_hyphenated words.«package».now) ≡ true)
+    × (is_moment words.at.now ≡ false))
 
 module _ {S : Type 0} (g : Ghosts S) {W : Type 0} (writer writer' : W) (before after : Option (List ℕ)) where
   -- of a world that ended with it, and of which these stores are left; what was carried out is held

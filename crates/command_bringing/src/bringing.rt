@@ -1,7 +1,6 @@
 //! What an edited file changes, shown or carried out in a world.
 ghost use Rattle.std.specs.Prelude.{◌≡◌};
 ghost use Rattle.command_folder.specs.Endings.{done};
-ghost use Rattle.command_folder.specs.Printing.{Prints};
 ghost use Rattle.request_writing.specs.RequestTexts.{list_text};
 ghost use Rattle.command_bringing.specs.Brings.{Brings, EndsAnswer, IsBroughtHome, PrintsText, Serves};
 ghost use Rattle.command_bringing.specs.Homecoming.{ComesHome};
@@ -10,11 +9,11 @@ ghost use Rattle.command_folder.specs.declared.endings.Ending.TheVariants.{NoReq
 
 use crate::telling::{note_of, refusal_text, summary_text};
 use command_field::asking::{Answer, Ask, answer_of};
-use command_folder::endings::{DONE, Ending, FAILED, NO_MEMORY};
+use command_folder::endings::{DONE, Ending, NO_MEMORY};
+use command_folder::printing::{print, print_bytes};
 use command_words::statuses::{Failure, Outcome, end_of_import};
 use manifest_csv::importing::carry_out;
 use manifest_csv::progress::Teller;
-use manifest_csv::sending::send;
 use request_writing::texts::list_text;
 use sheet_types::command::Request;
 use sqlite::Alter;
@@ -34,23 +33,13 @@ pub enum Purpose {
     CarryOut,
 }
 
-/// Writes a text.
-fn print<W: Write>(writer: &mut W, text: &[u8], due: Ending) -> Ending
-    ensures { Prints text.now due (W.contents writer.old) (W.contents writer.new) result }
-{
-    match send(writer, text) {
-        Ok(()) => due,
-        Err(_) => FAILED,
-    }
-}
-
 /// Writes the text of a list.
 fn show_list<W: Write>(alloc: Global, requests: &[Request], writer: &mut W) -> Ending
     ensures { PrintsText writer.old writer.new (W.contents writer.old) (W.contents writer.new)
         (list_text requests.now) done result }
 {
     match list_text(alloc, requests) {
-        Ok(text) => print(writer, text.as_slice(), DONE),
+        Ok(text) => print_bytes(writer, text.as_slice(), DONE),
         Err(_) => NO_MEMORY,
     }
 }
@@ -61,7 +50,7 @@ fn show_summary<W: Write>(alloc: Global, requests: &[Request], writer: &mut W) -
         (summary_text requests.now) done result }
 {
     match summary_text(alloc, requests) {
-        Ok(text) => print(writer, text.as_bytes(), DONE),
+        Ok(text) => print(writer, text.as_str(), DONE),
         Err(_) => NO_MEMORY,
     }
 }
@@ -110,7 +99,7 @@ fn refuse<W: Write>(alloc: Global, answer: &Answer, writer: &mut W) -> Ending
         (refusal_text answer.now) NoRequest result }
 {
     match refusal_text(alloc, answer) {
-        Ok(text) => print(writer, text.as_bytes(), Ending::NoRequest),
+        Ok(text) => print(writer, text.as_str(), Ending::NoRequest),
         Err(_) => NO_MEMORY,
     }
 }

@@ -10,9 +10,9 @@ use Rattle.command_named.specs.declared.packages.PackageLook.TheVariants as kind
 use Rattle.command_ordering.specs.Boxes.{LendsBox, order_of}
 use Rattle.command_ordering.specs.declared.boxes.BoxedLoan.{BoxedLoan}
 use Rattle.command_requests.specs.declared.orders.Order.{Order}
-use Rattle.commands.specs.Orders.{Answers, Orders}
-use Rattle.commands.specs.declared.ordering.Purpose.{Purpose}
-use Rattle.commands.specs.declared.ordering.Purpose.TheVariants.{Show, CarryOut}
+use Rattle.command_ordering.specs.Orders.{Answers, Orders}
+use Rattle.command_ordering.specs.declared.orders.Purpose.{Purpose}
+use Rattle.command_ordering.specs.declared.orders.Purpose.TheVariants.{Show, CarryOut}
 use Rattle.desk_http.specs.Connections.{IsServedBy}
 use Rattle.desk_http.proofs.ServedBy.{read_first, read_last, same_by, step_by, told_by}
 use Rattle.sheet_types.specs.declared.command.Request.{Request}
@@ -24,7 +24,8 @@ use Rattle.command_desk.specs.Deeds.{IsDone, LooksNamed}
 use Rattle.command_desk.specs.declared.deeds.Deed.{Deed}
 use Rattle.command_desk.specs.declared.deeds.Deed.TheVariants as deed
 
-module _ {S : Type 0} (g : Ghosts S) {W : Type 0} (writer' : W) (after : Option (List ℕ)) where
+module _ {S : Type 0} (g : Ghosts S) {W : Type 0} (writer' : W) (after : Option (List ℕ))
+    (contents : W → Option (List ℕ)) where
   -- a look reads, if at all
   looked : (strays : ℕ) (old new : Seen S) (writer : W) (before : Option (List ℕ)) (it : Look) (ending : Ending)
       → LooksOver g strays old new writer writer' before after it ending → IsServedBy g 1 old new
@@ -76,32 +77,35 @@ module _ {S : Type 0} (g : Ghosts S) {W : Type 0} (writer' : W) (after : Option 
   lent old new writer before b purpose told hint (inr (inr (fault, ends, same, rest, none))) = same_by g old new same
 
   -- what was done
-  pub done_served : (old new : Seen S) (writer : W) (before : Option (List ℕ)) (input : List ℕ) (it : Deed)
+  pub done_served : (old new : Seen S) (writer : W) (before : Option (List ℕ)) (files : ℕ) (input : List ℕ)
+      (it : Deed)
       (ending : Ending) (hint : Option Hint)
-      → IsDone g old new writer writer' before after input it ending hint → IsServedBy g 1 old new
-  done_served old new writer before input deed.Apply ending hint (told, ends, none, inl (unread, same, rest)) =
+      → IsDone g old new writer writer' before after contents files input it ending hint → IsServedBy g 1 old new
+  done_served old new writer before files input deed.Apply ending hint (told, ends, none, inl (unread, same, rest)) =
       same_by g old new same
-  done_served old new writer before input deed.Apply ending hint (told, ends, none, inr (q, asks, is)) =
+  done_served old new writer before files input deed.Apply ending hint (told, ends, none, inr (q, asks, is)) =
       step_by g q old new is.reply is.step
-  done_served old new writer before input (deed.Look asked) ending hint
+  done_served old new writer before files input (deed.Look asked) ending hint
       (inl (what, unread, ends, same, rest), none) = same_by g old new same
-  done_served old new writer before input (deed.Look asked) ending hint (inr (it, strays, asks, is), none) =
-      looked strays old new writer before it ending is
-  done_served old new writer before input (deed.Named (Get word)) ending hint (mid, gets, read, rest) =
+  done_served old new writer before files input (deed.Look asked) ending hint
+      (inr (it, asks, inl (strays, are, is)), none) = looked strays old new writer before it ending is
+  done_served old new writer before files input (deed.Look asked) ending hint
+      (inr (it, asks, inr (fault, ends, same, rest)), none) = same_by g old new same
+  done_served old new writer before files input (deed.Named (Get word)) ending hint (mid, gets, read, rest) =
       read_last g old mid new (told_by g old mid gets.read) read
-  done_served old new writer before input (deed.Named (Explain form word)) ending hint is =
+  done_served old new writer before files input (deed.Named (Explain form word)) ending hint is =
       told_by g old new is.read
-  done_served old new writer before input (deed.Named (Manifest word)) ending hint is =
-      named old new writer is.mid before is.between is.told hint kind.Manifest is.named ending is.looks
-  done_served old new writer before input (deed.Named (Export word)) ending hint is =
-      named old new writer is.mid before is.between is.told hint kind.Export is.named ending is.looks
-  done_served old new writer before input (deed.Order o purpose) ending hint (told, ends, is) =
+  done_served old new writer before files input (deed.Named (Manifest word)) ending hint is =
+      named old new writer is.mid before (contents is.mid) is.told hint kind.Manifest is.named ending is.looks
+  done_served old new writer before files input (deed.Named (Export word)) ending hint is =
+      named old new writer is.mid before (contents is.mid) is.told hint kind.Export is.named ending is.looks
+  done_served old new writer before files input (deed.Order o purpose) ending hint (told, ends, is) =
       read_last g old is.mid new (ordered old is.mid writer before (Some input) o purpose told is.ordered) is.read
-  done_served old new writer before input (deed.LendBox b purpose) ending hint (told, ends, is) =
+  done_served old new writer before files input (deed.LendBox b purpose) ending hint (told, ends, is) =
       lent old new writer before b purpose told hint is
-  done_served old new writer before input (deed.Carry report) ending hint
+  done_served old new writer before files input (deed.Carry report) ending hint
       (told, ends, none, inl (unread, same, rest)) = same_by g old new same
-  done_served old new writer before input (deed.Carry report) ending hint (told, ends, none, inr (q, asks, is)) =
+  done_served old new writer before files input (deed.Carry report) ending hint (told, ends, none, inr (q, asks, is)) =
       step_by g q old new is.reply is.step
-  done_served old new writer before input deed.Frame ending hint (told, ends, none, same, rest) =
+  done_served old new writer before files input deed.Frame ending hint (told, ends, none, same, rest) =
       same_by g old new same

@@ -15,7 +15,7 @@ use Rattle.command_folder.specs.Printing.{Prints}
 use Rattle.command_folder.specs.declared.endings.Ending.{Ending}
 use Rattle.command_folder.specs.declared.endings.Ending.TheVariants.{RecordDeclined}
 use Rattle.command_lines.specs.Drops.{outcomes_text}
-use Rattle.commands.specs.Orders.{PrintsLine}
+use Rattle.command_ordering.specs.Orders.{PrintsLine}
 use Rattle.commands.specs.Subcommands.{IsWhyUnasked}
 use Rattle.command_ordering.specs.Telling.{replies_ending, stopped}
 use Rattle.command_desk.specs.declared.carrying.Report.{Report}

@@ -1,8 +1,10 @@
 -- What is made of a world that stays by a command, what is printed, and how it ends. Profile.
-use Rattle.std.specs.Prelude.{◌≡◌, ◌⊎◌, ℕ, List, Option, Some, None, Result, Ok, Err}
+use Rattle.std.specs.Prelude.{◌≡◌, ◌⊎◌, ◌-◌, ℕ, List, length, Option, Some, None, Result, Ok, Err}
 use Rattle.sqlite.specs.Store.{Ghosts}
+use Rattle.package_tables.specs.declared.fault.Fault.{Fault}
 use Rattle.sheet_types.specs.Reading.{frame_text}
-use Rattle.world.specs.Worlds.{Seen}
+use Rattle.sheet_types.specs.World.{World}
+use Rattle.world.specs.Worlds.{Seen, StandsFor}
 use Rattle.command_folder.specs.Endings.{done}
 use Rattle.command_folder.specs.declared.endings.Ending.{Ending as CommandEnding}
 use Rattle.command_folder.specs.declared.endings.Ending.TheVariants as usual
@@ -19,10 +21,11 @@ use Rattle.command_ordering.specs.Naming.{NamesPackage}
 use Rattle.command_ordering.specs.Ordering.{HintsOrder}
 use Rattle.command_words.specs.declared.statuses.Outcome.TheVariants.{Refused}
 use Rattle.command_words.specs.declared.statuses.What.{What}
-use Rattle.commands.specs.Orders.{PrintsLine}
+use Rattle.command_ordering.specs.Orders.{PrintsLine}
 use Rattle.commands.specs.Subcommands.{Applies}
 use Rattle.std.specs.Borrow.{Bor}
 use Rattle.views.specs.Looks.{Asks, IsUnread, LooksOver}
+use Rattle.views.specs.Showing.{stopped}
 use Rattle.views.specs.declared.endings.Ending.{Ending}
 use Rattle.views.specs.declared.endings.Ending.TheVariants.{Usual}
 use Rattle.views.specs.declared.looking.Asked.{Asked}
@@ -31,15 +34,25 @@ use Rattle.command_desk.specs.Carrying.{Carries}
 use Rattle.command_desk.specs.declared.deeds.Deed.{Deed}
 use Rattle.command_desk.specs.declared.deeds.Deed.TheVariants as deed
 
+-- of the stores of a folder, which has so many, so many are of no live package
+abbrev pub AreStrays : {S : Type 0} → Ghosts S → Seen S → ℕ → ℕ → Type 0
+AreStrays g seen files strays = (w : World) → StandsFor g seen w → strays ≡ files - length w.packages
+
 module _ {S : Type 0} (g : Ghosts S) {W : Type 0} (old new : Seen S) (writer writer' : W)
     (before after : Option (List ℕ)) where
-  -- The words could not be read, and nothing was done; or what they ask was looked at, with so many stores beside.
-  abbrev pub IsLooked : Asked → Ending → Type 0
-  IsLooked words ending =
+  -- It was looked at, with the stores beside that a folder of so many has; or memory was wanting for their count.
+  abbrev pub ShowsLook : ℕ → Look → Ending → Type 0
+  ShowsLook files it ending =
+      ((strays : ℕ) × AreStrays g old files strays
+      × LooksOver g strays old new writer writer' before after it ending)
+      ⊎ ((fault : Fault) × (ending ≡ stopped fault) × (new ≡ old) × (writer' ≡ writer))
+
+  -- The words could not be read, and nothing was done; or what they ask was looked at.
+  abbrev pub IsLooked : ℕ → Asked → Ending → Type 0
+  IsLooked files words ending =
       ((what : What) × IsUnread words what × (ending ≡ Usual (usual.Usual (Refused what))) × (new ≡ old)
       × (writer' ≡ writer))
-      ⊎ ((look : Look) × (strays : ℕ) × Asks words look
-      × LooksOver g strays old new writer writer' before after look ending)
+      ⊎ ((look : Look) × Asks words look × ShowsLook files look ending)
 
   -- Who named a package had it looked at; of a word that names none, how it ends was answered before.
   abbrev pub LooksNamed : W → Option (List ℕ) → Option Hint → PackageLook → Result (List ℕ) CommandEnding
@@ -50,40 +63,42 @@ module _ {S : Type 0} (g : Ghosts S) {W : Type 0} (old new : Seen S) (writer wri
   LooksNamed mid between told what (Err why) ending hint =
       (ending ≡ Usual why) × (hint ≡ told) × (new ≡ old) × (writer' ≡ mid)
 
-  -- The package that the word names was looked at, or what comes nearest was told.
-  pub record IsPackageLooked (what : PackageLook) (word : Bor (List ℕ)) (ending : Ending) (hint : Option Hint)
-      : Type 0 where
+  -- The package that the word names was looked at, or what comes nearest was told. Behind the name a writer has what
+  -- `contents` says.
+  pub record IsPackageLooked (contents : W → Option (List ℕ)) (what : PackageLook) (word : Bor (List ℕ))
+      (ending : Ending) (hint : Option Hint) : Type 0 where
     pub mid : W
-    pub between : Option (List ℕ)
     pub named : Result (List ℕ) CommandEnding
     pub told : Option Hint
-    pub names : NamesPackage g word old writer mid before between named told
-    pub looks : LooksNamed mid between told what named ending hint
+    pub names : NamesPackage g word old writer mid before (contents mid) named told
+    pub looks : LooksNamed mid (contents mid) told what named ending hint
 
   -- What a word names was looked at.
-  abbrev pub IsNamedLooked : NamedLook → Ending → Option Hint → Type 0
-  IsNamedLooked (Get word) ending hint = TellsItem g word old new writer writer' before after ending hint
-  IsNamedLooked (Explain form word) ending hint =
+  abbrev pub IsNamedLooked : (W → Option (List ℕ)) → NamedLook → Ending → Option Hint → Type 0
+  IsNamedLooked contents (Get word) ending hint = TellsItem g word old new writer writer' before after ending hint
+  IsNamedLooked contents (Explain form word) ending hint =
       TellsNamed g form word old new writer writer' before after ending hint
-  IsNamedLooked (Manifest word) ending hint = IsPackageLooked kind.Manifest word ending hint
-  IsNamedLooked (Export word) ending hint = IsPackageLooked kind.Export word ending hint
+  IsNamedLooked contents (Manifest word) ending hint =
+      IsPackageLooked contents kind.Manifest word ending hint
+  IsNamedLooked contents (Export word) ending hint =
+      IsPackageLooked contents kind.Export word ending hint
 
-  -- What was done over these bytes of standard input.
-  abbrev pub IsDone : List ℕ → Deed → Ending → Option Hint → Type 0
-  IsDone input deed.Apply ending hint =
+  -- What was done over these bytes of standard input, where the folder has so many stores.
+  abbrev pub IsDone : (W → Option (List ℕ)) → ℕ → List ℕ → Deed → Ending → Option Hint → Type 0
+  IsDone contents files input deed.Apply ending hint =
       (told : CommandEnding) × (ending ≡ Usual told) × (hint ≡ None)
       × Applies g (Some input) old new writer writer' before after told
-  IsDone input (deed.Look asked) ending hint = IsLooked asked ending × (hint ≡ None)
-  IsDone input (deed.Named asked) ending hint = IsNamedLooked asked ending hint
-  IsDone input (deed.Order order purpose) ending hint =
+  IsDone contents files input (deed.Look asked) ending hint = IsLooked files asked ending × (hint ≡ None)
+  IsDone contents files input (deed.Named asked) ending hint = IsNamedLooked contents asked ending hint
+  IsDone contents files input (deed.Order order purpose) ending hint =
       (told : CommandEnding) × (ending ≡ Usual told)
       × HintsOrder g (Some input) order purpose old new writer writer' before after told hint
-  IsDone input (deed.LendBox boxed purpose) ending hint =
+  IsDone contents files input (deed.LendBox boxed purpose) ending hint =
       (told : CommandEnding) × (ending ≡ Usual told)
       × LendsBox g boxed purpose old new writer writer' before after told hint
-  IsDone input (deed.Carry report) ending hint =
+  IsDone contents files input (deed.Carry report) ending hint =
       (told : CommandEnding) × (ending ≡ Usual told) × (hint ≡ None)
       × Carries g report input old new writer writer' before after told
-  IsDone input deed.Frame ending hint =
+  IsDone contents files input deed.Frame ending hint =
       (told : CommandEnding) × (ending ≡ Usual told) × (hint ≡ None) × (new ≡ old)
       × PrintsLine writer writer' before after (frame_text old.frame) done told

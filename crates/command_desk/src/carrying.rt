@@ -1,17 +1,14 @@
 //! One request is carried out for somebody who carries out several, and its reply told as a part of what he prints.
-ghost use Rattle.std.specs.Prelude.{◌≡◌, ◌∷◌, [], MatchResult};
-ghost use Rattle.command_folder.specs.Printing.{Prints};
+ghost use Rattle.std.specs.Prelude.{◌≡◌, ◌∷◌, []};
 ghost use Rattle.command_ordering.specs.Telling.{replies_ending};
-ghost use Rattle.commands.specs.Subcommands.{IsWhyUnasked};
-ghost use Rattle.request_json.specs.Requests.{IsRequestText};
 ghost use Rattle.command_desk.specs.Carrying.{Carries, CarriesRow, IsCarriedFor, row_ending};
 ghost use Rattle.command_desk.specs.declared.carrying.Report.TheVariants.{Outcome};
 
 use command_folder::endings::{DONE, Ending, FAILED, NO_MEMORY};
+use command_folder::printing::print;
 use command_lines::drops::outcomes_text;
+use commands::applying::asked_of;
 use manifest_csv::reports::{line_buffer, put_line};
-use manifest_csv::sending::send;
-use request_json::requests::read_request;
 use sheet_types::command::Request;
 use sheet_types::receipt::Receipt;
 use sheet_types::refusal::Refusal;
@@ -28,31 +25,6 @@ pub enum Report {
     Row(u64),
     /// The line of a request of several.
     Outcome,
-}
-
-/// The request that bytes are.
-///
-/// # Errors
-///
-/// Bytes that are no request, or want of memory.
-fn asked_of(alloc: Global, body: &[u8]) -> Result<Request, Ending>
-    ensures { MatchResult result (IsRequestText body.now) (IsWhyUnasked body.now) }
-{
-    match read_request(alloc, body) {
-        Ok(Some(request)) => Ok(request),
-        Ok(None) => Err(Ending::BadBody),
-        Err(_) => Err(NO_MEMORY),
-    }
-}
-
-/// Writes a text, and ends as is due.
-pub(crate) fn print<W: Write>(writer: &mut W, text: &str, due: Ending) -> Ending
-    ensures { Prints text.now due (W.contents writer.old) (W.contents writer.new) result }
-{
-    match send(writer, text.as_bytes()) {
-        Ok(()) => due,
-        Err(_) => FAILED,
-    }
 }
 
 /// How it ends behind the row of this number: an import goes on after a refusal, of which standard error is told, and

@@ -1,6 +1,7 @@
 //! What is made of a world that stays by the command of a command line. It is one request, at most.
+ghost use Rattle.std.specs.Prelude.{IfOk};
 ghost use Rattle.desk_http.specs.Connections.{IsServedBy};
-ghost use Rattle.command_desk.specs.Deeds.{IsDone, IsLooked, IsNamedLooked, IsPackageLooked};
+ghost use Rattle.command_desk.specs.Deeds.{AreStrays, IsDone, IsLooked, IsNamedLooked, IsPackageLooked, ShowsLook};
 
 use crate::carrying::{Report, carry_in};
 use crate::frame_texts::tell_frame;
@@ -13,16 +14,18 @@ use command_names::hints::Hint;
 use command_ordering::boxes::{BoxedLoan, lend_box_in};
 use command_ordering::naming::package_in;
 use command_ordering::ordering::hint_order_in;
+use command_ordering::orders::Purpose;
 use command_requests::orders::Order;
 use command_words::statuses::Outcome;
 use commands::applying::apply_in;
-use commands::ordering::Purpose;
+use package_tables::fault::Fault;
 use sqlite::Alter;
 use std::alloc::Global;
 use std::io::Write;
 use store_shelf::shelf::Shelf;
 use views::endings::Ending;
-use views::looking::{Asked, look_over, read_asked};
+use views::looking::{Asked, Look, look_over, read_asked};
+use views::showing::fault_ending;
 use world::world::World;
 
 /// What is done over a world, by words as they were typed.
@@ -45,10 +48,27 @@ pub enum Deed<'t> {
 }
 
 /// How many stores of a folder with so many are of no live package.
-fn strays_of<S: Alter + Drop>(alloc: Global, world: &World<S>, files: u64) -> u64 {
-    match world.packages(alloc) {
-        Ok(sights) => files.saturating_sub(sights.len() as u64),
-        Err(_) => 0,
+fn strays_of<S: Alter + Drop>(alloc: Global, world: &World<S>, files: u64) -> Result<u64, Fault>
+    ensures { IfOk result (AreStrays S.Store world.now files) }
+{
+    let sights = world.packages(alloc)?;
+    Ok(files.saturating_sub(sights.len() as u64))
+}
+
+/// Prints a look. The folder has so many stores.
+fn show_look<S: Alter + Drop, W: Write>(
+    alloc: Global,
+    world: &mut World<S>,
+    files: u64,
+    asked: &Look,
+    writer: &mut W,
+) -> Ending
+    ensures { ShowsLook S.Store world.old world.new writer.old writer.new
+        (W.contents writer.old) (W.contents writer.new) files asked.now result }
+{
+    match strays_of(alloc, world, files) {
+        Ok(strays) => look_over(alloc, world, strays, asked, writer),
+        Err(fault) => fault_ending(fault),
     }
 }
 
@@ -61,13 +81,10 @@ fn look<S: Alter + Drop, W: Write>(
     writer: &mut W,
 ) -> Ending
     ensures { IsLooked S.Store world.old world.new writer.old writer.new
-        (W.contents writer.old) (W.contents writer.new) asked.entry result }
+        (W.contents writer.old) (W.contents writer.new) files asked.entry result }
 {
     match read_asked(asked) {
-        Ok(look) => {
-            let strays = strays_of(alloc, world, files);
-            look_over(alloc, world, strays, &look, writer)
-        }
+        Ok(look) => show_look(alloc, world, files, &look, writer),
         Err(what) => Ending::Usual(CommandEnding::Usual(Outcome::Refused(what))),
     }
 }
@@ -81,7 +98,7 @@ fn look_at_package<'t, S: Alter + Drop, W: Write>(
     writer: &mut W,
 ) -> (Ending, Option<Hint<'t>>)
     ensures { IsPackageLooked S.Store world.old world.new writer.old writer.new
-        (W.contents writer.old) (W.contents writer.new) what word.entry result.0 result.1 }
+        (W.contents writer.old) (W.contents writer.new) (W.contents) what word.entry result.0 result.1 }
 {
     let (named, hint) = package_in(alloc, world, word, writer);
     match named {
@@ -98,7 +115,7 @@ fn look_by_name<'t, S: Alter + Drop, W: Write>(
     writer: &mut W,
 ) -> (Ending, Option<Hint<'t>>)
     ensures { IsNamedLooked S.Store world.old world.new writer.old writer.new
-        (W.contents writer.old) (W.contents writer.new) asked.entry result.0 result.1 }
+        (W.contents writer.old) (W.contents writer.new) (W.contents) asked.entry result.0 result.1 }
 {
     match asked {
         NamedLook::Get(word) => tell_item(alloc, world, word, writer),
@@ -122,7 +139,7 @@ pub fn carry_out<'t, S: Alter + Drop, H: Shelf<S>, W: Write>(
     writer: &mut W,
 ) -> (Ending, Option<Hint<'t>>)
     ensures done { IsDone S.Store world.old world.new writer.old writer.new
-        (W.contents writer.old) (W.contents writer.new) input.now deed.now result.0 result.1 }
+        (W.contents writer.old) (W.contents writer.new) (W.contents) files input.now deed.now result.0 result.1 }
     ensures served { IsServedBy S.Store 1 world.old world.new }
 {
     match deed {

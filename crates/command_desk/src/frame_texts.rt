@@ -2,10 +2,10 @@
 ghost use Rattle.std.specs.Prelude.{◌≡◌, IfOk, string_bytes};
 ghost use Rattle.sheet_types.specs.Reading.{frame_text};
 ghost use Rattle.command_folder.specs.Endings.{done};
-ghost use Rattle.commands.specs.Orders.{PrintsLine};
+ghost use Rattle.command_ordering.specs.Orders.{PrintsLine};
 
-use crate::carrying::print;
 use command_folder::endings::{DONE, Ending, NO_MEMORY};
+use command_folder::printing::print;
 use sheet_types::frame::Frame;
 use sqlite::Alter;
 use std::alloc::{AllocError, Global};

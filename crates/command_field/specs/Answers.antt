@@ -8,7 +8,8 @@ use Rattle.sheet_types.specs.World.{World, holdings, is_live}
 use Rattle.sheet_types.specs.declared.command.Item.{Item}
 use Rattle.sheet_types.specs.declared.command.Relation.{Relation}
 use Rattle.sheet_types.specs.declared.frame.Frame.{Frame}
-use Rattle.field_changes.specs.Asked.{AreChanges}
+use Rattle.field_changes.specs.Asked.{AreChanges, IsWhyUnasked}
+use Rattle.field_changes.specs.declared.changes.Unasked.TheVariants as unasked
 use Rattle.field_changes.specs.declared.held.Held.{Held}
 use Rattle.world.specs.Asked.{child_returned}
 use Rattle.field_lists.specs.HoldsLists.{IsList, MeetsFirst}
@@ -32,11 +33,11 @@ use Rattle.command_field.specs.Freedom.{IsFreeOrTaken, IsTaken}
 
 module _ (p : List ℕ) (number : ℕ) (moment : List ℕ) (items : List Item) (linked : List Relation) (more : Bool)
     (h : Held) where
-  -- The requests for it; or a link is there twice, or two new items have one identity.
+  -- The requests for it; or why its links are no list, or two new items have one identity.
   abbrev pub AnswersBy : Answer → Type 0
   AnswersBy (Asked requests) = AreChanges p number moment items linked more h.items.items h.links.items requests.items
-  AnswersBy NoList = Unit {0}
-  AnswersBy TwoAlike = Unit {0}
+  AnswersBy NoList = IsWhyUnasked p number items linked h.items.items h.links.items unasked.List
+  AnswersBy TwoAlike = IsWhyUnasked p number items linked h.items.items h.links.items unasked.Identity
   AnswersBy answer = ⊥
 
 -- The lines of what it cannot hold, if there are any; else as before.

@@ -1,1 +1,3 @@
 pub mod Walking
+mod Texts
+mod ReadBodies

@@ -2,7 +2,7 @@
 ghost use Rattle.std.specs.Prelude.{◌≡◌, Ok};
 ghost use Rattle.command_named.specs.Packages.{ShowsFound, ShowsPackage, look_of};
 
-use crate::telling::{fault_ending, tell_fault};
+use crate::telling::tell_fault;
 use command_folder::endings::Ending as CommandEnding;
 use command_names::hints::{Hint, Whose};
 use command_names::searching::Found;
@@ -16,6 +16,7 @@ use std::io::Write;
 use uuid::Uuid;
 use views::endings::Ending;
 use views::looking::{Look, look_in};
+use views::showing::fault_ending;
 use world::world::World;
 
 /// What is looked at of a package.

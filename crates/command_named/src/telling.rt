@@ -1,25 +1,14 @@
 //! How a look ends that finds two, or gives out.
-ghost use Rattle.std.specs.Prelude.{◌≡◌};
 ghost use Rattle.command_verbs.specs.Faults.{verb_line};
-ghost use Rattle.views.specs.Showing.{stopped};
 ghost use Rattle.command_named.specs.Telling.{TellsLine};
 
 use command_folder::endings::{Ending as CommandEnding, FAILED, NO_MEMORY};
 use command_verbs::faults::verb_line;
 use command_verbs::verbs::VerbFault;
-use command_words::statuses::{Failure, Outcome};
 use manifest_csv::sending::send;
-use package_tables::fault::Fault;
 use std::alloc::Global;
 use std::io::Write;
 use views::endings::Ending;
-
-/// How the program ends where memory or a store gave out.
-pub(crate) fn fault_ending(fault: Fault) -> Ending
-    ensures { result ≡ stopped fault }
-{
-    Ending::Usual(CommandEnding::Usual(Outcome::Stopped(Failure::from(fault))))
-}
 
 /// Writes the line of a word that may name two.
 pub(crate) fn tell_fault<W: Write>(alloc: Global, fault: &VerbFault, writer: &mut W) -> Ending

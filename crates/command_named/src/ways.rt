@@ -4,7 +4,7 @@ ghost use Rattle.view_searches.specs.Ways.{IsNamedWay};
 ghost use Rattle.command_named.specs.Ways.{ShowsNamed, TellsFound, TellsNamed, TellsWay, way_hint};
 ghost use Rattle.views.specs.Showing.{PrintsAll};
 
-use crate::telling::{fault_ending, tell_fault};
+use crate::telling::tell_fault;
 use command_folder::endings::{DONE, FAILED};
 use command_names::hints::{Hint, Whose};
 use command_names::searching::Found;
@@ -21,6 +21,7 @@ use std::io::Write;
 use view_json::forms::Form;
 use view_searches::ways::{NamedWay, named_way};
 use views::endings::Ending;
+use views::showing::fault_ending;
 use world::world::World;
 
 /// What is found for a word among all items that receipts added, and the way of the one that it names.

@@ -1,5 +1,5 @@
 -- What is made of a world by a loan of what covers a box, what is printed, and how the program ends. Profile.
-use Rattle.std.specs.Prelude.{◌≡◌, ◌⊎◌, ℕ, false, List, [], Option, Some, None}
+use Rattle.std.specs.Prelude.{◌≡◌, ◌⊎◌, ℕ, true, false, List, [], Option, Some, None}
 use Rattle.std.specs.Borrow.{Bor}
 use Rattle.sqlite.specs.Held.{Held}
 use Rattle.sqlite.specs.Store.{Ghosts}
@@ -18,8 +18,8 @@ use Rattle.command_searches.specs.Hints.{IsHintOf}
 use Rattle.command_verbs.specs.Faults.{verb_line}
 use Rattle.command_verbs.specs.declared.verbs.Verb.TheVariants.{Lend}
 use Rattle.command_verbs.specs.declared.verbs.VerbFault.TheVariants.{BadArea}
-use Rattle.commands.specs.Orders.{Orders, PrintsLine}
-use Rattle.commands.specs.declared.ordering.Purpose.{Purpose}
+use Rattle.command_ordering.specs.Orders.{Orders, PrintsLine}
+use Rattle.command_ordering.specs.declared.orders.Purpose.{Purpose}
 use Rattle.command_ordering.specs.Folders.{OpensHinting}
 use Rattle.command_ordering.specs.Telling.{stopped}
 use Rattle.command_ordering.specs.declared.boxes.BoxedLoan.{BoxedLoan}
@@ -38,6 +38,7 @@ module _ {S : Type 0} (g : Ghosts S) (b : BoxedLoan) (purpose : Purpose) where
   pub record LendsArea {W : Type 0} (old new : Seen S) (writer writer' : W) (before after : Option (List ℕ))
       (ending : Ending) (hint : Option Hint) : Type 0 where
     pub rect : Rect
+    pub covered : can_cover old.frame b.zoom b.ground ≡ true
     pub least : IsLeastCover old.frame b.zoom b.ground rect
     pub area : Bor (List ℕ)
     pub says : area.now ≡ area_text rect

@@ -18,7 +18,7 @@ use Rattle.command_requests.specs.Listing.{IsUntouched}
 use Rattle.command_searches.specs.Hints.{hint_of}
 use Rattle.command_verbs.specs.Faults.{verb_line}
 use Rattle.command_verbs.specs.declared.verbs.VerbFault.TheVariants.{Unfound}
-use Rattle.commands.specs.Orders.{PrintsLine}
+use Rattle.command_ordering.specs.Orders.{PrintsLine}
 use Rattle.command_ordering.specs.Folders.{OpensHinting}
 use Rattle.command_ordering.specs.Telling.{replies_ending, stopped}
 

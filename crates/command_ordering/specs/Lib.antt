@@ -3,5 +3,6 @@ pub mod Dropping
 pub mod Folders
 pub mod Naming
 pub mod Ordering
+pub mod Orders
 pub mod Putting
 pub mod Telling

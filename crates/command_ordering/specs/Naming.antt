@@ -18,7 +18,7 @@ use Rattle.command_searches.specs.Searches.{IsPackageFound}
 use Rattle.command_verbs.specs.Faults.{verb_line}
 use Rattle.command_verbs.specs.declared.names.NameFault.TheVariants.{Two}
 use Rattle.command_verbs.specs.declared.verbs.VerbFault.TheVariants.{Unnamed}
-use Rattle.commands.specs.Orders.{PrintsLine}
+use Rattle.command_ordering.specs.Orders.{PrintsLine}
 use Rattle.command_ordering.specs.Telling.{stopped}
 
 module _ {W : Type 0} (writer writer' : W) (before after : Option (List ℕ)) (word : Bor (List ℕ)) where

@@ -10,8 +10,8 @@ use Rattle.command_names.specs.declared.hints.Hint.{Hint}
 use Rattle.command_requests.specs.Listing.{IsUntouched}
 use Rattle.command_requests.specs.declared.orders.Order.{Order}
 use Rattle.command_searches.specs.Hints.{IsVerbHint}
-use Rattle.commands.specs.Orders.{Orders}
-use Rattle.commands.specs.declared.ordering.Purpose.{Purpose}
+use Rattle.command_ordering.specs.Orders.{Orders}
+use Rattle.command_ordering.specs.declared.orders.Purpose.{Purpose}
 use Rattle.command_ordering.specs.Folders.{OpensHinting}
 
 module _ {S : Type 0} (g : Ghosts S) (text : Option (List ℕ)) (o : Order) (purpose : Purpose) where

@@ -22,7 +22,7 @@ use Rattle.command_trees.specs.declared.adding.Counts.{Counts}
 use Rattle.command_verbs.specs.Faults.{verb_line}
 use Rattle.command_verbs.specs.declared.areas.Place.{Place}
 use Rattle.command_verbs.specs.declared.verbs.VerbFault.TheVariants as verb
-use Rattle.commands.specs.Orders.{PrintsLine}
+use Rattle.command_ordering.specs.Orders.{PrintsLine}
 use Rattle.command_ordering.specs.Folders.{OpensHinting}
 use Rattle.command_ordering.specs.Telling.{TellsRefused, stopped}
 

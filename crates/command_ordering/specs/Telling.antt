@@ -8,8 +8,8 @@ use Rattle.command_words.specs.declared.statuses.Outcome.TheVariants.{Stopped}
 use Rattle.command_folder.specs.Endings.{done}
 use Rattle.command_folder.specs.declared.endings.Ending.{Ending}
 use Rattle.command_folder.specs.declared.endings.Ending.TheVariants.{Usual}
-use Rattle.commands.specs.Orders.{PrintsLine}
-use Rattle.commands.specs.Printing.{refusal_ending}
+use Rattle.command_ordering.specs.Orders.{PrintsLine}
+use Rattle.command_folder.specs.Replies.{refusal_ending}
 use Rattle.desk_replies.specs.Bodies.{refusal_text}
 
 -- memory or a store gave out before anything was printed

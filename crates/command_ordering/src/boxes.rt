@@ -2,10 +2,11 @@
 ghost use Rattle.std.specs.Prelude.{[], Some};
 ghost use Rattle.sheet_types.specs.World.{World as ModelWorld};
 ghost use Rattle.world.specs.Worlds.{StandsFor};
-ghost use Rattle.commands.specs.Orders.{Orders};
+ghost use Rattle.command_ordering.specs.Orders.{Orders};
 ghost use Rattle.command_ordering.specs.Boxes.{EndsBoxed, IsGiverHint, LendsBox, LendsBoxed, order_of};
 
 use crate::areas::area_in;
+use crate::orders::{Purpose, order_in};
 use crate::telling::{fault_ending, tell_fault};
 use command_folder::endings::Ending;
 use command_folder::folders::{OpenFolder, open_folder};
@@ -13,7 +14,6 @@ use command_names::hints::Hint;
 use command_requests::orders::Order;
 use command_searches::hints::package_hint;
 use command_verbs::verbs::{Verb, VerbFault};
-use commands::ordering::{Purpose, order_in};
 use sheet_types::command::Mode;
 use sheet_types::frame::Ground;
 use sqlite::{Alter, Connection};

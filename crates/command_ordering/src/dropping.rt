@@ -3,13 +3,15 @@ ghost use Rattle.std.specs.Prelude.{◌≡◌};
 ghost use Rattle.command_folder.specs.Endings.{done};
 ghost use Rattle.command_folder.specs.declared.endings.Ending.TheVariants.{NoRequest};
 ghost use Rattle.command_lines.specs.Drops.{linked_text, outcomes_text, requests_text};
-ghost use Rattle.commands.specs.Orders.{PrintsLine};
+ghost use Rattle.command_ordering.specs.Orders.{PrintsLine};
 ghost use Rattle.command_ordering.specs.Dropping.{DropsFor, DropsIn, EndsDrop, TellsDrop, drop_hint};
 ghost use Rattle.command_ordering.specs.Telling.{replies_ending};
 
-use crate::telling::{fault_ending, refusal_ending, tell, tell_fault};
+use crate::telling::{fault_ending, tell_fault};
 use command_folder::endings::{DONE, Ending, NO_MEMORY};
 use command_folder::folders::{OpenFolder, open_folder};
+use command_folder::printing::print;
+use command_folder::replies::refusal_ending;
 use command_lines::drops::{linked_text, outcomes_text, requests_text};
 use command_names::hints::{Hint, Whose};
 use command_naming::drops::{DropOutcome, Dropping, drop_named};
@@ -62,7 +64,7 @@ fn tell_linked<W: Write>(alloc: Global, links: &[Relation], writer: &mut W) -> E
         (linked_text links.now) NoRequest result }
 {
     match linked_text(alloc, links) {
-        Ok(text) => tell(writer, text.as_str(), Ending::NoRequest),
+        Ok(text) => print(writer, text.as_str(), Ending::NoRequest),
         Err(_) => NO_MEMORY,
     }
 }
@@ -73,7 +75,7 @@ fn tell_planned<W: Write>(alloc: Global, requests: &[Request], writer: &mut W) -
         (requests_text requests.now) done result }
 {
     match requests_text(alloc, requests) {
-        Ok(text) => tell(writer, text.as_str(), DONE),
+        Ok(text) => print(writer, text.as_str(), DONE),
         Err(_) => NO_MEMORY,
     }
 }
@@ -90,7 +92,7 @@ fn tell_replies<W: Write>(
 {
     let due = replies_ending(replies);
     match outcomes_text(alloc, requests, replies) {
-        Ok(text) => tell(writer, text.as_str(), due),
+        Ok(text) => print(writer, text.as_str(), due),
         Err(_) => NO_MEMORY,
     }
 }

@@ -7,5 +7,6 @@ pub mod boxes;
 pub mod dropping;
 pub mod naming;
 pub mod ordering;
+pub mod orders;
 pub mod putting;
 mod telling;

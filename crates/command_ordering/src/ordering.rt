@@ -7,12 +7,12 @@ ghost use Rattle.command_requests.specs.Listing.{IsUntouched};
 ghost use Rattle.command_searches.specs.Hints.{IsVerbHint};
 ghost use Rattle.command_ordering.specs.Ordering.{EndsHinted, HintsOrder, OrdersHinted};
 
+use crate::orders::{Purpose, order_in};
 use command_folder::endings::Ending;
 use command_folder::folders::{OpenFolder, open_folder};
 use command_names::hints::Hint;
 use command_requests::orders::Order;
 use command_searches::hints::hint_for;
-use commands::ordering::{Purpose, order_in};
 use sqlite::{Alter, Connection};
 use sqlite_trees::store::Store;
 use std::alloc::Global;

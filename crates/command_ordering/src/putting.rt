@@ -2,7 +2,7 @@
 ghost use Rattle.std.specs.Prelude.{◌≡◌};
 ghost use Rattle.command_folder.specs.Endings.{done};
 ghost use Rattle.command_lines.specs.Trees.{counts_line};
-ghost use Rattle.commands.specs.Orders.{PrintsLine};
+ghost use Rattle.command_ordering.specs.Orders.{PrintsLine};
 ghost use Rattle.command_ordering.specs.Putting.{
   PutsFor,
   PutsIn,
@@ -13,9 +13,10 @@ ghost use Rattle.command_ordering.specs.Putting.{
   tree_hint,
 };
 
-use crate::telling::{fault_ending, tell, tell_fault, tell_refused};
+use crate::telling::{fault_ending, tell_fault, tell_refused};
 use command_folder::endings::{DONE, Ending, NO_MEMORY};
 use command_folder::folders::{OpenFolder, open_folder};
+use command_folder::printing::print;
 use command_lines::trees::counts_line;
 use command_names::hints::{Hint, Whose};
 use command_naming::trees::{TreeOutcome, TreeWords, add_named};
@@ -53,7 +54,7 @@ fn tell_counts<W: Write>(alloc: Global, counts: &Counts, writer: &mut W) -> Endi
         (counts_line counts.now.added counts.now.passed) done result }
 {
     match counts_line(alloc, counts.added, counts.passed) {
-        Ok(line) => tell(writer, line.as_str(), DONE),
+        Ok(line) => print(writer, line.as_str(), DONE),
         Err(_) => NO_MEMORY,
     }
 }

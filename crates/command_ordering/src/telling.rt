@@ -1,13 +1,13 @@
 //! Texts out, and how the program ends after them.
 ghost use Rattle.std.specs.Prelude.{◌≡◌, IfOk, string_bytes};
-ghost use Rattle.command_folder.specs.Printing.{Prints};
 ghost use Rattle.command_folder.specs.declared.endings.Ending.TheVariants.{NoRequest};
 ghost use Rattle.command_verbs.specs.Faults.{verb_line};
-ghost use Rattle.commands.specs.Orders.{PrintsLine};
-ghost use Rattle.commands.specs.Printing.{refusal_ending};
+ghost use Rattle.command_ordering.specs.Orders.{PrintsLine};
 ghost use Rattle.command_ordering.specs.Telling.{TellsRefused, refusal_line, stopped};
 
 use command_folder::endings::{Ending, FAILED, NO_MEMORY};
+use command_folder::printing::print;
+use command_folder::replies::refusal_ending;
 use command_verbs::faults::verb_line;
 use command_verbs::verbs::VerbFault;
 use command_words::statuses::{Failure, Outcome};
@@ -26,16 +26,6 @@ pub(crate) fn fault_ending(fault: Fault) -> Ending
     Ending::Usual(Outcome::Stopped(Failure::from(fault)))
 }
 
-/// Writes a text, and answers how the program ends then.
-pub(crate) fn tell<W: Write>(writer: &mut W, text: &str, due: Ending) -> Ending
-    ensures { Prints text.now due (W.contents writer.old) (W.contents writer.new) result }
-{
-    match send(writer, text.as_bytes()) {
-        Ok(()) => due,
-        Err(_) => FAILED,
-    }
-}
-
 /// Writes the line of a fault by which there is no request.
 pub(crate) fn tell_fault<W: Write>(alloc: Global, fault: &VerbFault, writer: &mut W) -> Ending
     ensures { PrintsLine writer.old writer.new (W.contents writer.old) (W.contents writer.new)
@@ -47,17 +37,6 @@ pub(crate) fn tell_fault<W: Write>(alloc: Global, fault: &VerbFault, writer: &mu
     match send(writer, line.as_bytes()) {
         Ok(()) => Ending::NoRequest,
         Err(_) => FAILED,
-    }
-}
-
-/// How the program ends after a refusal: declined, or what gave out.
-pub(crate) fn refusal_ending(why: &Refusal) -> Ending
-    ensures { result ≡ refusal_ending why.now }
-{
-    match why {
-        Refusal::OutOfMemory => NO_MEMORY,
-        Refusal::StoreFault => FAILED,
-        _ => Ending::Declined(*why),
     }
 }
 
@@ -76,7 +55,7 @@ pub(crate) fn tell_refused<W: Write>(alloc: Global, why: &Refusal, writer: &mut 
 {
     let due = refusal_ending(why);
     match refusal_line(alloc, why) {
-        Ok(line) => tell(writer, line.as_str(), due),
+        Ok(line) => print(writer, line.as_str(), due),
         Err(_) => NO_MEMORY,
     }
 }

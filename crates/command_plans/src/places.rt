@@ -27,6 +27,7 @@ fn turned_row(frame: &Frame, zoom: i64, row: i64) -> Option<i64>
     requires { IsTrue (is_good_frame frame.now) }
     ensures some { IfSome result (λ other. ((other +ℤ row) +ℤ pos 1)
         ≡ height_at frame.now (level_of frame.now zoom)) }
+    ensures within { IfSome result (λ _. has_place frame.now zoom (pos 0) row ≡ true) }
     ensures none { IfNone result (has_place frame.now zoom (pos 0) row ≡ false) }
 {
     if !has_place(frame, zoom, 0, row) {
@@ -40,6 +41,7 @@ fn turned_row(frame: &Frame, zoom: i64, row: i64) -> Option<i64>
 pub fn place_of(frame: &Frame, file: &Place, is_upward: bool) -> Option<Place>
     requires { IsTrue (is_good_frame frame.now) }
     ensures some { IfSome result (IsPlaceOf frame.now is_upward file.now) }
+    ensures within { IfSome result (λ _. is_upward ≡ true → has_row frame.now file.now ≡ true) }
     ensures none { IfNone result ((is_upward ≡ true) × (has_row frame.now file.now ≡ false)) }
 {
     if !is_upward {
@@ -57,6 +59,7 @@ pub fn place_of(frame: &Frame, file: &Place, is_upward: bool) -> Option<Place>
 /// register.
 pub fn upward_place(frame: &Frame, file: &Place) -> Option<Place>
     ensures some { IfSome result (IsPlaceOf frame.now true file.now) }
+    ensures within { IfSome result (λ _. has_row frame.now file.now ≡ true) }
     ensures none { IfNone result (IsTrue (is_good_frame frame.now) → has_row frame.now file.now ≡ false) }
 {
     match frame.check() {

@@ -60,9 +60,10 @@ module _ {S : Type 0} (g : Ghosts S) where
   AddsBytes t items file bytes old new (Err (Refused why)) =
       (place : Place) × IsPlaceOf old.frame t.is_upward file place × (is_there items place bytes ≡ false)
       × AddsTile t place bytes old new (Err (Refused why))
-  AddsBytes t items file bytes old new (Err BadPlace) = (has_row old.frame file ≡ false) × (new ≡ old)
+  AddsBytes t items file bytes old new (Err BadPlace) =
+      (t.is_upward ≡ true) × (has_row old.frame file ≡ false) × (new ≡ old)
   AddsBytes t items file bytes old new (Err (Failed fault)) = new ≡ old
-  AddsBytes t items file bytes old new (Err Unread) = new ≡ old
+  AddsBytes t items file bytes old new (Err Unread) = ⊥
 
   -- the same of some bytes; or there were none, and nothing was done
   pub record AddsFile (t : Target) (items : List Item) (file : Place) (old new : Seen S)

@@ -41,7 +41,7 @@ fn begins(word: &[u8], text: &[u8]) -> bool
 }
 
 /// Whether the text of a UUID begins with a word.
-pub(crate) fn has_beginning(word: &str, id: Uuid) -> bool
+pub fn has_beginning(word: &str, id: Uuid) -> bool
     ensures { result ≡ begins word.now (uuid_text id) }
 {
     let mut buffer = Uuid::encode_buffer();

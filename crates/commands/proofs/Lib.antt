@@ -1,5 +1,3 @@
-mod Texts
-mod Bodies
 mod Makings
 pub mod WhatIsTold
 mod LineFacts

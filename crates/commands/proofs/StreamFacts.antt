@@ -9,9 +9,10 @@ use Rattle.request_json.specs.Requests.{IsRequestText}
 use Rattle.world.specs.Worlds.{Seen}
 use Rattle.command_folder.specs.Printing.{Prints}
 use Rattle.command_folder.specs.declared.endings.Ending.{Ending}
-use Rattle.commands.specs.Printing.{PrintsReply}
+use Rattle.command_folder.specs.Replies.{PrintsReply}
 use Rattle.commands.specs.Streams.{AreSteps}
-use Rattle.commands.specs.Subcommands.{Applies, IsApplied, IsUnread, IsWhyUnasked}
+use Rattle.command_folder.specs.Bodies.{IsUnread}
+use Rattle.commands.specs.Subcommands.{Applies, IsApplied, IsWhyUnasked}
 use Rattle.sheet_types.specs.declared.receipt.Receipt.{Receipt}
 use Rattle.sheet_types.specs.declared.refusal.Refusal.{Refusal}
 use Rattle.std.specs.Prelude.{IfNone, IfSome}

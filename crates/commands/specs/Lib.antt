@@ -1,4 +1,3 @@
-pub mod Orders
 pub mod Printing
 pub mod Registers
 pub mod Streams

@@ -20,7 +20,9 @@ use Rattle.command_words.specs.declared.statuses.Failure.{Failure}
 use Rattle.command_words.specs.declared.statuses.Outcome.TheVariants.{Stopped}
 use Rattle.command_folder.specs.Endings.{done, failed, no_memory}
 use Rattle.command_folder.specs.Printing.{Prints}
-use Rattle.commands.specs.Printing.{PrintsReply, archive_line}
+use Rattle.command_folder.specs.Bodies.{IsUnread}
+use Rattle.command_folder.specs.Replies.{PrintsReply}
+use Rattle.commands.specs.Printing.{archive_line}
 use Rattle.command_folder.specs.declared.endings.Ending.{Ending}
 use Rattle.command_folder.specs.declared.endings.Ending.TheVariants.{Usual, BadBody, HoldsPackages, Unlisted, Unopened}
 use Rattle.command_folder.specs.declared.endings.OpenFault.{OpenFault}
@@ -46,10 +48,6 @@ Inits uuid writer writer' before after ending =
 abbrev pub IsWhyUnasked : List ℕ → Ending → Type 0
 IsWhyUnasked text ending = (ending ≡ no_memory) ⊎ ((ending ≡ BadBody)
     × ((q : Request) → ¬ IsRequestText text q))
-
--- The same of a reader, which may fail, or give more bytes than a body may have.
-abbrev pub IsUnread : Ending → Type 0
-IsUnread ending = (ending ≡ no_memory) ⊎ (ending ≡ BadBody)
 
 -- ---- import
 

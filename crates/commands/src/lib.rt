@@ -5,7 +5,6 @@
 pub mod applying;
 pub mod importing;
 pub mod init;
-pub mod ordering;
 pub mod registers;
 mod serving;
 pub mod streaming;

@@ -9,10 +9,13 @@ ghost use Rattle.command_folder.specs.declared.endings.Ending.TheVariants.{BadBo
 ghost use Rattle.commands.specs.Streams.{AppliesEach, GivesByte, GivesLine, IsEmptyLine, TakesLine, TakesLines};
 ghost use Rattle.commands.specs.Streams.{TellsUnread};
 ghost use Rattle.commands.specs.Streams.{ending_then, is_done, stage, stops};
-ghost use Rattle.commands.specs.Subcommands.{Applies, IsApplied, IsUnread};
+ghost use Rattle.command_folder.specs.Bodies.{IsUnread};
+ghost use Rattle.commands.specs.Subcommands.{Applies, IsApplied};
 
-use crate::applying::{MOST_BODY, asked_of, tell_receipt, tell_refusal};
+use crate::applying::asked_of;
+use command_folder::bodies::MOST_BODY;
 use command_folder::endings::{DONE, Ending, FAILED, NO_MEMORY, output_of};
+use command_folder::replies::{tell_receipt, tell_refusal};
 use command_words::statuses::Outcome;
 use manifest_csv::sending::send;
 use request_json::requests::read_request;

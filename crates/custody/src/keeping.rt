@@ -33,8 +33,8 @@ use sqlite::{Alter, Connection};
 use std::alloc::Global;
 use uuid::Uuid;
 
-/// A number that a receipt says, which is not below zero.
-fn natural_of(number: i64) -> Result<u64, Fault>
+/// A number of a column that is not below zero; any other is a fault.
+pub fn natural_of(number: i64) -> Result<u64, Fault>
     ensures counted { IfOk result (λ counted. number ≡ pos counted) }
     ensures none { IfErr result (λ _. (counted : ℕ) → number ≢ pos counted) }
 {

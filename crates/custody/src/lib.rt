@@ -36,7 +36,7 @@ use uuid::Uuid;
 const GREATEST_STORED: u64 = 9_223_372_036_854_775_807;
 
 /// A number as a column of integers has it; a greater one than such a column can have is a fault.
-fn column_number(number: u64) -> Result<i64, Fault>
+pub fn column_number(number: u64) -> Result<i64, Fault>
     ensures stored { IfOk result (λ stored. stored ≡ pos number) }
     ensures great { IfErr result (λ _. 9223372036854775807 < number) }
 {

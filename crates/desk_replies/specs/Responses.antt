@@ -72,8 +72,13 @@ abbrev pub outgoing_bytes : Outgoing → List ℕ
 outgoing_bytes (outgoing.Made bytes) = bytes.items
 outgoing_bytes (outgoing.Fixed fixed) = fixed_response fixed
 
--- The response to the reply to a request. Memory may be wanting for it: of a receipt, which stands, that is said; a
--- refusal is answered as want of memory is, with nothing changed either way.
+-- The response to a refusal. Memory may be wanting for the text of one by the rules: that is answered as want of
+-- memory is, and nothing has changed either way. That of a store needs no memory.
+abbrev pub IsRefusal : Refusal → List ℕ → Type 0
+IsRefusal refusal.StoreFault out = out ≡ refusal_response refusal.StoreFault
+IsRefusal why out = (out ≡ refusal_response why) ⊎ (out ≡ fixed_response OutOfMemory)
+
+-- The response to the reply to a request. Memory may be wanting for it: of a receipt, which stands, that is said.
 abbrev pub IsReply : Result Receipt Refusal → List ℕ → Type 0
 IsReply (Ok receipt) out = (out ≡ receipt_response receipt) ⊎ (out ≡ fixed_response AskAgain)
-IsReply (Err why) out = (out ≡ refusal_response why) ⊎ (out ≡ fixed_response OutOfMemory)
+IsReply (Err why) out = IsRefusal why out

@@ -1,7 +1,7 @@
 //! What goes out for the reply to a request, whatever memory there is for its text.
 ghost use Rattle.std.specs.Prelude.{◌≡◌, ◌⊎◌};
-ghost use Rattle.desk_replies.specs.Responses.{IsReply, fixed_response, outgoing_bytes, receipt_response};
-ghost use Rattle.desk_replies.specs.Responses.{refusal_response};
+ghost use Rattle.desk_replies.specs.Responses.{IsRefusal, IsReply, fixed_response, outgoing_bytes};
+ghost use Rattle.desk_replies.specs.Responses.{receipt_response};
 ghost use Rattle.desk_replies.specs.declared.fixed.Fixed.TheVariants as fixed;
 
 use crate::fixed::{Fixed, fixed_response};
@@ -42,10 +42,9 @@ pub fn receipt_outgoing(alloc: Global, receipt: &Receipt) -> Outgoing
     }
 }
 
-/// What goes out for a refusal.
+/// What goes out for a refusal. That a store gave out is told in every case.
 pub fn refusal_outgoing(alloc: Global, why: &Refusal) -> Outgoing
-    ensures { (outgoing_bytes result ≡ refusal_response why.now)
-        ⊎ (outgoing_bytes result ≡ fixed_response fixed.OutOfMemory) }
+    ensures { IsRefusal why.now (outgoing_bytes result) }
 {
     match why {
         Refusal::OutOfMemory => Outgoing::Fixed(Fixed::OutOfMemory),

@@ -6,3 +6,4 @@ pub mod Walking
 pub mod Lasts
 pub mod Listing
 pub mod InOrder
+pub mod Unlisted

@@ -2,10 +2,11 @@
 -- unlink links of the package that are not in the file delete items of the package by which nothing in the file is
 -- called
 --     add      items of the file whose names are new               link     links of the file that the package has not
-use Rattle.std.specs.Prelude.{◌≡◌, ℕ, Bool, List, [], ◌++◌, map, if◌then◌else◌, IsPermutation}
-use Rattle.std.specs.List.{AllZip}
+use Rattle.std.specs.Prelude.{◌≡◌, ℕ, Bool, List, [], ◌++◌, map, if◌then◌else◌, IsPermutation, bytes_eq}
+use Rattle.std.specs.List.{AllByRecursion, AllZip, IsDistinct}
 use Rattle.sheet_types.specs.Ordered.{IsArranged}
 use Rattle.sheet_types.specs.Cut.{identities}
+use Rattle.sheet_types.specs.Lines.{IsUuid}
 use Rattle.sheet_types.specs.World.{item_key, link_key}
 use Rattle.sheet_types.specs.declared.command.Command.{Command}
 use Rattle.sheet_types.specs.declared.command.Command.TheVariants.{Add, Delete, Link, Unlink}
@@ -16,8 +17,11 @@ use Rattle.field_changes.specs.Ids.{request_of}
 use Rattle.field_changes.specs.Naming.{names_of}
 use Rattle.field_changes.specs.Parts.{gone, new_items, IsLinkOf, beyond}
 use Rattle.field_changes.specs.declared.asking.Parts.{Parts}
+use Rattle.field_changes.specs.declared.changes.Unasked.{Unasked}
+use Rattle.field_changes.specs.declared.changes.Unasked.TheVariants as unasked
 use Rattle.field_changes.specs.declared.held.HeldItem.{HeldItem}
 use Rattle.field_changes.specs.declared.held.HeldLink.{HeldLink}
+use Rattle.field_changes.specs.declared.naming.Named.{Named}
 
 abbrev pub unlinking : List ℕ → Relation → Command
 unlinking p l = Unlink p l.mapping l.base l.other
@@ -54,3 +58,24 @@ pub record AreChanges (p : List ℕ) (ticket : ℕ) (moment : List ℕ) (items :
   pub parts : Parts
   pub for_file : ArePartsFor p ticket items linked more file held parts
   pub asked : requests ≡ map (request_of p ticket moment) (commands p parts)
+
+-- Under these names the links of a file are no list: an end of one is no item of the file, so that none have their
+-- ends; or of those that the package has not, one is there twice.
+abbrev pub IsWhyList : List Named → List HeldLink → List Relation → Type 0
+IsWhyList names held linked = (links : List Relation) → AllZip (IsLinkOf names) held links
+    → AllByRecursion (λ l. IsUuid l.base) links
+    → ¬ IsDistinct bytes_eq (map link_key (beyond linked links))
+
+-- two items of a file whose names are new have one of them
+abbrev pub IsWhyIdentity : List Named → List HeldItem → Type 0
+IsWhyIdentity names file = ¬ IsDistinct bytes_eq (map item_key (new_items names file))
+
+-- why no requests were made, of a package that holds these at this ticket and a file that has these; memory may
+-- always be wanting
+abbrev pub IsWhyUnasked : List ℕ → ℕ → List Item → List Relation → List HeldItem
+    → List HeldLink → Unasked → Type 0
+IsWhyUnasked p ticket items linked file held unasked.List =
+    IsWhyList (names_of p ticket items file) held linked
+IsWhyUnasked p ticket items linked file held unasked.Identity =
+    IsWhyIdentity (names_of p ticket items file) file
+IsWhyUnasked p ticket items linked file held unasked.Memory = Unit {0}

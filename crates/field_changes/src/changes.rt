@@ -1,7 +1,7 @@
 //! The requests that make a package hold what a file holds.
-ghost use Rattle.std.specs.Prelude.{◌≡◌, [], if◌then◌else◌, IfOk};
+ghost use Rattle.std.specs.Prelude.{◌≡◌, [], if◌then◌else◌, IfOk, IfErr};
 ghost use Rattle.sheet_types.specs.Cut.{identities};
-ghost use Rattle.field_changes.specs.Asked.{ArePartsFor, AreChanges};
+ghost use Rattle.field_changes.specs.Asked.{ArePartsFor, AreChanges, IsWhyUnasked};
 ghost use Rattle.field_changes.specs.Parts.{beyond, gone};
 ghost use Rattle.field_changes.specs.declared.changes.Unasked.TheVariants as unasked;
 
@@ -91,8 +91,10 @@ pub fn parts_for(
     file: Vec<HeldItem>,
     held: &[HeldLink],
 ) -> Result<Parts, Unasked>
-    ensures { IfOk result (λ parts. ArePartsFor asker.now.package asker.now.ticket holdings.now.items.now
+    ensures parts { IfOk result (λ parts. ArePartsFor asker.now.package asker.now.ticket holdings.now.items.now
         holdings.now.links.now more file.items held.now parts) }
+    ensures why { IfErr result (IsWhyUnasked asker.now.package asker.now.ticket holdings.now.items.now
+        holdings.now.links.now file.items held.now) }
 {
     let names = names(
         alloc,
@@ -140,8 +142,10 @@ pub fn changes(
     file: Vec<HeldItem>,
     held: &[HeldLink],
 ) -> Result<Vec<Request>, Unasked>
-    ensures { IfOk result (λ requests. AreChanges asker.now.package asker.now.ticket asker.now.at.now
+    ensures made { IfOk result (λ requests. AreChanges asker.now.package asker.now.ticket asker.now.at.now
         holdings.now.items.now holdings.now.links.now more file.items held.now requests.items) }
+    ensures why { IfErr result (IsWhyUnasked asker.now.package asker.now.ticket holdings.now.items.now
+        holdings.now.links.now file.items held.now) }
 {
     let parts = parts_for(alloc, asker, holdings, more, file, held)?;
     Ok(requests(alloc, asker, parts)?)

@@ -1,4 +1,3 @@
-mod DigitFacts
 mod EntryFacts
 mod ListFacts
 mod NoneFacts

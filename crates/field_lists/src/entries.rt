@@ -13,11 +13,10 @@ ghost use Rattle.field_lists.specs.declared.entries.Listed.{Listed};
 ghost use Rattle.field_lists.specs.declared.entries.Listed.TheVariants as listed;
 
 use crate::columns::{CODE, COLUMN, DATA, IDENTITY, KIND, NUMBER, OTHER, ROW, TEXT, X, Y, ZOOM};
-use crate::fields::{
-    are_empty, frame_at, hex_at, number_at, optional_number_at, optional_uuid_at, text_at, uuid_at,
-};
+use crate::fields::{frame_at, optional_number_at, optional_uuid_at};
 use csv::StringRecord;
 use field_changes::held::{BadRecord, Export, HeldItem, HeldLink};
+use request_csv::fields::{are_empty, hex_at, number_at, text_at, uuid_at};
 use sheet_types::collections::Bytes;
 use sheet_types::command::{Content, Mapping};
 use sheet_types::error::OutOfMemory;

@@ -2,7 +2,6 @@
 #![tactic(auto)]
 
 mod columns;
-mod digits;
 pub mod entries;
 mod fields;
 pub mod lists;

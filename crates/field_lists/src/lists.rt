@@ -9,8 +9,8 @@ ghost use Rattle.field_lists.specs.declared.lists.ListFault.TheVariants as fault
 
 use crate::columns::COUNT;
 use crate::entries::{Listed, entry_of};
-use crate::fields::has_text;
 use csv::{ByteRecord, ReaderBuilder, StringRecord};
+use request_csv::fields::has_text;
 use request_csv::sources::ListSource;
 use sheet_types::error::OutOfMemory;
 use std::alloc::Global;

@@ -103,4 +103,5 @@ module _ {S : Type 0} (g : Ghosts S) where
         opened = opened;
         opens = λ clean. members_open g read now verdict.kept.items found.world.members (ap (λ w. w.members) world_is)
             turned opens clean;
+        usable = ap (λ w. w.has_failed) world_is;
       }

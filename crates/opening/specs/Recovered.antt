@@ -51,7 +51,7 @@ module _ {S : Type 0} (g : Ghosts S) where
   IsReadOf stores h = (was : Held S) × Contains stores was × StaysStore g was h
 
   -- Each store is now as it was, or was brought to the second version; each is that of a member, or a stray, which was
-  -- only read.
+  -- only read. The world can be used.
   pub record IsRecovered (stores : List (Held S)) (found : Recovered S) : Type 0 where
     pub now : List (Held S)
     pub brought : MayAllBeBrought g stores now
@@ -60,6 +60,7 @@ module _ {S : Type 0} (g : Ghosts S) where
     pub stray_rests : AreAtRest g found.strays.items
     pub opened : AreClean g now → IsOpened stores found
     pub opens : AreClean g now → AllOpen g found.world.members
+    pub usable : found.world.has_failed ≡ false
 
   -- the stores are untouched
   abbrev pub AreSame : List (Held S) → Unopened S → Type 0

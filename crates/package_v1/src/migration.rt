@@ -8,9 +8,8 @@ ghost use Rattle.sheet_types.specs.World.{Package};
 ghost use Rattle.sheet_types.specs.declared.frame.Frame.{Frame};
 ghost use Rattle.store_sql.specs.Transactions.{Rests, Steps, Turns};
 ghost use Rattle.package_v1.specs.FirstVersion.{ReadsAtVersionOne, ReadsAtEither};
-ghost use Rattle.package_v1.specs.Migrating.{Brings, BringsIfFirst};
+ghost use Rattle.package_v1.specs.Migrating.{Brings};
 
-use crate::names::are_free;
 use crate::statements::{insert_third_relation, make_third_index, make_third_table, set_version};
 use package_tables::fault::Fault;
 use sqlite::{Alter, Connection, Transaction};
@@ -45,22 +44,5 @@ pub fn migrate<S: Alter>(conn: &mut Connection<S>) -> Result<(), Fault>
     let mut tx = conn.transaction();
     bring(&mut tx)?;
     tx.commit()?;
-    Ok(())
-}
-
-/// Brings a store to the second version where it is of the first, and leaves it as it is where it is of the second:
-/// which it is, is told by the names that a migration makes.
-///
-/// # Errors
-///
-/// Those of `migrate`.
-pub fn migrate_if_first<S: Alter>(conn: &mut Connection<S>) -> Result<(), Fault>
-    requires { Rests (state S.Store conn.old) }
-    ensures { IsTrue (state S.Store conn.old).is_open
-        → Turns (λ _. BringsIfFirst) (state S.Store conn.old) (state S.Store conn.new) result }
-{
-    if are_free(conn.schema()) {
-        return migrate(conn);
-    }
     Ok(())
 }

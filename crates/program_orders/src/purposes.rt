@@ -1,6 +1,6 @@
 //! What becomes of the request that a verb makes.
 use clap::ArgMatches;
-use commands::ordering::Purpose;
+use command_ordering::orders::Purpose;
 
 /// What becomes of the request, by the options of a verb: `--dry-run` only shows it.
 pub fn purpose_of(options: &ArgMatches<'_>) -> Purpose {

@@ -2,8 +2,8 @@
 use clap::ArgMatches;
 use command_folder::endings::Ending;
 use command_ordering::boxes::{BoxedLoan, lend_box_for};
+use command_ordering::orders::Purpose;
 use command_words::statuses::{Outcome, What};
-use commands::ordering::Purpose;
 use program_orders::boxes::box_of;
 use program_orders::purposes::purpose_of;
 use program_orders::verbs::{if_given, mode_of};

@@ -2,8 +2,8 @@
 use clap::ArgMatches;
 use command_folder::endings::{Ending, FAILED};
 use command_ordering::ordering::hint_order_for;
+use command_ordering::orders::Purpose;
 use command_requests::orders::Order;
-use commands::ordering::Purpose;
 use program_orders::purposes::purpose_of;
 use program_orders::verbs::verb_of;
 use program_output::options::text_of;

@@ -1,6 +1,7 @@
 mod CauseFacts
 mod CommandFacts
 mod ContentFacts
+mod DigitFacts
 mod FormFacts
 mod ListFacts
 mod NoneFacts

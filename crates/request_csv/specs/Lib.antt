@@ -1,4 +1,5 @@
 pub mod Causes
+pub mod Digits
 pub mod Forms
 pub mod ListLaws
 pub mod ListReading

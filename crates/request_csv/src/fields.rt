@@ -11,8 +11,8 @@ ghost use Rattle.sheet_types.specs.declared.command.Mapping.{Mapping};
 ghost use Rattle.sheet_types.specs.declared.command.Mode.{Mode};
 ghost use Rattle.sheet_types.specs.declared.receipt.MovedKind.{MovedKind};
 
+use crate::digits::decode_hex;
 use csv::StringRecord;
-use hex::FromHexError;
 use sheet_types::collections::Text;
 use sheet_types::command::{Mapping, Mode};
 use sheet_types::error::OutOfMemory;
@@ -73,11 +73,7 @@ pub fn hex_at(
     let Some(text) = row.get(column) else {
         return Ok(None);
     };
-    match hex::decode(alloc, text) {
-        Ok(bytes) => Ok(Some(bytes)),
-        Err(FromHexError::OutOfMemory) => Err(OutOfMemory),
-        Err(_) => Ok(None),
-    }
+    decode_hex(alloc, text.as_bytes())
 }
 
 /// The kind that this column names.

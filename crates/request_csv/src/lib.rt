@@ -4,7 +4,8 @@
 pub mod causes;
 mod columns;
 mod contents;
-mod fields;
+mod digits;
+pub mod fields;
 pub mod forms;
 pub mod list_laws;
 pub mod lists;

@@ -1,10 +1,8 @@
 //! The program `sheetdesk`: the words that it is called with, and the exit status.
 #![tactic(auto)]
 
-mod keeping;
 mod running;
 mod sessions;
-mod working;
 
 use crate::sessions::run;
 use program_output::printing::out_of_memory;

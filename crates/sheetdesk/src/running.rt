@@ -1,5 +1,4 @@
 //! A command, carried out: by the desk that serves its folder, or in this process.
-use crate::working::work;
 use clap::error::ErrorKind;
 use clap::{ArgMatches, Error};
 use command_folder::endings::Ending;
@@ -21,6 +20,7 @@ use program_verbs::verbs::carry_out as carry_out_verb;
 use program_words::kinds::is_bringing;
 use program_words::names::{Named, named_words, print_unnamed};
 use program_words::parsing::parse_words;
+use program_working::working::work;
 use std::convert::AsStr;
 
 /// Prints what the command line is answered with where it names nothing to be done: a usage fault, or help.

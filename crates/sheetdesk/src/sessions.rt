@@ -1,8 +1,8 @@
 //! Sessions: commands as a person types them, a line each, carried out one after the other. A folder stays open from
 //! line to line.
-use crate::keeping::Keeper;
 use crate::running::{carry_out, print_usage};
 use clap::ArgMatches;
+use program_keeping::keeping::Keeper;
 use program_output::options::text_of;
 use program_output::printing::{out_of_memory, output_failed, print_error};
 use program_output::streams::Input;
@@ -19,6 +19,20 @@ fn tell_failure(rt: &HostRuntime, what: &str, error: &io::Error) -> u8 {
     1
 }
 
+/// Carries out the command of this name: over the folder that is kept, or else as a command line does, while none is.
+fn carry_out_named(
+    keeper: &mut Keeper<'_>,
+    words: &[&str],
+    name: &str,
+    given: &ArgMatches<'_>,
+    reader: &mut Input<'_>,
+) -> u8 {
+    match keeper.carry_out(words, name, given, reader) {
+        Some(status) => status,
+        None => carry_out(keeper.rt(), words, name, given, reader),
+    }
+}
+
 /// Carries out a command of a session, the program's name first. A session has none in it.
 fn carry_out_words(keeper: &mut Keeper<'_>, words: &[&str], reader: &mut Input<'_>) -> u8 {
     let rt = keeper.rt();
@@ -30,7 +44,9 @@ fn carry_out_words(keeper: &mut Keeper<'_>, words: &[&str], reader: &mut Input<'
         }
     };
     match matches.subcommand() {
-        Some((name, given)) if name != "session" => keeper.carry_out(words, name, given, reader),
+        Some((name, given)) if name != "session" => {
+            carry_out_named(keeper, words, name, given, reader)
+        }
         Some(_) | None => {
             keeper.close();
             print_error(rt, "error: a session has no session in it\n");

@@ -1,7 +1,6 @@
-// What no request leads to: a parcel that is lifted out of a package and put into another, whose
-// last number is taken, so that lower ones are looked for; and one page of a selection. Tiles and
-// media are linked crosswise. The digests are those of `tile 1 0 0`, LF and `A` and so on by
-// another program's SHA-256.
+// A selection that is carried over into a package whose last number is taken, so that lower ones are
+// looked for, and into an empty one. Tiles and media are linked crosswise. The digests are those of
+// `tile 1 0 0`, LF and `A` and so on by another program's SHA-256.
 use crate::crashes::nothing_wrong;
 use crate::fuses::{FusedShelf, Fusing};
 use crate::loans::{A, B, C, package};
@@ -10,16 +9,13 @@ use identity_register::selection::Selection;
 use package_creation::package::begin;
 use package_tables::fault::Fault;
 use sheet_types::command::{Mapping, Relation};
-use sqlite::{Alter, Connection, Transaction};
+use sqlite::{Alter, Connection};
 use std::alloc::Global;
 use std::test::Fail;
 use store_faults::shelf::ShelfFault;
 use store_shelf::shelf::Shelf;
-use test_values::{Change, Checked, Row, Tables, at_rest, committed};
-use transfer::lifting::lift;
-use transfer::pages::carry_page;
-use transfer::parcel::Parcel;
-use transfer::putting::put;
+use test_values::{Checked, Row, Tables, at_rest, committed};
+use transfer::pages::carry_over;
 use uuid::Uuid;
 
 const CROSSWISE: [Row; 10] = [
@@ -71,43 +67,8 @@ fn all_of_it(alloc: Global) -> Result<Selection, Fault> {
     })
 }
 
-#[derive(Drop)]
-struct Put<'a>(&'a Parcel);
-
-impl<'a, S: Alter> Change<S> for Put<'a> {
-    fn make(&self, tx: &mut Transaction<'_, S>) -> Result<(), Fault> {
-        match put(tx, self.0) {
-            Ok(()) => Ok(()),
-            Err(_) => Err(Fault::StoreFault),
-        }
-    }
-}
-
-fn lifted<S: Alter>(
-    alloc: Global,
-    conn: &mut Connection<S>,
-    selection: &Selection,
-) -> Result<Parcel, Fault> {
-    at_rest(conn)?;
-    match lift(conn, alloc, selection) {
-        Ok(parcel) => Ok(parcel),
-        Err(_) => Err(Fault::StoreFault),
-    }
-}
-
-// A parcel of it all is put into the target.
-fn put_over<S: Alter>(
-    alloc: Global,
-    source: &mut Connection<S>,
-    target: &mut Connection<S>,
-) -> Result<bool, Fault> {
-    let selection = all_of_it(alloc)?;
-    let parcel = lifted(alloc, source, &selection)?;
-    committed(target, &Put(&parcel))
-}
-
-// The first page of it all, which has six things, comes into the target.
-fn paged<S: Alter>(
+// It all is carried over into the target.
+fn carried<S: Alter>(
     alloc: Global,
     source: &mut Connection<S>,
     target: &mut Connection<S>,
@@ -118,10 +79,10 @@ fn paged<S: Alter>(
         return Ok(false);
     }
     let mut tx = begin(target);
-    match carry_page(source, &mut tx, &selection, 0) {
-        Ok(end) => {
+    match carry_over(source, &mut tx, &selection) {
+        Ok(()) => {
             tx.commit()?;
-            Ok(end == 6)
+            Ok(true)
         }
         Err(_) => Ok(false),
     }
@@ -144,8 +105,8 @@ fn check_stores<S: Alter + Drop>(
     checked.holds(committed(source, &Tables(CROSSWISE.as_slice())));
     checked.holds(committed(one, &Tables(LAST_NUMBER.as_slice())));
     checked.holds(committed(other, &Tables(&[])));
-    checked.holds(put_over(alloc, source, one));
-    checked.holds(paged(alloc, source, other));
+    checked.holds(carried(alloc, source, one));
+    checked.holds(carried(alloc, source, other));
     checked.told(told(alloc, one), PUT);
     checked.told(told(alloc, other), CARRIED);
 }
@@ -163,7 +124,7 @@ fn check<S: Alter + Drop, H: Shelf<S>>(
 }
 
 #[test]
-fn a_parcel_and_a_page(rt: HostRuntime) -> Result<(), Fail> {
+fn a_selection_carried_over(rt: HostRuntime) -> Result<(), Fail> {
     let alloc = rt.alloc();
     let mut shelf = FusedShelf::new(alloc, &Fusing::Nothing);
     let mut checked = Checked::new(alloc);

@@ -1,4 +1,4 @@
--- What a selection names, and what a package is with a parcel more or a selection less. Profile.
+-- What a selection names, and what a package is with a cut more or a selection less. Profile.
 use Rattle.std.specs.Prelude.{◌≡◌, ℕ, ◌+◌, ◌-◌, true, false, List, ◌++◌, map, length, bytes_eq}
 use Rattle.std.specs.Prelude.{min, slice_range}
 use Rattle.std.specs.List.{AllByRecursion, IsDistinct, filter_map}
@@ -8,7 +8,6 @@ use Rattle.sheet_types.specs.Cut.{Cut, identities, touches}
 use Rattle.sheet_types.specs.Register.{HasEnds}
 use Rattle.sheet_types.specs.declared.command.Relation.{Relation}
 use Rattle.identity_register.specs.declared.selection.Selection.{Selection}
-use Rattle.transfer.specs.declared.parcel.Parcel.{Parcel}
 
 -- ---- selections
 
@@ -40,11 +39,7 @@ without_names n p = record p {
   links = without link_key (map link_key n.links) p.links;
 }
 
--- ---- parcels
-
--- what a parcel holds
-abbrev pub cut_of : Parcel → Cut
-cut_of parcel = record { items = parcel.items.items; links = parcel.links.items }
+-- ---- cuts
 
 -- a package with items and links more
 abbrev pub with_cut : Cut → Package → Package
@@ -82,6 +77,3 @@ part from to n = record {
 -- where the page from a position on ends
 abbrev pub page_end : ℕ → Names → ℕ
 page_end from n = min (from + page_size) (things n)
-
-abbrev pub page : ℕ → Names → Names
-page from n = part from (page_end from n) n

@@ -2,9 +2,7 @@
 //! content and all. No local number.
 #![tactic(auto)]
 
-pub mod lifting;
 pub mod pages;
-pub mod parcel;
-pub mod putting;
+mod putting;
 mod refusals;
 pub mod taking;

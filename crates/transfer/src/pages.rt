@@ -1,5 +1,5 @@
 //! A selection that comes from one package into another, a page at a time: no more than one item is in memory at once.
-ghost use Rattle.std.specs.Prelude.{◌≡◌, ◌≤◌, [], ◌∷◌, IfOk, IfErr, IsTrue};
+ghost use Rattle.std.specs.Prelude.{◌≡◌, ◌≤◌, [], ◌∷◌, Some, IfOk, IfErr, IsTrue};
 ghost use Rattle.std.specs.List.{filter_map};
 ghost use Rattle.sqlite.specs.Held.{state};
 ghost use Rattle.sqlite.specs.State.{HasCleanDisk};
@@ -8,20 +8,34 @@ ghost use Rattle.store_sql.specs.Transactions.{Rests, Steps};
 ghost use Rattle.sheet_types.specs.World.{item_of};
 ghost use Rattle.sheet_types.specs.declared.refusal.Refusal.TheVariants.{TooMany};
 ghost use Rattle.transfer.specs.Refusals.{IsReason};
-ghost use Rattle.transfer.specs.Parcels.{names_of, selected, things, part, page, page_end, page_size};
+ghost use Rattle.transfer.specs.Parcels.{names_of, selected, things, part, page_end, page_size};
 ghost use Rattle.transfer.specs.Moves.{TriesItem, TriesItems, TriesEach, Takes, IsTooMuch, OfSource};
 
-use crate::lifting::item_in;
 use crate::putting::{put_item, put_links};
 use crate::refusals::refusal_of;
+use identity_register::look_ups::find;
 use identity_register::selection::Selection;
 use package_tables::fault::Fault;
+use sheet_types::command::Item;
 use sheet_types::refusal::Refusal;
 use sqlite::{Alter, Connection, Transaction};
 use uuid::Uuid;
 
 // How many items and links move at a time.
 const PAGE: usize = 256;
+
+/// The item of an identity that the package has.
+fn item_in<S: Alter>(conn: &mut Connection<S>, identity: Uuid) -> Result<Item, Fault>
+    requires { Rests (state S.Store conn.old) }
+    ensures stays { Stays (state S.Store conn.old) (state S.Store conn.new) }
+    ensures told { IfOk result (λ item. HasCleanDisk (state S.Store conn.new)
+        → OfSource (state S.Store conn.old) (λ p. item_of p identity ≡ Some item)) }
+{
+    match find(conn, identity)? {
+        Some(item) => Ok(item),
+        None => Err(Fault::StoreFault),
+    }
+}
 
 /// Takes in an item of the source. Tells whether there was room for it.
 fn carry_item<S: Alter>(
@@ -105,41 +119,6 @@ fn page_end(selection: &Selection, from: usize) -> usize
     from.saturating_add(PAGE).min(things(selection))
 }
 
-/// Takes in the items and then the links of the selection from a position on, 256 at most, and
-/// answers the position after them. Items stand before links; the source stays as it is.
-///
-/// # Errors
-///
-/// `TooMany` where there is no room for the items of a kind, want of memory, a store that failed,
-/// or an item that the source has not. Nothing is committed; the transaction has to be dropped.
-pub fn carry_page<S: Alter>(
-    source: &mut Connection<S>,
-    tx: &mut Transaction<'_, S>,
-    selection: &Selection,
-    from: usize,
-) -> Result<usize, Refusal>
-    requires rests { Rests (state S.Store source.old) }
-    requires within { from ≤ things (names_of selection.now) }
-    ensures same_reference { tx.new.conn.ghost_name ≡ tx.old.conn.ghost_name }
-    ensures source { Stays (state S.Store source.old) (state S.Store source.new) }
-    ensures end { IfOk result (λ end. end ≡ page_end from (names_of selection.now)) }
-    ensures steps { Steps (λ _ old new. HasCleanDisk (state S.Store source.new)
-        → OfSource (state S.Store source.old) (λ p. Takes (selected (page from (names_of selection.now)) p) old new))
-        (state S.Store tx.old.conn.now) (state S.Store tx.new.conn.now) result }
-    ensures too_many { result ≡ Err TooMany → HasCleanDisk (state S.Store source.new)
-        → HasCleanDisk (state S.Store tx.new.conn.now) → IsTrue (state S.Store tx.old.conn.now).in_transaction
-        → OfSource (state S.Store source.old) (λ p. IsTooMuch (selected (page from (names_of selection.now)) p)
-        (state S.Store tx.old.conn.now).now) }
-    ensures refused { IfErr result IsReason }
-{
-    let end = page_end(selection, from);
-    match carry_part(source, tx, selection, from, end) {
-        Ok(true) => Ok(end),
-        Ok(false) => Err(Refusal::TooMany),
-        Err(fault) => Err(refusal_of(fault)),
-    }
-}
-
 /// Takes in the whole selection, page after page. Tells whether there was room for all.
 fn carry_each<S: Alter>(
     source: &mut Connection<S>,
@@ -166,8 +145,8 @@ fn carry_each<S: Alter>(
     Ok(true)
 }
 
-/// Takes in the whole selection, page after page; the source stays as it is. This does what `put`
-/// of the lifted parcel does.
+/// Takes in the whole selection, page after page: first its items, each under its identity with its
+/// content, then its links by their ends. The source stays as it is.
 ///
 /// # Errors
 ///

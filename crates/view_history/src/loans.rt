@@ -1,5 +1,5 @@
 //! By which split each package was made.
-ghost use Rattle.std.specs.Prelude.{◌≡◌, map, pos, IfOk};
+ghost use Rattle.std.specs.Prelude.{◌≡◌, map, IfOk};
 ghost use Rattle.sqlite.specs.Held.{state};
 ghost use Rattle.store_sql.specs.Transactions.{Rests, Looks};
 ghost use Rattle.identity_register.specs.Calls.{Sees};
@@ -7,22 +7,13 @@ ghost use Rattle.view_history.specs.Stores.{AreAtRest, AsksStores};
 ghost use Rattle.view_history.specs.Told.{IsLoanIn};
 
 use crate::asking::ask_each;
+use custody::keeping::natural_of;
 use package_tables::fault::Fault;
 use package_tables::head::all_heads;
 use package_tables::rows::HeadRow;
 use sqlite::{Alter, Connection};
 use std::alloc::Global;
 use world::asking::Question;
-
-/// A number that a head says, which is not below zero.
-fn natural_of(number: i64) -> Result<u64, Fault>
-    ensures { IfOk result (λ counted. number ≡ pos counted) }
-{
-    if number < 0 {
-        return Err(Fault::StoreFault);
-    }
-    Ok(number as u64)
-}
 
 /// The number of the split that made the package of a head.
 fn loan_in(heads: &[HeadRow]) -> Result<u64, Fault>

@@ -1,5 +1,5 @@
 //! When the receipt of a number was made.
-ghost use Rattle.std.specs.Prelude.{◌≡◌, map, pos, IfOk};
+ghost use Rattle.std.specs.Prelude.{◌≡◌, map, IfOk};
 ghost use Rattle.sqlite.specs.Held.{state};
 ghost use Rattle.store_sql.specs.Transactions.{Rests, Looks};
 ghost use Rattle.identity_register.specs.Calls.{Sees};
@@ -7,6 +7,7 @@ ghost use Rattle.view_history.specs.Stores.{AreAtRest, AsksStores};
 ghost use Rattle.view_history.specs.Told.{before_of, either, first_found, ledger_of, moment_in, moment_of};
 
 use crate::asking::ask_each;
+use custody::column_number;
 use package_tables::fault::Fault;
 use package_tables::receipts::receipt_after;
 use package_tables::rows::ReceiptRow;
@@ -14,18 +15,6 @@ use sheet_types::collections::Text;
 use sqlite::{Alter, Connection};
 use std::alloc::Global;
 use world::asking::Question;
-
-const GREATEST_STORED: u64 = 9_223_372_036_854_775_807;
-
-/// A number as a column of integers has it; a greater one than such a column can have is a fault.
-fn column_number(number: u64) -> Result<i64, Fault>
-    ensures { IfOk result (λ stored. stored ≡ pos number) }
-{
-    if number > GREATEST_STORED {
-        return Err(Fault::StoreFault);
-    }
-    Ok(number as i64)
-}
 
 /// The number before another.
 fn before(number: u64) -> Result<i64, Fault>

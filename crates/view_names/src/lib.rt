@@ -2,7 +2,6 @@
 #![tactic(auto)]
 
 mod columns;
-mod fields;
 pub mod lists;
 mod named;
 mod records;

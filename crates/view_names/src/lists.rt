@@ -10,10 +10,10 @@ ghost use Rattle.view_names.specs.declared.records.Ending.TheVariants as ending;
 ghost use Rattle.view_names.specs.declared.lists.ListFault.TheVariants as fault;
 
 use crate::columns::COUNT;
-use crate::fields::has_text;
 use crate::named::name_of;
 use crate::records::{Ending, read_records};
 use csv::{ByteRecord, StringRecord};
+use request_csv::fields::has_text;
 use request_csv::sources::ListSource;
 use sheet_types::error::OutOfMemory;
 use std::alloc::Global;

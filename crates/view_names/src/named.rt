@@ -5,8 +5,8 @@ ghost use Rattle.view_names.specs.Named.{IsNamed};
 ghost use Rattle.view_report.specs.declared.registers.Name.{Name};
 
 use crate::columns::{NAME, UUID};
-use crate::fields::uuid_at;
 use csv::StringRecord;
+use request_csv::fields::uuid_at;
 use sheet_types::collections::Text;
 use sheet_types::error::OutOfMemory;
 use std::alloc::Global;

@@ -1,7 +1,6 @@
 //! The page of a world, written out.
 ghost use Rattle.std.specs.Prelude.{◌≡◌, IfOk, IsOkAnd, IsTrue, option_map, string_bytes};
 ghost use Rattle.sheet_types.specs.Matrix.{is_good_frame};
-ghost use Rattle.command_folder.specs.Printing.{Prints};
 ghost use Rattle.view_page.specs.Pages.{
   IsPaper,
   IsPaperOf,
@@ -18,10 +17,10 @@ ghost use Rattle.view_world.specs.Looks.{IsLookedAt};
 ghost use Rattle.world.specs.Worlds.{TellsOf};
 
 use crate::registers::register_in;
-use command_folder::endings::{DONE, Ending, FAILED, NO_MEMORY, OpenFault};
+use command_folder::endings::{DONE, Ending, NO_MEMORY, OpenFault};
 use command_folder::folders::{OpenFolder, open_folder};
+use command_folder::printing::print;
 use command_words::statuses::{Failure, Outcome};
-use manifest_csv::sending::send;
 use package_tables::fault::Fault;
 use sheet_types::error::OutOfMemory;
 use sqlite::{Alter, Connection};
@@ -100,16 +99,6 @@ pub fn page_in<S: Alter + Drop>(
 {
     let register = register_in(alloc, world, names);
     text_of(alloc, register, paper)
-}
-
-/// Writes a text, and ends as is due.
-fn print<W: Write>(writer: &mut W, text: &str, due: Ending) -> Ending
-    ensures { Prints text.now due (W.contents writer.old) (W.contents writer.new) result }
-{
-    match send(writer, text.as_bytes()) {
-        Ok(()) => due,
-        Err(_) => FAILED,
-    }
 }
 
 /// Writes what was asked, or tells that there is no such loan, or what gave out.

@@ -2,7 +2,6 @@
 ghost use Rattle.std.specs.Prelude.{◌≡◌, ◌≤◌, ◌++◌, IfOk, drop, filter, flat_map, length, map};
 ghost use Rattle.std.specs.Prelude.{string_bytes};
 ghost use Rattle.sheet_types.specs.Texts.{uuid_text};
-ghost use Rattle.command_verbs.specs.Names.{begins};
 ghost use Rattle.command_verbs.specs.Verbs.{text_of};
 ghost use Rattle.sheet_types.specs.declared.receipt.Receipt.{Receipt};
 ghost use Rattle.view_text.specs.Ledgers.{asked_of, begins_end, counts_columns, excerpt_of, headings, is_asked};
@@ -11,6 +10,7 @@ ghost use Rattle.view_text.specs.Ways.{first_word};
 
 use crate::columns::{put, put_end, put_left, put_number};
 use crate::ways::first_word;
+use command_verbs::names::has_beginning;
 use itoa::Buffer;
 use sheet_types::receipt::Receipt;
 use std::alloc::{AllocError, Global};
@@ -32,28 +32,6 @@ fn headings() -> &'static str
     ensures { result.now ≡ headings }
 {
     "   receipt  at                        what    from                                  to                                     things  bytes\n"
-}
-
-/// Whether a text begins with these bytes, whose capitals count as small letters.
-fn begins(word: &[u8], text: &[u8]) -> bool
-    ensures { result ≡ begins word.now text.now }
-{
-    let [digit, digits @ ..] = word else {
-        return true;
-    };
-    let [byte, bytes @ ..] = text else {
-        return false;
-    };
-    digit.to_ascii_lowercase() == *byte && begins(digits, bytes)
-}
-
-/// Whether the text of a UUID begins with a word.
-fn has_beginning(word: &str, id: Uuid) -> bool
-    ensures { result ≡ begins word.now (uuid_text id) }
-{
-    let mut buffer = Uuid::encode_buffer();
-    let text: &str = id.hyphenated().encode_lower(&mut buffer);
-    begins(word.as_bytes(), text.as_bytes())
 }
 
 /// Whether a word may name the package at an end of a receipt.

@@ -1,6 +1,7 @@
 //! Whether a world can be looked at, and the stores that it handed out.
-ghost use Rattle.std.specs.Prelude.{◌≡◌, ◌↔◌, length, IfOk, IsTrue};
+ghost use Rattle.std.specs.Prelude.{◌≡◌, ◌↔◌, length, false, true, IfErr, IfOk, IsTrue};
 ghost use Rattle.sheet_types.specs.World.{World as ModelWorld};
+ghost use Rattle.package_tables.specs.declared.fault.Fault.TheVariants.{StoreFault};
 ghost use Rattle.view_history.specs.Stores.{AreAtRest};
 ghost use Rattle.world.specs.Worlds.{StandsFor};
 
@@ -10,8 +11,11 @@ use std::alloc::Global;
 use store_sql::resting::is_at_rest;
 use world::world::World;
 
-/// Passes a world that has not failed.
-pub fn usable<S: Alter + Drop>(world: &World<S>) -> Result<(), Fault> {
+/// Passes a world that has not failed. Of one that has, a store gave out.
+pub fn usable<S: Alter + Drop>(world: &World<S>) -> Result<(), Fault>
+    ensures passed { IfOk result (λ _. world.now.has_failed ≡ false) }
+    ensures failed { IfErr result (λ fault. (fault ≡ StoreFault) × (world.now.has_failed ≡ true)) }
+{
     if world.has_failed() {
         Err(Fault::StoreFault)
     } else {

@@ -17,7 +17,7 @@ pub mod manifest;
 pub mod maps;
 pub mod printing;
 pub mod receipts;
-mod showing;
+pub mod showing;
 pub mod status;
 pub mod writing;
 pub mod zooms;

@@ -10,7 +10,7 @@ use package_tables::fault::Fault;
 use std::io::Write;
 
 /// How the program ends where memory or a store gave out.
-pub(crate) fn fault_ending(fault: Fault) -> Ending
+pub fn fault_ending(fault: Fault) -> Ending
     ensures { result ≡ stopped fault }
 {
     Ending::Usual(CommandEnding::Usual(Outcome::Stopped(Failure::from(fault))))

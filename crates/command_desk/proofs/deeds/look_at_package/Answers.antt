@@ -5,7 +5,6 @@ use Rattle.command_desk.proofs.deeds.look_at_package.Goals as goal
 pub returns-in-Ok : goal.returns-in-Ok
 returns-in-Ok g c = record {
   mid = c.package_in-named.new.writer;
-  between = g.W.Write.contents c.package_in-named.new.writer;
   named = Ok c.in-Ok.id;
   told = c.package_in-named.result.1;
   names = rw c.in-Ok.is at c.package_in-named.ensures;
@@ -15,7 +14,6 @@ returns-in-Ok g c = record {
 pub returns-in-Err : goal.returns-in-Err
 returns-in-Err g c = record {
   mid = c.package_in-named.new.writer;
-  between = g.W.Write.contents c.package_in-named.new.writer;
   named = Err c.in-Err.ending;
   told = c.package_in-named.result.1;
   names = rw c.in-Err.is at c.package_in-named.ensures;

@@ -6,4 +6,5 @@ pub returns-in-Ok : goal.returns-in-Ok
 returns-in-Ok c =
     let zoom = c.ranges.zoom in
     let least = simp to_z-of_z at c.in-Some.ensures.some in
-    (c.in-Some.rect, least, c.in-Ok.ensures)
+    let covered = simp to_z-of_z at c.in-Some.ensures.covered in
+    (c.in-Some.rect, (covered, least), c.in-Ok.ensures)

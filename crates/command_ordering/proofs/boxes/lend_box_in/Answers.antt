@@ -26,7 +26,8 @@ returns-in-Ok-Some g c =
     (option_map string_bytes (Some c.in-Ok-Some.area)) = rw c.in-Ok-Some.field-0-is at told in
     inl (record {
       rect = said.0;
-      least = said.1;
+      covered = said.1.0;
+      least = said.1.1;
       area = c.as_str.result;
       says = c.as_str.ensures.value ∙ said.2;
       ordered = c.lend_area-ending.ensures;

@@ -32,3 +32,10 @@ returns-clause-some c =
     let axes = simp to_z-of_z at c.axes_at.ensures.axes in
     let turned = simp to_z-of_z at c.mirror_row.ensures in
     simp to_z-of_z (turned ∙ ap (λ (a : Axes). a.down.tiles) axes)
+
+pub returns-clause-within : goal.returns-clause-within
+returns-clause-within c =
+    let zoom = c.ranges.zoom in
+    let row = c.ranges.row in
+    let has = simp to_z-of_z at c.has_place.ensures in
+    sym has ∙ c.if-not-has_place.false

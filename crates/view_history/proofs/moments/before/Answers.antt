@@ -10,4 +10,4 @@ returns-then-number-eq0 c = sym (ap before_of c.if-number-eq0.true)
 pub returns : goal.returns
 returns c =
     let fits : FitsSigned w64 c.in_ok-before.before = search rules in
-    simp (to_z-of_z, fits) (c.in_ok-before.ensures ∙ before_more c.args.number (omega (arith, c.if-number-eq0.false)))
+    simp (to_z-of_z, fits) (c.in_ok-before.ensures.stored ∙ before_more c.args.number (omega (arith, c.if-number-eq0.false)))

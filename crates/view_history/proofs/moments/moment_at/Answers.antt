@@ -29,7 +29,7 @@ returns-in-None g c =
     (λ (x : ReceiptRow). is_gt (int_cmp x.seq c.in_ok-before.before)) t.receipts))
     (c.in_ok-row.was ∙ ap Ok c.in-None.is) (simp (to_z-of_z, low) at c.receipt_after.ensures))
     (λ f p t says none. sym (moment_none f p t says c.args.number c.in_ok-before.before c.in_ok-seq.seq
-    c.in_ok-before.ensures c.in_ok-seq.ensures none))
+    c.in_ok-before.ensures c.in_ok-seq.ensures.stored none))
 
 pub returns-in-Some : goal.returns-in-Some
 returns-in-Some g c =
@@ -40,4 +40,4 @@ returns-in-Some g c =
     (c.in_ok-row.was ∙ ap Ok c.in-Some.is) (simp (to_z-of_z, low) at c.receipt_after.ensures))
     (λ f p t says least. (simp (to_z-of_z, fits) at c.moment_in.ensures)
     ∙ moment_found f p t says c.args.number c.in_ok-before.before c.in_ok-seq.seq c.in_ok-before.ensures
-    c.in_ok-seq.ensures c.in-Some.row least)
+    c.in_ok-seq.ensures.stored c.in-Some.row least)
