@@ -1,31 +1,41 @@
 #!/usr/bin/env python3
 """Runs a command, as a check or the gate, and tells which functions its checks spent their time on.
 
-Usage: tools/check_times.py [--rows N] COMMAND..        e.g. tools/check_times.py rt ci test_pure
+Usage: tools/check_times.py [--rows N] [--keep FILE] COMMAND..      e.g. tools/check_times.py rt ci test_pure
 
-It needs strace, and leave to trace what else the user runs. A check writes down each module as soon as it is checked, with its name: the
-time from one to the next is taken as what the second cost. So the first module of a crate has the loading of the libraries below it, and a
-function that waits for a processor looks dearer. When the command has ended, standard error has for each check its crate, its kind and
-minutes by the clock, and the N dearest functions in seconds (20 where none is given). The exit status is the command's. All checks of the
-machine are traced that begin meanwhile, and are slower for it: over the engine, whose modules are many, by a tenth to a third.
+A check puts each module into a folder of temporary files as soon as it is checked (TMPDIR/rattle-logic-built-locked-PID-N). Once a second its
+processor time, and which modules are new, are read; the time between is shared out by the moments at which the modules were written. So a module
+costs what came before it: the first of a crate has the loading of the libraries below. Nothing is traced, so no check is slower for it. All checks
+of the machine are seen that write there meanwhile.
+
+When the command has ended, standard error has for each check its crate, its kind and minutes of the processor, and the N dearest functions in
+seconds (20 where none is given); after all, the N dearest of all checks. --keep FILE writes the same there as CSV each minute, so a run that is
+stopped tells what it saw. The exit status is the command's.
 """
 
+import argparse
 import collections
+import csv
 import os
-import re
 import subprocess
 import sys
 import tempfile
 import threading
+import time
 
-WRITE = re.compile(r"\d+\s+(\d+\.\d+) write\(\d+, \"(.*)")
-MODULE = re.compile(r"--@ module Rattle-(\S+?)\\n")
+TICKS = os.sysconf("SC_CLK_TCK")
+FOLDER = "rattle-logic-built-locked-"
+ENDING = ".oantt"
+
+
+def text_of(path):
+    with open(path, encoding="utf-8", errors="replace") as it:
+        return it.read()
 
 
 def work_of(pid):
     """What a process checks, as crate and kind, or None where it is no check."""
-    with open(f"/proc/{pid}/cmdline", encoding="utf-8", errors="replace") as it:
-        words = it.read().split("\0")
+    words = text_of(f"/proc/{pid}/cmdline").split("\0")
     if os.path.basename(words[0]) != "rattle" or "--crate-name" not in words:
         return None
     folder = os.readlink(f"/proc/{pid}/cwd")
@@ -33,79 +43,112 @@ def work_of(pid):
     return f"{words[words.index('--crate-name') + 1]} {kind}"
 
 
-def trace(pid, path):
-    return subprocess.Popen(
-        ["strace", "-f", "-ttt", "-e", "trace=write", "-s", "420", "-o", path, "-p", pid],
-        stdout=subprocess.DEVNULL,
-        stderr=subprocess.DEVNULL,
-    )
-
-
-def checks_now():
-    found = {}
-    for pid in filter(str.isdigit, os.listdir("/proc")):
-        try:
-            found[pid] = work_of(pid)
-        except (OSError, IndexError):
-            # it ended meanwhile
-            pass
-    return {pid: work for pid, work in found.items() if work}
-
-
-def watch(folder, ended, traced):
-    """Traces each check that begins, until it is told to end."""
-    seen = set(checks_now())
-    while not ended.wait(0.3):
-        for pid, work in checks_now().items():
-            if pid not in seen:
-                seen.add(pid)
-                traced.append((work, os.path.join(folder, pid), trace(pid, os.path.join(folder, pid))))
+def seconds_of(pid):
+    """Seconds of the processor that a process has taken."""
+    fields = text_of(f"/proc/{pid}/stat").rsplit(")", 1)[1].split()
+    return (int(fields[11]) + int(fields[12])) / TICKS
 
 
 def function_of(module):
-    """The function or type that a module belongs to: its last name is that of a part of a proof."""
-    front, _, last = module.rpartition(".")
-    return front if last[:1].isupper() else module
+    """The function or type that a module is of: its last names that begin with a capital are those of parts of a proof."""
+    parts = module.removesuffix(ENDING).split("-", 2)[-1].split(".")
+    while len(parts) > 2 and parts[-1][:1].isupper():
+        parts.pop()
+    return ".".join(parts)
 
 
-def costs(path):
-    """Seconds in all, and by function."""
-    first = last = None
-    by_function = collections.Counter()
-    with open(path, encoding="utf-8", errors="replace") as lines:
-        for found in filter(None, map(WRITE.match, lines)):
-            now, module = float(found[1]), MODULE.search(found[2])
-            if module and last is not None:
-                by_function[function_of(module[1])] += now - last
-            first, last = first or now, now
-    return (last - first if last else 0), by_function
+class Check:
+    """One check: which of its modules were seen, and what each function cost."""
+
+    def __init__(self, work):
+        self.work, self.seen, self.seconds, self.moment = work, set(), 0.0, None
+        self.costs = collections.Counter()
+
+    def note(self, seconds, modules):
+        """Shares the time since the last look out to the modules that are new, by the moments at which they were written."""
+        spent, self.seconds = seconds - self.seconds, seconds
+        start = self.moment or modules[0][0]
+        whole = modules[-1][0] - start
+        for moment, module in modules:
+            share = (moment - start) / whole if whole > 0 else 1 / len(modules)
+            self.costs[function_of(module)] += spent * share
+            start = max(start, moment) if whole > 0 else start
+            self.seen.add(module)
+        self.moment = modules[-1][0]
 
 
-def tell(traced, rows):
-    for work, path, tracer in traced:
-        tracer.wait()
-        if not os.path.exists(path):
-            continue
-        seconds, by_function = costs(path)
-        print(f"{work}: {seconds / 60:.1f} minutes", file=sys.stderr)
-        for function, cost in by_function.most_common(rows):
+def look(folder, checks):
+    """Looks once at the folder of a check."""
+    pid = os.path.basename(folder).removeprefix(FOLDER).split("-")[0]
+    if folder not in checks:
+        work = work_of(pid)
+        if work is None:
+            return
+        checks[folder] = Check(work)
+    check = checks[folder]
+    seconds = seconds_of(pid)
+    with os.scandir(folder) as files:
+        modules = sorted((it.stat().st_mtime_ns, it.name) for it in files if it.name.endswith(ENDING) and it.name not in check.seen)
+    if modules:
+        check.note(seconds, modules)
+
+
+def watch(ended, checks, keep):
+    """Looks at all checks once a second, until it is told to end."""
+    kept = time.monotonic()
+    while not ended.wait(1):
+        for name in os.listdir(tempfile.gettempdir()):
+            if name.startswith(FOLDER):
+                try:
+                    look(os.path.join(tempfile.gettempdir(), name), checks)
+                except (OSError, IndexError, ValueError):
+                    # it ended meanwhile
+                    pass
+        if keep and time.monotonic() - kept > 60:
+            kept = time.monotonic()
+            write(keep, checks)
+
+
+def rows_of(checks):
+    """Crate and kind, function and seconds, the dearest first."""
+    found = [(check.work, function, cost) for check in checks.values() for function, cost in check.costs.items()]
+    return sorted(found, key=lambda row: -row[2])
+
+
+def write(path, checks):
+    with open(path, "w", encoding="utf-8", newline="") as it:
+        table = csv.writer(it)
+        table.writerow(["check", "function", "seconds"])
+        table.writerows((work, function, f"{cost:.1f}") for work, function, cost in rows_of(checks) if cost >= 0.5)
+
+
+def tell(checks, rows):
+    for check in sorted(checks.values(), key=lambda it: it.work):
+        print(f"{check.work}: {check.seconds / 60:.1f} minutes", file=sys.stderr)
+        for function, cost in check.costs.most_common(rows):
             print(f"  {cost:7.1f} {function}", file=sys.stderr)
+    print("all", file=sys.stderr)
+    for work, function, cost in rows_of(checks)[:rows]:
+        print(f"  {cost:7.1f} {work} {function}", file=sys.stderr)
 
 
 def main():
-    words, rows = sys.argv[1:], 20
-    if words[:1] == ["--rows"] and len(words) > 1:
-        rows, words = int(words[1]), words[2:]
-    if not words:
-        sys.exit(__doc__)
-    traced, ended = [], threading.Event()
-    with tempfile.TemporaryDirectory() as folder:
-        watcher = threading.Thread(target=watch, args=[folder, ended, traced], daemon=True)
-        watcher.start()
-        status = subprocess.run(words, check=False).returncode
-        ended.set()
-        watcher.join()
-        tell(traced, rows)
+    parser = argparse.ArgumentParser(description=__doc__, formatter_class=argparse.RawDescriptionHelpFormatter)
+    parser.add_argument("--rows", type=int, default=20)
+    parser.add_argument("--keep")
+    parser.add_argument("command", nargs=argparse.REMAINDER)
+    given = parser.parse_args()
+    if not given.command:
+        parser.error("no command")
+    checks, ended = {}, threading.Event()
+    watcher = threading.Thread(target=watch, args=[ended, checks, given.keep], daemon=True)
+    watcher.start()
+    status = subprocess.run(given.command, check=False).returncode
+    ended.set()
+    watcher.join()
+    if given.keep:
+        write(given.keep, checks)
+    tell(checks, given.rows)
     return status
 
 

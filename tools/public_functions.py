@@ -3,6 +3,7 @@
 
     tools/public_functions.py            a Markdown table for each crate, at most three edits and one test a function
     tools/public_functions.py --missing  the functions that lack a clause, an edit or a test; status 1 where there is one
+    tools/public_functions.py --uncalled the functions that no code names but tests; those of store_sql/src/example.rt are examples
 
 An edit counts for the public function in whose body it stands, and for each public function of the same file that calls the function in which it
 stands, directly or through others of the file. A test counts where it, or a helper, names the function before a bracket; a helper is a function, an
@@ -10,6 +11,7 @@ impl or a constant of the test's file, of a module of its crate that the file us
 the command line calls, directly or through others of the crates down to the stores of packages.
 A law needs neither: a function with an empty body, or one with no result, no `&mut` and no handle, whose call can only give the fact of its clause.
 """
+import collections
 import os
 import re
 import sys
@@ -18,7 +20,7 @@ ROOT = os.path.dirname(os.path.dirname(os.path.abspath(__file__)))
 TEST_VALUES = ["test_values", "test_worlds"]
 # The crates that a line of a session goes through (crates/sheetdesk), from the words of the program on.
 OF_SESSIONS = [
-    "sheetdesk", "program_verbs", "program_looks", "program_serving", "program_orders", "program_words", "program_output", "command_words", "command_verbs", "command_requests", "command_replies", "commands", "command_folder", "manifest_csv", "views", "view_world", "view_text", "view_map", "cli",
+    "sheetdesk", "program_working", "program_keeping", "program_verbs", "program_looks", "program_serving", "program_orders", "command_ordering", "program_words", "program_output", "command_words", "command_verbs", "command_requests", "command_replies", "commands", "command_folder", "manifest_csv", "views", "view_world", "view_text", "view_map", "cli",
     "view_page", "view_report", "view_loan", "view_fault", "view_names", "world", "world_decisions", "world_loans", "world_changes", "world_queries", "register_lending",
 ]
 CONST = re.compile(r"^(?:pub(?:\(crate\))? )?const (?P<name>\w+): .*?;$", re.M | re.S)
@@ -176,7 +178,32 @@ def rows():
                 yield crate, file, it, clauses(text, it), list(dict.fromkeys(caught)), own or called, is_law(text, it)
 
 
+def code_names():
+    """How often each file of code that is no test names each word, without comments and imports of specifications."""
+    found = {}
+    for crate in sorted(os.listdir(os.path.join(ROOT, "crates"))):
+        folder = os.path.join(ROOT, "crates", crate)
+        for file in [] if crate.startswith("test_") else sources(folder):
+            text = re.sub(r"//[^\n]*|^ghost use [^;]*;", "", read(os.path.join(folder, "src", file)), flags=re.M)
+            found[crate, file] = collections.Counter(re.findall(r"\w+", text))
+    return found
+
+
+def tell_uncalled():
+    """Prints each public function, but for laws, that no code names but where it stands."""
+    names = code_names()
+    for crate, file in names:
+        folder = os.path.join(ROOT, "crates", crate)
+        text = read(os.path.join(folder, "src", file))
+        listed = functions(text) if os.path.isfile(os.path.join(folder, "src", "lib.rt")) else []
+        for it in listed:
+            if it["public"] and not is_law(text, it) and sum(words[it["name"]] for words in names.values()) < 2:
+                print(f"{crate} {file}: {it['name']}")
+
+
 def main():
+    if "--uncalled" in sys.argv:
+        return tell_uncalled()
     only_missing = "--missing" in sys.argv
     lacking, tables, laws = 0, {}, {}
     for crate, file, it, said, caught, called, is_law in rows():
