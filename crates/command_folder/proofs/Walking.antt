@@ -8,18 +8,7 @@ use Rattle.std.proofs.Math.Seq.{drop-cons, set-append_seam}
 use Rattle.std.proofs.lemmas.List.{take_all, take_more}
 use Rattle.sqlite_catalog.proofs.ListFacts.{zip_push}
 use Rattle.sheet_types.proofs.Basics.{some_once}
-
-at_seam : {X : Type 0} (xs : List X) (y : X) (ys : List X) → slice_get (xs ++ y ∷ ys) (length xs) ≡ Some y
-at_seam [] y ys = refl
-at_seam (x ∷ xs) y ys = at_seam xs y ys
-
-joined : {X : Type 0} (xs : List X) (x : X) (ys : List X) → (xs ++ x ∷ []) ++ ys ≡ xs ++ x ∷ ys
-joined [] x ys = refl
-joined (z ∷ xs) x ys = ap (λ zs. z ∷ zs) (joined xs x ys)
-
-long_snoc : {X : Type 0} (xs : List X) (y : X) → length (xs ++ y ∷ []) ≡ suc (length xs)
-long_snoc [] y = refl
-long_snoc (z ∷ xs) y = ap suc (long_snoc xs y)
+use Rattle.package_tables.proofs.Seams.{at_seam, joined, long_snoc}
 
 module _ {H X : Type 0} (P : H → X → Type 0) where
   -- the first n were looked at, and this was seen of them

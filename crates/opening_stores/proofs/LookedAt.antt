@@ -13,6 +13,7 @@ use Rattle.sqlite.specs.Held.{Held, state}
 use Rattle.sqlite.specs.State.{HasCleanDisk}
 use Rattle.sqlite_trees.proofs.ListLemmas.{all-slice_get}
 use Rattle.sheet_types.proofs.Basics.{some_once}
+use Rattle.package_tables.proofs.Seams.{all_back, at_seam, joined, long_snoc, past_none, take_drop}
 use Rattle.sheet_types.proofs.Every.{All-snoc}
 use Rattle.store_sql.specs.Transactions.{Rests, Looks}
 use Rattle.store_sql.specs.Writing.{AreKeyed}
@@ -35,35 +36,6 @@ zip_append R [] us [] vs one two = two
 zip_append R [] us (y ∷ ys) vs one two = absurd one
 zip_append R (x ∷ xs) us [] vs one two = absurd one
 zip_append R (x ∷ xs) us (y ∷ ys) vs one two = (one.0, zip_append R xs us ys vs one.1 two)
-
-take_drop : {X : Type 0} (xs : List X) (n : ℕ) → take n xs ++ drop n xs ≡ xs
-take_drop xs zero = refl
-take_drop [] (suc n) = refl
-take_drop (x ∷ xs) (suc n) = ap (λ ys. x ∷ ys) (take_drop xs n)
-
-past_none : {X : Type 0} (xs : List X) (n : ℕ) → length xs ≤ n → drop n xs ≡ []
-past_none [] zero le = refl
-past_none [] (suc n) le = refl
-past_none (x ∷ xs) zero le = absurd (omega (arith, le))
-past_none (x ∷ xs) (suc n) le = past_none xs n (omega (arith, le))
-
-at_seam : {X : Type 0} (xs : List X) (y : X) (ys : List X) → slice_get (xs ++ y ∷ ys) (length xs) ≡ Some y
-at_seam [] y ys = refl
-at_seam (x ∷ xs) y ys = at_seam xs y ys
-
-pub joined : {X : Type 0} (xs : List X) (x : X) (ys : List X) → (xs ++ x ∷ []) ++ ys ≡ xs ++ x ∷ ys
-joined [] x ys = refl
-joined (z ∷ xs) x ys = ap (λ zs. z ∷ zs) (joined xs x ys)
-
-pub long_snoc : {X : Type 0} (xs : List X) (y : X) → length (xs ++ y ∷ []) ≡ suc (length xs)
-long_snoc [] y = refl
-long_snoc (z ∷ xs) y = ap suc (long_snoc xs y)
-
-all_back : {X : Type 0} (P : X → Type 0) (xs ys : List X) → AllByRecursion P (xs ++ ys) → AllByRecursion P xs
-    × AllByRecursion P ys
-all_back P [] ys each = (tt, each)
-all_back P (x ∷ xs) ys each = let more : AllByRecursion P xs × AllByRecursion P ys =
-    all_back P xs ys each.1 in ((each.0, more.0), more.1)
 
 zip_itself : {X : Type 0} (P : X → Type 0) (R : X → X → Type 0) → ((x : X) → P x → R x x) → (xs : List X)
     → AllByRecursion P xs → AllZip R xs xs

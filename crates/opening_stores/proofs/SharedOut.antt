@@ -11,7 +11,7 @@ use Rattle.opening_verdict.specs.declared.verdict.Kept.{Kept}
 use Rattle.opening_stores.specs.Sharing.{member_key, members_of, strays_of, with_member, with_stray, HasRoomOf}
 use Rattle.opening_stores.specs.Sharing.{AreShared}
 use Rattle.opening_stores.specs.declared.sharing.Shares.{Shares}
-use Rattle.opening_stores.proofs.LookedAt.{joined, long_snoc}
+use Rattle.package_tables.proofs.Seams.{joined, long_snoc}
 
 module _ {S : Type 0} where
   -- one store more, with what is kept of it

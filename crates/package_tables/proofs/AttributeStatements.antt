@@ -113,72 +113,6 @@ attribute_by_id id = record {
   passing = λ v x. (same_number x.id id);
 }
 
-attributes_within_text : (spelling : Spelling) → IsSelect (codes
-    "SELECT * FROM sheet_rows WHERE x >= ?1 AND x < ?2 AND y > ?3 AND y <= ?4") (spelled sheet_rows spelling)
-    (both (both (both (compares Ge 1 0) (compares Lt 1 1)) (compares Gt 2 2)) (compares Le 2 3)) []
-unfolding everything
-attributes_within_text spelling = record {
-  parse = _;
-  asks = _;
-  src = _;
-  item = _;
-  parsed = refl;
-  statement = refl;
-  formats = refl;
-  one = one_table refl refl refl refl refl refl refl refl refl refl refl refl refl refl refl;
-  condition = (
-    _,
-    refl,
-    (
-      _,
-      _,
-      refl,
-      (
-        _,
-        _,
-        refl,
-        (
-          _,
-          _,
-          refl,
-          (_, _, _, _, refl, refl, refl, refl, refl, refl, refl),
-          (_, _, _, _, refl, refl, refl, refl, refl, refl, refl),
-        ),
-        (_, _, _, _, refl, refl, refl, refl, refl, refl, refl),
-      ),
-      (_, _, _, _, refl, refl, refl, refl, refl, refl, refl),
-    ),
-  );
-  enough = refl;
-  few = λ at. refl;
-  some = λ at. refl;
-  sorted = λ schema at. (_, refl, refl);
-}
-
-attributes_within_plan : (spelling : Spelling) → IsPlannedSelect (spelled sheet_rows spelling)
-    (both (both (both (compares Ge 1 0) (compares Lt 1 1)) (compares Gt 2 2)) (compares Le 2 3)) []
-unfolding resolving
-attributes_within_plan spelling schema at h = rw (h.stored, h.by_tree) refl
-
-pub attributes_within : (west : ℤ) (east : ℤ) (south : ℤ) (north : ℤ)
-    → IsLookUp attribute_shape attribute_shown
-    (codes "SELECT * FROM sheet_rows WHERE x >= ?1 AND x < ?2 AND y > ?3 AND y <= ?4")
-    (Int west ∷ Int east ∷ Int south ∷ Int north ∷ []) (λ x. int_le west x.x && int_lt x.x east && int_lt
-    south x.y && int_le x.y north)
-attributes_within west east south north = record {
-  test = _;
-  by = _;
-  selects = attributes_within_text;
-  planned = attributes_within_plan;
-  given = refl;
-  listing = _;
-  is = λ spelling. refl;
-  shows = λ v x. refl;
-  passing =
-      λ v x. (both_same (both_same (both_same (at_least x.x west) (below x.x east)) (above x.y south))
-      (at_most x.y north));
-}
-
 all_text : (spelling : Spelling) → IsSelect (codes "SELECT * FROM sheet_rows ORDER BY id")
     (spelled sheet_rows spelling) always ((col 1 0, ascending) ∷ [])
 unfolding everything
@@ -259,44 +193,6 @@ ids = record {
   is = λ spelling. refl;
   shows = λ v x. refl;
   passing = λ v x. refl;
-}
-
-has_attribute_text : (spelling : Spelling) → IsNamed (codes "SELECT id FROM sheet_rows WHERE id = ?1")
-    (spelled sheet_rows spelling) (0 ∷ []) (equals 0 0) [] all_rows
-unfolding everything
-has_attribute_text spelling = record {
-  parse = _;
-  asks = _;
-  src = _;
-  items = _;
-  parsed = refl;
-  statement = refl;
-  formats = refl;
-  one = over_table refl refl refl refl refl refl refl refl refl refl refl refl;
-  paged = λ schema. refl;
-  columns = ((_, _, refl, (_, _, refl, refl, refl)), tt);
-  condition = (_, refl, (_, _, _, _, refl, refl, refl, refl, refl, refl, refl));
-  orders = tt;
-  enough = refl;
-}
-
-has_attribute_plan : (spelling : Spelling) → IsPlannedNamed (spelled sheet_rows spelling) (0 ∷ []) (equals 0 0) []
-    all_rows
-unfolding resolving
-has_attribute_plan spelling schema at h = rw (h.stored, h.by_tree) refl
-
-pub has_attribute : (id : ℤ) → IsNumbering attribute_shape (λ x. x.id)
-    (codes "SELECT id FROM sheet_rows WHERE id = ?1") (Int id ∷ []) (λ x. int_eq x.id id)
-has_attribute id = record {
-  test = _;
-  project = _;
-  by = _;
-  asked = λ spelling. asked_named (has_attribute_text spelling) (has_attribute_plan spelling);
-  given = refl;
-  listing = _;
-  is = λ spelling. refl;
-  shows = λ v x. refl;
-  passing = λ v x. (same_number x.id id);
 }
 
 attribute_ids_within_text : (spelling : Spelling) → IsNamed (codes

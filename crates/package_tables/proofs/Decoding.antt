@@ -1,7 +1,7 @@
 -- A row that no value stands for is in no list of values.
 use Rattle.std.proofs.Common.{◌≡◌, ◌∙◌, ℕ, ℤ, zero, suc, List, [], ◌∷◌, map, Result, Ok, Err}
 use Rattle.std.proofs.Common.{Some, sym, ap, subst}
-use Rattle.std.specs.Prelude.{◌≢◌, slice_get, IsUtf8, IfOk, IfErr, IsErrAnd}
+use Rattle.std.specs.Prelude.{◌≢◌, slice_get, IsUtf8, IfErr, IsErrAnd}
 use Rattle.std.specs.List.{AllByRecursion}
 use Rattle.sqlite.specs.Order.{Row, column}
 use Rattle.sqlite.specs.declared.types.Value.TheVariants.{Int, Text, Blob}
@@ -23,23 +23,15 @@ missed shown (r ∷ rows) (suc at) row there none texts (v ∷ vs) same =
     let rest : rows ≡ map shown vs = cc in
     missed shown rows at row there none texts.1 vs rest
 
--- the call failed for a row of the answer
-pub none_shown : {T V E Y : Type 0} (shown : T → Row) (items : Y → List Row) (answer : Result Y E) (rows : Y)
-    → answer ≡ Ok rows → (result : Result V Fault) (fault : Fault) → IsErrAnd result (λ f. f ≡ fault)
-    → (at : ℕ) (row : Row) → slice_get (items rows) at ≡ Some row
+-- the call failed for one of the rows
+pub none_shown : {T V : Type 0} (shown : T → Row) (rows : List Row) (result : Result V Fault) (fault : Fault)
+    → IsErrAnd result (λ f. f ≡ fault) → (at : ℕ) (row : Row) → slice_get rows at ≡ Some row
     → (fault ≡ StoreFault → AreTexts row → (value : T) → row ≢ shown value)
-    → IfOk answer (λ ys. IfErr result (λ f. f ≡ StoreFault → AllByRecursion AreTexts (items ys)
-    → (values : List T) → items ys ≢ map shown values))
-none_shown {T} {V} {E} {Y} shown items answer rows is result fault told at row there none =
-    subst (λ a. IfOk a (λ ys. IfErr result (λ f. f ≡ StoreFault → AllByRecursion AreTexts (items ys)
-    → (values : List T) → items ys ≢ map shown values))) (sym is) (by result told)
-  where
-    by : (result : Result V Fault) → IsErrAnd result (λ f. f ≡ fault)
-        → IfErr result (λ f. f ≡ StoreFault → AllByRecursion AreTexts (items rows) → (values : List T)
-        → items rows ≢ map shown values)
-    by (Ok x) told = absurd told
-    by (Err f) told = λ store texts values same. missed shown (items rows) at row there (none (let e = store in cc))
-        texts values same
+    → IfErr result (λ f. f ≡ StoreFault → AllByRecursion AreTexts rows → (values : List T)
+    → rows ≢ map shown values)
+none_shown shown rows (Ok x) fault told at row there none = absurd told
+none_shown shown rows (Err f) fault told at row there none = λ store texts values same.
+    missed shown rows at row there (none (let e = store in cc)) texts values same
 
 -- a column could not be read, so the row shows no value
 module _ {T V : Type 0} (shown : T → Row) (at : ℕ) (row : Row) (result : Result V Fault) (fault : Fault)

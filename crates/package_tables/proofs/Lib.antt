@@ -31,3 +31,4 @@ pub mod Decoding
 pub mod Ranked
 pub mod FixedKept
 pub mod Placed
+pub mod Seams

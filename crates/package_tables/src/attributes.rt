@@ -1,17 +1,16 @@
 //! The statements on `sheet_rows`.
 ghost use Rattle.std.specs.Prelude.{◌≡◌, ◌&&◌, int_le, int_lt, map};
-ghost use Rattle.std.specs.List.{list_any};
 ghost use Rattle.std.specs.Ordering.{int_eq, int_cmp, on};
 ghost use Rattle.sqlite.specs.State.{Survives};
 ghost use Rattle.sqlite.specs.Held.{state};
 ghost use Rattle.store_sql.specs.Transactions.{Rests};
-ghost use Rattle.package_tables.specs.Calls.{Makes, LooksUp, IsOneOf, AreThose, AreNumbersOf, AreAll};
+ghost use Rattle.package_tables.specs.Calls.{Makes, LooksUp, IsOneOf, AreNumbersOf, AreAll};
 ghost use Rattle.package_tables.specs.Listed.{attributes};
 ghost use Rattle.package_tables.specs.Changes.{Adds, DropsAttribute};
 
 use crate::fault::{Fault, drop_count};
 use crate::from_row::{FromRow, all_of, first_of, number_at, text_at};
-use crate::numbers::{has_any, numbers_of};
+use crate::numbers::numbers_of;
 use crate::rows::AttributeRow;
 use sqlite::{Alter, Connection, Row, Transaction, params};
 use std::alloc::Global;
@@ -76,28 +75,6 @@ pub fn attribute_by_id<S: Alter>(
     first_of(conn.query_all("SELECT * FROM sheet_rows WHERE id = ?1", params![id]))
 }
 
-/// The attributes rows of the points from west on and before east, north of south and not beyond north.
-pub fn attributes_within<S: Alter>(
-    conn: &mut Connection<S>,
-    alloc: Global,
-    west: i64,
-    east: i64,
-    south: i64,
-    north: i64,
-) -> Result<Vec<AttributeRow>, Fault>
-    requires { Rests (state S.Store conn.old) }
-    ensures { LooksUp (λ t found. AreThose (λ x. int_le west x.x && int_lt x.x east && int_lt south x.y && int_le
-        x.y north) t.rows found.items) (state S.Store conn.old) (state S.Store conn.new) result }
-{
-    all_of(
-        alloc,
-        conn.query_all(
-            "SELECT * FROM sheet_rows WHERE x >= ?1 AND x < ?2 AND y > ?3 AND y <= ?4",
-            params![west, east, south, north],
-        ),
-    )
-}
-
 /// All attributes rows, by their numbers.
 pub fn all_attributes<S: Alter>(
     conn: &mut Connection<S>,
@@ -122,16 +99,7 @@ pub fn attribute_ids<S: Alter>(conn: &mut Connection<S>, alloc: Global) -> Resul
     numbers_of(alloc, conn.query_all("SELECT id FROM sheet_rows", &[]))
 }
 
-/// Whether there is an attributes row of this number.
-pub fn has_attribute<S: Alter>(conn: &mut Connection<S>, id: i64) -> Result<bool, Fault>
-    requires { Rests (state S.Store conn.old) }
-    ensures { LooksUp (λ t found. found ≡ list_any (λ r. int_eq r.id id) t.rows) (state S.Store conn.old)
-        (state S.Store conn.new) result }
-{
-    has_any(conn.query_all("SELECT id FROM sheet_rows WHERE id = ?1", params![id]))
-}
-
-/// The numbers of the attributes rows that `attributes_within` answers.
+/// The numbers of the attributes rows of the points from west on and before east, north of south and not beyond north.
 pub fn attribute_ids_within<S: Alter>(
     conn: &mut Connection<S>,
     alloc: Global,

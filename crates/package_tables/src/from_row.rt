@@ -54,6 +54,19 @@ pub(crate) fn bytes_at(row: &Row, at: usize) -> Result<Bytes, Fault>
     Ok(Bytes::from_vec(row.get(at)?))
 }
 
+/// Rows as values. Each row goes as soon as its value is made, so memory holds one of the two.
+fn values_of<T: FromRow>(alloc: Global, rows: Vec<Row>) -> Result<Vec<T>, Fault>
+    ensures values { IfOk result (λ values. rows.items ≡ map T.shown values.items) }
+    ensures none { IfErr result (λ fault. fault ≡ StoreFault
+        → AllByRecursion AreTexts rows.items → (values : List T) → rows.items ≢ map T.shown values) }
+{
+    let mut values = Vec::new(alloc);
+    for row in rows {
+        values.push(T::from_row(&row)?)?;
+    }
+    Ok(values)
+}
+
 /// All rows of an answer as values.
 pub fn all_of<T: FromRow>(alloc: Global, answer: Result<Vec<Row>, Error>) -> Result<Vec<T>, Fault>
     ensures values { IfOk result (λ values. IsOkAnd answer (λ rows. rows.items ≡ map T.shown values.items)) }
@@ -62,11 +75,7 @@ pub fn all_of<T: FromRow>(alloc: Global, answer: Result<Vec<Row>, Error>) -> Res
         → AllByRecursion AreTexts rows.items → (values : List T) → rows.items ≢ map T.shown values)) }
 {
     let rows = answer?;
-    let mut values = Vec::new(alloc);
-    for row in &rows {
-        values.push(T::from_row(row)?)?;
-    }
-    Ok(values)
+    values_of(alloc, rows)
 }
 
 /// The first row of an answer as a value, where there is one.

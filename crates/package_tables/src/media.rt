@@ -1,6 +1,5 @@
 //! The statements on `sheet_media`.
 ghost use Rattle.std.specs.Prelude.{◌≡◌, map};
-ghost use Rattle.std.specs.List.{list_any};
 ghost use Rattle.std.specs.Ordering.{int_eq, int_cmp, on};
 ghost use Rattle.sqlite.specs.State.{Survives};
 ghost use Rattle.sqlite.specs.Held.{state};
@@ -11,7 +10,7 @@ ghost use Rattle.package_tables.specs.Changes.{Adds, DropsMedium};
 
 use crate::fault::{Fault, drop_count};
 use crate::from_row::{FromRow, all_of, bytes_at, first_of, number_at, text_at};
-use crate::numbers::{has_any, numbers_of};
+use crate::numbers::numbers_of;
 use crate::rows::MediaRow;
 use sqlite::{Alter, Connection, Row, Transaction, params};
 use std::alloc::Global;
@@ -89,13 +88,4 @@ pub fn medium_ids<S: Alter>(conn: &mut Connection<S>, alloc: Global) -> Result<V
         (state S.Store conn.new) result }
 {
     numbers_of(alloc, conn.query_all("SELECT id FROM sheet_media", &[]))
-}
-
-/// Whether there is a medium of this number.
-pub fn has_medium<S: Alter>(conn: &mut Connection<S>, id: i64) -> Result<bool, Fault>
-    requires { Rests (state S.Store conn.old) }
-    ensures { LooksUp (λ t found. found ≡ list_any (λ r. int_eq r.id id) t.media) (state S.Store conn.old)
-        (state S.Store conn.new) result }
-{
-    has_any(conn.query_all("SELECT id FROM sheet_media WHERE id = ?1", params![id]))
 }

@@ -5,7 +5,7 @@ ghost use Rattle.std.specs.Ordering.{int_eq, int_cmp, on};
 ghost use Rattle.sqlite.specs.State.{Survives};
 ghost use Rattle.sqlite.specs.Held.{state};
 ghost use Rattle.store_sql.specs.Transactions.{Rests};
-ghost use Rattle.package_tables.specs.Calls.{Makes, LooksUp, IsOneOf, AreThose, AreNumbersOf, AreAll};
+ghost use Rattle.package_tables.specs.Calls.{Makes, LooksUp, IsOneOf, AreNumbersOf, AreAll};
 ghost use Rattle.package_tables.specs.Listed.{tiles};
 ghost use Rattle.package_tables.specs.Changes.{Adds, DropsTile};
 
@@ -79,47 +79,6 @@ pub fn tile_by_id<S: Alter>(conn: &mut Connection<S>, id: i64) -> Result<Option<
     first_of(conn.query_all("SELECT * FROM sheet_tiles WHERE id = ?1", params![id]))
 }
 
-/// The tile in this place.
-pub fn tile_at<S: Alter>(
-    conn: &mut Connection<S>,
-    zoom_level: i64,
-    tile_column: i64,
-    tile_row: i64,
-) -> Result<Option<TileRow>, Fault>
-    requires { Rests (state S.Store conn.old) }
-    ensures { LooksUp (λ t. IsOneOf (λ x. int_eq x.zoom_level zoom_level && int_eq x.tile_column tile_column &&
-        int_eq x.tile_row tile_row) t.tiles) (state S.Store conn.old) (state S.Store conn.new) result }
-{
-    first_of(conn.query_all(
-        "SELECT * FROM sheet_tiles WHERE zoom_level = ?1 AND tile_column = ?2 AND tile_row = ?3",
-        params![zoom_level, tile_column, tile_row],
-    ))
-}
-
-/// The tiles of a zoom level from the first to the last of some columns, and from the first to the last of some rows.
-pub fn tiles_between<S: Alter>(
-    conn: &mut Connection<S>,
-    alloc: Global,
-    zoom_level: i64,
-    first_column: i64,
-    last_column: i64,
-    first_row: i64,
-    last_row: i64,
-) -> Result<Vec<TileRow>, Fault>
-    requires { Rests (state S.Store conn.old) }
-    ensures { LooksUp (λ t found. AreThose (λ x. int_eq x.zoom_level zoom_level && int_le first_column x.tile_column
-        && int_le x.tile_column last_column && int_le first_row x.tile_row && int_le x.tile_row last_row) t.tiles
-        found.items) (state S.Store conn.old) (state S.Store conn.new) result }
-{
-    all_of(
-        alloc,
-        conn.query_all(
-            "SELECT * FROM sheet_tiles WHERE zoom_level = ?1 AND tile_column >= ?2 AND tile_column <= ?3 AND tile_row >= ?4 AND tile_row <= ?5",
-            params![zoom_level, first_column, last_column, first_row, last_row],
-        ),
-    )
-}
-
 /// All tiles, by their numbers.
 pub fn all_tiles<S: Alter>(conn: &mut Connection<S>, alloc: Global) -> Result<Vec<TileRow>, Fault>
     requires { Rests (state S.Store conn.old) }
@@ -141,15 +100,6 @@ pub fn tile_ids<S: Alter>(conn: &mut Connection<S>, alloc: Global) -> Result<Vec
     numbers_of(alloc, conn.query_all("SELECT id FROM sheet_tiles", &[]))
 }
 
-/// Whether there is a tile of this number.
-pub fn has_tile<S: Alter>(conn: &mut Connection<S>, id: i64) -> Result<bool, Fault>
-    requires { Rests (state S.Store conn.old) }
-    ensures { LooksUp (λ t found. found ≡ list_any (λ r. int_eq r.id id) t.tiles) (state S.Store conn.old)
-        (state S.Store conn.new) result }
-{
-    has_any(conn.query_all("SELECT id FROM sheet_tiles WHERE id = ?1", params![id]))
-}
-
 /// Whether there is a tile in this place.
 pub fn has_tile_at<S: Alter>(
     conn: &mut Connection<S>,
@@ -167,7 +117,8 @@ pub fn has_tile_at<S: Alter>(
     ))
 }
 
-/// The numbers of the tiles that `tiles_between` answers.
+/// The numbers of the tiles of a zoom level from the first to the last of some columns, and from the first to the last of
+/// some rows.
 pub fn tile_ids_between<S: Alter>(
     conn: &mut Connection<S>,
     alloc: Global,

@@ -12,6 +12,7 @@ use Rattle.sqlite.specs.Store.{Ghosts}
 use Rattle.sqlite.specs.Held.{Held, state}
 use Rattle.sqlite.specs.State.{HasCleanDisk}
 use Rattle.sheet_types.proofs.Basics.{some_once}
+use Rattle.package_tables.proofs.Seams.{all_back, at_seam, joined, long_snoc, past_none, take_drop}
 use Rattle.sheet_types.specs.World.{Package}
 use Rattle.sheet_types.specs.declared.frame.Frame.{Frame}
 use Rattle.store_sql.specs.Staying.{Stays}
@@ -41,35 +42,6 @@ zip_itself : {X : Type 0} (P : X → Type 0) (R : X → X → Type 0) → ((x : 
     → AllByRecursion P xs → AllZip R xs xs
 zip_itself P R f [] each = tt
 zip_itself P R f (x ∷ xs) each = (f x each.0, zip_itself P R f xs each.1)
-
-take_drop : {X : Type 0} (xs : List X) (n : ℕ) → take n xs ++ drop n xs ≡ xs
-take_drop xs zero = refl
-take_drop [] (suc n) = refl
-take_drop (x ∷ xs) (suc n) = ap (λ ys. x ∷ ys) (take_drop xs n)
-
-past_none : {X : Type 0} (xs : List X) (n : ℕ) → length xs ≤ n → drop n xs ≡ []
-past_none [] zero le = refl
-past_none [] (suc n) le = refl
-past_none (x ∷ xs) zero le = absurd (omega (arith, le))
-past_none (x ∷ xs) (suc n) le = past_none xs n (omega (arith, le))
-
-at_seam : {X : Type 0} (xs : List X) (y : X) (ys : List X) → slice_get (xs ++ y ∷ ys) (length xs) ≡ Some y
-at_seam [] y ys = refl
-at_seam (x ∷ xs) y ys = at_seam xs y ys
-
-joined : {X : Type 0} (xs : List X) (x : X) (ys : List X) → (xs ++ x ∷ []) ++ ys ≡ xs ++ x ∷ ys
-joined [] x ys = refl
-joined (z ∷ xs) x ys = ap (λ zs. z ∷ zs) (joined xs x ys)
-
-long_snoc : {X : Type 0} (xs : List X) (y : X) → length (xs ++ y ∷ []) ≡ suc (length xs)
-long_snoc [] y = refl
-long_snoc (z ∷ xs) y = ap suc (long_snoc xs y)
-
-all_back : {X : Type 0} (P : X → Type 0) (xs ys : List X) → AllByRecursion P (xs ++ ys) → AllByRecursion P xs
-    × AllByRecursion P ys
-all_back P [] ys each = (tt, each)
-all_back P (x ∷ xs) ys each = let more : AllByRecursion P xs × AllByRecursion P ys =
-    all_back P xs ys each.1 in ((each.0, more.0), more.1)
 
 -- the third list is tied to the second by what ties each to the first
 pub zip_through : {A B C : Type 0} (R : A → B → Type 0) (Q : A → C → Type 0) (T : B → C → Type 0)
