@@ -51,7 +51,7 @@ def words_of(side, port, count, folder):
 def posts(count):
     for request in read_requests(additions(count).text()):
         body = body_of(request).encode()
-        yield b"POST /requests HTTP/1.1\r\nHost: desk\r\nContent-Length: %d\r\n\r\n%s" % (len(body), body)
+        yield b"POST /requests HTTP/1.1\r\nHost: 127.0.0.1\r\nContent-Length: %d\r\n\r\n%s" % (len(body), body)
 
 
 def free_port():

@@ -100,7 +100,7 @@ class PlainDesk:
 
     def add(self, number):
         body = request(number)
-        answer = exchange(self.port, b"POST /requests HTTP/1.1\r\nHost: desk\r\nContent-Length: %d\r\n\r\n%s" % (len(body), body))
+        answer = exchange(self.port, b"POST /requests HTTP/1.1\r\nHost: 127.0.0.1\r\nContent-Length: %d\r\n\r\n%s" % (len(body), body))
         assert answer.startswith(b"HTTP/1.1 200 "), answer
 
     def end(self):

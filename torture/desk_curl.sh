@@ -69,6 +69,9 @@ fault() {
   exchange "$status" "$json" "$@" < <(printf '{"fault":"%s"}' "$word")
 }
 fault 404 'no such path' "$desk/nothing"
+fault 404 'no such path' -H 'Host: LocalHost:9000' "$desk/nothing"
+fault 403 'bad origin' -H 'Host: evil.example' "$desk/packages"
+fault 403 'bad origin' -H 'Host: evil.example' -X DELETE "$desk/nothing"
 fault 404 'no such path' "$desk/packages//manifest"
 fault 404 'no such package' "$desk/packages/7900a419-810c-58cd-bd4f-73aebcfc3c4a/manifest"
 fault 404 'no such package' "$desk/packages/x/manifest"

@@ -26,7 +26,7 @@ BODY = json.dumps({
     "request": "77777777-7777-4777-8777-777777777777", "at": "2026-03-02T09:00:00.000Z", "command": "delete",
     "package": ARCHIVE, "identity": "3ace3bf7-1c26-5437-b740-ccb5d4aa8957",
 }).encode()
-POST = b"POST /requests HTTP/1.1\r\nHost: desk\r\nContent-Length: %d\r\n\r\n%s" % (len(BODY), BODY)
+POST = b"POST /requests HTTP/1.1\r\nHost: 127.0.0.1\r\nContent-Length: %d\r\n\r\n%s" % (len(BODY), BODY)
 
 
 def drip(desk):

@@ -71,9 +71,9 @@ class Desk:
 
     def get(self, path):
         """The body of the response to a GET."""
-        return self.exchange(b"GET %s HTTP/1.1\r\nHost: desk\r\n\r\n" % path.encode()).partition(b"\r\n\r\n")[2].decode()
+        return self.exchange(b"GET %s HTTP/1.1\r\nHost: 127.0.0.1\r\n\r\n" % path.encode()).partition(b"\r\n\r\n")[2].decode()
 
     def post(self, body):
         """The body of the response to a request."""
-        head = b"POST /requests HTTP/1.1\r\nHost: desk\r\nContent-Length: %d\r\n\r\n" % len(body)
+        head = b"POST /requests HTTP/1.1\r\nHost: 127.0.0.1\r\nContent-Length: %d\r\n\r\n" % len(body)
         return self.exchange(head + body).partition(b"\r\n\r\n")[2].decode()

@@ -474,8 +474,9 @@ def turned_away(desk):
         (b"411", desk.head(len(body)).replace(b"Content-Length", b"Content-Lengths") + body),
         (b"413", desk.head(2300001) + body),
         (b"400", desk.head(-1) + body),
-        (b"404", b"POST /command HTTP/1.1\r\nHost: desk\r\nContent-Length: 0\r\n\r\n"),
-        (b"404", b"GET /commands HTTP/1.1\r\nHost: desk\r\n\r\n"),
+        (b"404", b"POST /command HTTP/1.1\r\nHost: 127.0.0.1\r\nContent-Length: 0\r\n\r\n"),
+        (b"404", b"GET /commands HTTP/1.1\r\nHost: 127.0.0.1\r\n\r\n"),
+        (b"403", b"GET /packages HTTP/1.1\r\nHost: evil.example:%d\r\n\r\n" % desk.port),
     ):
         answer = desk.exchange(text)
         assert answer[9:12] == due, (due, text[:200], answer)

@@ -1,16 +1,17 @@
 -- A connection asks one call at most.
 use Rattle.std.proofs.Common.{◌≡◌, ◌∙◌, ℕ, Bool, true, false, List, [], ◌++◌, Option, Some, None}
-use Rattle.std.proofs.Common.{take, refl, sym, ap}
+use Rattle.std.proofs.Common.{map, take, refl, sym, ap}
 use Rattle.std.proofs.Common.{arith, inl, inr, codes}
 use Rattle.std.specs.Prelude.{bytes_eq}
 use Rattle.std.proofs.lemmas.List.{append_cancel_left, append_cancel_right}
 use Rattle.uuid.specs.Text.{parsed_hyphenated}
 use Rattle.httparse.proofs.GrammarLemmas.{request_unique}
 use Rattle.httparse.specs.Grammar.{RequestHead}
+use Rattle.httparse.specs.Spans.{name_and_value}
 use Rattle.request_json.proofs.OneRequest.{one_request}
 use Rattle.sheet_types.proofs.Basics.{None≢Some}
-use Rattle.desk_calls.specs.Calls.{BodyAsks, HeadAsks, IsCall, MethodAsks, NamesBetween, OriginAsks, PathAsks}
-use Rattle.desk_calls.specs.Calls.{RestAsks, RouteAsks, method_of, origins_of, origins_pass}
+use Rattle.desk_calls.specs.Calls.{BodyAsks, HeadAsks, IsCall, MethodAsks, NamesBetween, PathAsks, RestAsks}
+use Rattle.desk_calls.specs.Calls.{RouteAsks, SenderAsks, method_of, sender_passes}
 use Rattle.desk_calls.specs.Heads.{path_of, route_of}
 use Rattle.desk_calls.specs.declared.calls.Asked.{Asked}
 use Rattle.desk_calls.specs.declared.calls.Asked.TheVariants.{Now, Body}
@@ -48,13 +49,13 @@ by_path : (to : Option Route) (h : RequestHead) (a b : Asked) → PathAsks to h 
 by_path None h a b x y = x ∙ sym y
 by_path (Some to) h a b x y = by_method (bytes_eq h.method (method_of to)) to h a b x y
 
-by_origin : (passes : Bool) (h : RequestHead) (a b : Asked) → OriginAsks passes h a → OriginAsks passes h b
+by_sender : (passes : Bool) (h : RequestHead) (a b : Asked) → SenderAsks passes h a → SenderAsks passes h b
     → a ≡ b
-by_origin true h a b x y = by_path (route_of (path_of h.target)) h a b x y
-by_origin false h a b x y = x ∙ sym y
+by_sender true h a b x y = by_path (route_of (path_of h.target)) h a b x y
+by_sender false h a b x y = x ∙ sym y
 
 one_asked : (own : List ℕ) (h : RequestHead) (a b : Asked) → HeadAsks own h a → HeadAsks own h b → a ≡ b
-one_asked own h a b x y = by_origin (origins_pass own (origins_of h)) h a b x y
+one_asked own h a b x y = by_sender (sender_passes own (map name_and_value h.fields)) h a b x y
 
 one_of_body : (body : List ℕ) (a b : Call) → BodyAsks body a → BodyAsks body b → a ≡ b
 one_of_body body (Refused flaw) (Refused other) (is, none) (also, nor) = ap Refused (is ∙ sym also)

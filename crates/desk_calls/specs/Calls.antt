@@ -1,8 +1,8 @@
 -- What the bytes of a connection ask of the desk: the checks, in their order. Profile, over RFC 9112 for fields and
 -- RFC 9562 for UUIDs.
-use Rattle.std.specs.Prelude.{◌≡◌, ◌≢◌, ◌≤◌, ◌<◌, ◌⊎◌, ℕ, Bool, true, false, ◌&&◌}
-use Rattle.std.specs.Prelude.{nat_le, nat_lt, if◌then◌else◌}
-use Rattle.std.specs.Prelude.{List, [], ◌∷◌, ◌++◌, length, take, map, codes, bytes_eq, Option, Some, None}
+use Rattle.std.specs.Prelude.{◌≡◌, ◌≢◌, ◌≤◌, ◌<◌, ◌⊎◌, ℕ, Bool, true, false, ◌&&◌, ◌||◌}
+use Rattle.std.specs.Prelude.{nat_eq, nat_le, nat_lt, if◌then◌else◌}
+use Rattle.std.specs.Prelude.{List, [], ◌∷◌, ◌++◌, length, take, drop, map, codes, bytes_eq, Option, Some, None}
 use Rattle.std.specs.List.{list_all}
 use Rattle.std.specs.Char.{is_ascii_digit}
 use Rattle.std.specs.Str.{str_eq_ignore_ascii_case}
@@ -117,18 +117,39 @@ origins_pass own [] = true
 origins_pass own (origin ∷ []) = bytes_eq origin own
 origins_pass own (origin ∷ other ∷ more) = false
 
--- what a head asks, by whether its origin lets it pass
-abbrev pub OriginAsks : Bool → RequestHead → Asked → Type 0
-OriginAsks true h asked = PathAsks (route_of (path_of h.target)) h asked
-OriginAsks false h asked = asked ≡ Now (Refused BadOrigin)
+-- whether a text is empty, or a colon and a port, which may be empty too (RFC 3986, section 3.2.3)
+abbrev pub is_port : List ℕ → Bool
+is_port [] = true
+is_port (first ∷ digits) = nat_eq first 58 && list_all is_ascii_digit digits
 
--- the values of its Origin fields
-abbrev pub origins_of : RequestHead → List (List ℕ)
-origins_of h = values_of (codes "origin") (map name_and_value h.fields)
+-- whether a text is this name, letters in either case, with any port or none
+abbrev pub is_host : List ℕ → List ℕ → Bool
+is_host name text = str_eq_ignore_ascii_case (take (length name) text) name && is_port (drop (length name) text)
+
+-- whether a text is a name of the machine that the desk runs on
+abbrev pub is_this_machine : List ℕ → Bool
+is_this_machine text = is_host (codes "127.0.0.1") text || is_host (codes "localhost") text
+
+-- Whether the Host fields of a request let it pass (RFC 9110, section 7.2): it has none, as that of HTTP/1.0, or the
+-- only one is a name of this machine. The port is not looked at, since a tunnel may have another.
+abbrev pub hosts_pass : List (List ℕ) → Bool
+hosts_pass [] = true
+hosts_pass (host ∷ []) = is_this_machine host
+hosts_pass (host ∷ other ∷ more) = false
+
+-- whether the fields of a request let its sender pass: no page of another address asks, by its Origin or its Host
+abbrev pub sender_passes : List ℕ → List (List ℕ × List ℕ) → Bool
+sender_passes own fields = origins_pass own (values_of (codes "origin") fields)
+    && hosts_pass (values_of (codes "host") fields)
+
+-- what a head asks, by whether its sender passes
+abbrev pub SenderAsks : Bool → RequestHead → Asked → Type 0
+SenderAsks true h asked = PathAsks (route_of (path_of h.target)) h asked
+SenderAsks false h asked = asked ≡ Now (Refused BadOrigin)
 
 -- what a head asks of a desk with this address
 abbrev pub HeadAsks : List ℕ → RequestHead → Asked → Type 0
-HeadAsks own h asked = OriginAsks (origins_pass own (origins_of h)) h asked
+HeadAsks own h asked = SenderAsks (sender_passes own (map name_and_value h.fields)) h asked
 
 -- ---- bodies
 

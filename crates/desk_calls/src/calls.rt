@@ -9,7 +9,8 @@ use uuid::Uuid;
 /// The first check that fails, where one does before the world is asked.
 #[derive(Clone, Copy, Debug, PartialEq, Eq)]
 pub enum Flaw {
-    /// A page of another address asks, by the Origin field (RFC 6454, section 7).
+    /// A page of another address asks, by its Origin field (RFC 6454, section 7) or by its Host field
+    /// (RFC 9110, section 7.2).
     BadOrigin,
     /// The head, a field, or the body is not as it has to be.
     BadRequest,

@@ -3,9 +3,11 @@ ghost use Rattle.std.specs.Prelude.{◌≡◌, IfOk, All, length, map};
 ghost use Rattle.httparse.specs.Grammar.{RequestHead};
 ghost use Rattle.httparse.specs.Spans.{IsHeaderWithin, IsRequestAt, IsRequestWithin, header_bytes, name_and_value};
 ghost use Rattle.desk_calls.specs.Calls.{HeadAsks, IsSmall, NamesBetween, PathAsks, RouteAsks, method_of};
+ghost use Rattle.desk_calls.specs.Calls.{sender_passes};
 ghost use Rattle.desk_calls.specs.Heads.{path_of, route_of};
 
 use crate::calls::{Asked, Call, Flaw};
+use crate::hosts::hosts_pass;
 use crate::lengths::fields_ask;
 use crate::origins::origins_pass;
 use crate::routes::{Route, desk_routes, path_of, route_of};
@@ -105,6 +107,14 @@ fn target_asks(
     )
 }
 
+/// Whether the fields of a head let its sender pass: no page of another address asks.
+fn sender_passes(own: &[u8], input: &[u8], headers: &[HeaderSpan]) -> bool
+    requires { All (IsHeaderWithin (length input.now)) headers.now }
+    ensures { result ≡ sender_passes own.now (map (header_bytes input.now) headers.now) }
+{
+    origins_pass(own, input, headers) & hosts_pass(input, headers)
+}
+
 /// What a head asks that was found in the input. A page of another address than the desk's own is
 /// refused before anything else is looked at.
 ///
@@ -123,7 +133,7 @@ pub fn head_asks(
         → HeadAsks own.now h asked) }
     ensures small { IfOk result IsSmall }
 {
-    if !origins_pass(own, input, &headers[..head.headers]) {
+    if !sender_passes(own, input, &headers[..head.headers]) {
         return Ok(Asked::Now(Call::Refused(Flaw::BadOrigin)));
     }
     target_asks(alloc, input, headers, head)

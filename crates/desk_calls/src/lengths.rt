@@ -67,7 +67,7 @@ pub fn values_of<'a>(input: &'a [u8], headers: &[HeaderSpan], name: &[u8]) -> Va
 }
 
 /// Whether a text is of digits alone.
-fn are_digits(text: &[u8]) -> bool
+pub(crate) fn are_digits(text: &[u8]) -> bool
     ensures { IsTrue result ↔ AllPass is_ascii_digit text.now }
 {
     text.iter().all(|byte| byte.is_ascii_digit())

@@ -6,6 +6,7 @@ pub mod bodies;
 pub mod call_laws;
 pub mod calls;
 pub mod heads;
+mod hosts;
 mod judging;
 pub mod lengths;
 mod origins;

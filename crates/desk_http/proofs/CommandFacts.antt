@@ -1,9 +1,10 @@
 -- What was found of a request says what its bytes ask.
 use Rattle.std.proofs.Common.{◌≡◌, ◌≤◌, ◌+◌, ◌-◌, ◌∙◌, ℕ, List, ◌++◌, length, take}
-use Rattle.std.proofs.Common.{drop, slice_range}
-use Rattle.std.proofs.Common.{Option, Some, None, IfSome, sym, ap, arith}
+use Rattle.std.proofs.Common.{codes, drop, refl, slice_range}
+use Rattle.std.proofs.Common.{Option, Some, None, IfSome, Result, ◌⊎◌, inl, inr, sym, ap, arith}
 use Rattle.std.proofs.lemmas.List.{append_assoc, append_cancel_left, drop-append-le, length-drop, length-take}
 use Rattle.std.proofs.lemmas.List.{take-append-drop}
+use Rattle.std.specs.Fmt.{digits}
 use Rattle.std.specs.Io.KnownBytes.{Consumes}
 use Rattle.httparse.specs.Grammar.{RequestHead, print_request}
 use Rattle.httparse.specs.Spans.{IsRequestAt}
@@ -12,10 +13,13 @@ use Rattle.httparse.specs.declared.spans.RequestSpans.{RequestSpans}
 use Rattle.desk_calls.specs.Bodies.{Grows}
 use Rattle.desk_calls.specs.Heads.{Gathers}
 use Rattle.desk_calls.specs.declared.heads.Gathered.TheVariants.{Head}
-use Rattle.desk_http.specs.Commands.{HeadPasses, IsCommand, IsRest}
+use Rattle.desk_http.specs.Commands.{HeadPasses, IsAsked, IsCommand, IsCutShort, IsHanded, IsRest, MayPass}
+use Rattle.desk_http.specs.Commands.{TurnsAway, bad_key}
+use Rattle.desk_http.specs.declared.serving.Served.{Served}
+use Rattle.desk_http.specs.declared.serving.ServeFault.{ServeFault}
 
 -- the bytes after the head are those of the input after it, and what is left
-rest_of : (old more zs ys new : List ℕ) (start : ℕ) → start ≤ length old → new ≡ old ++ more
+pub rest_of : (old more zs ys new : List ℕ) (start : ℕ) → start ≤ length old → new ≡ old ++ more
     → ys ≡ more ++ zs
     → drop start old ++ ys ≡ drop start new ++ zs
 rest_of old more zs ys new start within grown taken =
@@ -40,7 +44,7 @@ body_gathered own key (Some ys) (Some zs) old new start size h grows within enou
     }
 
 -- what follows a head in all the bytes is what follows it in the input, and then what is left
-rest_is : (xs ys input front rest tail : List ℕ) → xs ≡ input ++ ys → input ≡ front ++ tail
+pub rest_is : (xs ys input front rest tail : List ℕ) → xs ≡ input ++ ys → input ≡ front ++ tail
     → xs ≡ front ++ rest
     → rest ≡ tail ++ ys
 rest_is xs ys input front rest tail taken read whole =
@@ -59,3 +63,17 @@ whole_asked own key (Some xs) (Some ys) input headers spans body taken (h, rest,
     let same : rest ≡ drop spans.len input ++ ys =
     rest_is xs ys input (print_request h) rest (drop spans.len input) taken at.reads.1 is.reads.1 in
     (h, rest, is, rw same (asks h at))
+
+-- what was handed on is the body of the request
+pub handed_or_left : {K L : Type 0} {attends : List ℕ → Option (List ℕ) → Option (List ℕ) → K → K → Type 0}
+    {own key : List ℕ} {text held holds : Option (List ℕ)} {clerk next : K} {end : Result Served ServeFault}
+    (body : List ℕ) → MayPass own key text body
+    → IsAsked attends body held holds clerk next end ⊎ (L × IsCutShort held holds end)
+    → IsHanded attends own key text held holds clerk next end ⊎ (L × TurnsAway own key text held holds end)
+handed_or_left body passes (inl asked) = inl record { body = body; passes = passes; asked = asked }
+handed_or_left body passes (inr (left, cut)) = inr (left, inr (inr cut))
+
+-- the answer to a wrong key, computed
+pub bad_key_is : codes "HTTP/1.1 403 Forbidden\r\ncontent-type: application/json\r\ncontent-length: 19\r\nconnection: close\r\n\r\n{\"fault\":\"bad key\"}" ≡ bad_key
+unfolding digits
+bad_key_is = refl

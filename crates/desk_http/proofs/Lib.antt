@@ -1,4 +1,5 @@
 mod AnswerFacts
+mod Barring
 mod CommandFacts
 mod DueFacts
 mod ListingFacts

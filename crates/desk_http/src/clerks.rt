@@ -1,5 +1,5 @@
 //! Who carries out the commands of a command line at a desk.
-ghost use Rattle.std.specs.Prelude.{◌≡◌, ℕ, List, [], IfSome};
+ghost use Rattle.std.specs.Prelude.{◌≡◌, ℕ, List, [], Option, IfNone, IfSome, ⊤};
 ghost use Rattle.desk_http.specs.Connections.{IsServedBy};
 
 use sqlite::Alter;
@@ -12,9 +12,15 @@ pub trait Clerk {
     // The word that whoever asks has to show. An empty one is nobody's.
     ghost key_of: { Self → List ℕ };
 
+    // It was asked once, with this body, between these two states; a writer had the first and has the second. Each
+    // clerk says what that is. A desk knows nothing of it but that `attend` does it, so where it promises this of a
+    // body it asked once, with that body and for that writer.
+    ghost attends: { List ℕ → Option (List ℕ) → Option (List ℕ) → Self → Self → Type 0 };
+
     /// The word that whoever asks has to show; `None` where there is no clerk.
     fn key(&self) -> Option<&[u8]>
-        ensures { IfSome result (λ key. key.now ≡ key_of self.now) };
+        ensures some { IfSome result (λ key. key.now ≡ key_of self.now) }
+        ensures none { IfNone result (key_of self.now ≡ []) };
 
     /// Reads what a body asks, carries it out, and writes what comes of it.
     fn attend<S: Alter + Drop, H: Shelf<S>, W: Write>(
@@ -24,7 +30,8 @@ pub trait Clerk {
         body: &[u8],
         writer: &mut W,
     )
-        ensures { IsServedBy S.Store 1 world.old world.new };
+        ensures served { IsServedBy S.Store 1 world.old world.new }
+        ensures attends { attends body.now (W.contents writer.old) (W.contents writer.new) self.old self.new };
 }
 
 /// No clerk: nobody is let in.
@@ -33,6 +40,8 @@ pub struct NoClerk;
 
 impl Clerk for NoClerk {
     ghost key_of = { λ _. [] };
+
+    ghost attends = { λ body held holds clerk next. ⊤ };
 
     fn key(&self) -> Option<&[u8]> {
         None

@@ -1,12 +1,14 @@
 //! A connection that asks for a command of the command line, handed to the clerk of the desk.
 ghost use Rattle.std.specs.Prelude.{◌≡◌, ◌≢◌, ◌≤◌, ◌⊎◌, ◌↔◌, ◌++◌, [], All, IfOk};
-ghost use Rattle.std.specs.Prelude.{IfNone, IfSome, IsTrue};
+ghost use Rattle.std.specs.Prelude.{ℕ, List, IfErr, IfSome, IsTrue, MatchOption};
 ghost use Rattle.std.specs.Prelude.{drop, length, map, slice_range};
 ghost use Rattle.httparse.specs.Grammar.{RequestHead};
 ghost use Rattle.httparse.specs.Spans.{IsHeaderWithin, IsRequestAt, IsRequestWithin, IsWithin, header_bytes};
 ghost use Rattle.httparse.specs.Spans.{span_bytes};
-ghost use Rattle.desk_http.specs.Commands.{AsksCommand, FieldsPass, HasNone, HasOnly, HeadPasses, IsFree};
-ghost use Rattle.desk_http.specs.Commands.{IsHanded, IsLeft, IsRest, IsSize, MayPass, TellsSize, host_of};
+ghost use Rattle.desk_http.specs.Commands.{AsksCommand, AsksNone, FieldsPass, HasNone, HasOnly, HeadPasses};
+ghost use Rattle.desk_http.specs.Commands.{IsAsked, IsChance, IsCutShort, IsFree, IsHanded, IsLeft, IsRest};
+ghost use Rattle.desk_http.specs.Commands.{IsSize, MayPass, Sends, TellsSize, TurnsAway, TurnsBy, answer_head};
+ghost use Rattle.desk_http.specs.Commands.{bad_key, host_of};
 ghost use Rattle.desk_http.specs.Connections.{IsServedBy};
 
 use crate::clerks::Clerk;
@@ -38,15 +40,6 @@ const TARGET: &[u8] = b"/commands";
 /// The most bytes of a body: the standard input of a command has as many as a request may have, and its words the rest.
 const MOST_BODY: i64 = 2_300_000;
 
-/// What goes out before the frames of an answer.
-const ANSWER_HEAD: &[u8] =
-    b"HTTP/1.1 200 OK\r\ncontent-type: application/octet-stream\r\nconnection: close\r\n\r\n";
-
-/// What goes out where the key is not the clerk's.
-const BAD_KEY: &[u8] =
-    b"HTTP/1.1 403 Forbidden\r\ncontent-type: application/json\r\ncontent-length: 19\r\n\
-    connection: close\r\n\r\n{\"fault\":\"bad key\"}";
-
 /// Why no command is handed to the clerk.
 #[derive(Clone, Copy, Debug, PartialEq, Eq)]
 enum Bar {
@@ -59,10 +52,9 @@ enum Bar {
 }
 
 impl From<CallFault> for Bar {
-    ghost use Rattle.std.specs.Prelude.{⊤};
+    ghost use Rattle.desk_http.specs.Commands.{IsChance};
 
-    // Which bar it is goes into the answer alone.
-    ghost from_gives = { λ fault bar. ⊤ };
+    ghost from_gives = { λ fault bar. IsChance bar };
 
     fn from(fault: CallFault) -> Bar {
         match fault {
@@ -108,7 +100,8 @@ fn host_of(own: &[u8]) -> &[u8]
 /// this desk. An empty key is nobody's.
 fn bar_of(own: &[u8], key: &[u8], input: &[u8], headers: &[HeaderSpan]) -> Option<Bar>
     requires { All (IsHeaderWithin (length input.now)) headers.now }
-    ensures { IfNone result (IsFree own.now key.now (map (header_bytes input.now) headers.now)) }
+    ensures { MatchOption result (IsFree own.now key.now (map (header_bytes input.now) headers.now))
+        (λ bar. ¬ (IsFree own.now key.now (map (header_bytes input.now) headers.now))) }
 {
     if !has_none(input, headers, b"origin") {
         return Some(Bar::Other(Fixed::BadOrigin));
@@ -124,7 +117,8 @@ fn bar_of(own: &[u8], key: &[u8], input: &[u8], headers: &[HeaderSpan]) -> Optio
 
 /// The size of a body that a Content-Length announces.
 fn size_of(text: &[u8]) -> Result<usize, Bar>
-    ensures { IfOk result (λ size. IsSize text.now size) }
+    ensures some { IfOk result (λ size. IsSize text.now size) }
+    ensures none { IfErr result (λ bar. (size : ℕ) → ¬ (IsSize text.now size)) }
 {
     let Ok(digits) = from_utf8(text) else {
         return Err(Bar::Other(Fixed::BadRequest));
@@ -144,7 +138,9 @@ fn size_of(text: &[u8]) -> Result<usize, Bar>
 /// The size of the body that the fields of a head announce.
 fn size_told(input: &[u8], headers: &[HeaderSpan]) -> Result<usize, Bar>
     requires { All (IsHeaderWithin (length input.now)) headers.now }
-    ensures { IfOk result (TellsSize (map (header_bytes input.now) headers.now)) }
+    ensures some { IfOk result (TellsSize (map (header_bytes input.now) headers.now)) }
+    ensures none { IfErr result (λ bar. (size : ℕ)
+        → ¬ (TellsSize (map (header_bytes input.now) headers.now) size)) }
 {
     match values_of(input, headers, b"content-length") {
         Values::One(text) => size_of(text),
@@ -156,7 +152,9 @@ fn size_told(input: &[u8], headers: &[HeaderSpan]) -> Result<usize, Bar>
 /// The same where nothing bars the request.
 fn size_passed(own: &[u8], key: &[u8], input: &[u8], headers: &[HeaderSpan]) -> Result<usize, Bar>
     requires { All (IsHeaderWithin (length input.now)) headers.now }
-    ensures { IfOk result (FieldsPass own.now key.now (map (header_bytes input.now) headers.now)) }
+    ensures some { IfOk result (FieldsPass own.now key.now (map (header_bytes input.now) headers.now)) }
+    ensures none { IfErr result (λ bar. (size : ℕ)
+        → ¬ (FieldsPass own.now key.now (map (header_bytes input.now) headers.now) size)) }
 {
     match bar_of(own, key, input, headers) {
         Some(bar) => Err(bar),
@@ -168,7 +166,7 @@ fn size_passed(own: &[u8], key: &[u8], input: &[u8], headers: &[HeaderSpan]) -> 
 fn is_for_command(input: &[u8], head: RequestSpans) -> bool
     requires method { IsWithin (length input.now) head.method }
     requires path { IsWithin (length input.now) head.path }
-    ensures { IsTrue result → AsksCommand (span_bytes input.now head.method) (span_bytes input.now head.path) }
+    ensures { IsTrue result ↔ AsksCommand (span_bytes input.now head.method) (span_bytes input.now head.path) }
 {
     head.method.of(input) == METHOD && head.path.of(input) == TARGET
 }
@@ -184,6 +182,8 @@ fn size_in(
     requires { IsRequestWithin input.now headers.now head }
     ensures passes { IfOk result (λ size. (h : RequestHead)
         → IsRequestAt input.now headers.now head h → HeadPasses own.now key.now h size) }
+    ensures none { IfErr result (λ bar. (h : RequestHead) → IsRequestAt input.now headers.now head h
+        → (size : ℕ) → ¬ (HeadPasses own.now key.now h size)) }
     ensures small { IfOk result (λ size. size ≤ 2300000) }
     ensures some_key { IfOk result (λ size. key.now ≢ []) }
 {
@@ -209,6 +209,9 @@ fn read_rest<R: Source>(
     ensures asks { IfOk result (λ whole. (h : RequestHead) → IsRequestAt input.items headers.now head h
         → IfSome (R.remaining reader.old) (λ ys. IsRest own.now key.now h (drop head.len input.items ++ ys)
         (slice_range whole.0.items whole.1 whole.2))) }
+    ensures none { IfErr result (λ bar. IsChance bar ⊎ ((h : RequestHead)
+        → IsRequestAt input.items headers.now head h → IfSome (R.remaining reader.old) (λ ys. (body : List ℕ)
+        → ¬ (IsRest own.now key.now h (drop head.len input.items ++ ys) body)))) }
 {
     let size = size_in(own, key, input.as_slice(), headers, head)?;
     let end = head.len + size;
@@ -228,6 +231,7 @@ fn read_whole<R: Source>(
     ensures bounds { IfOk result (λ whole. (whole.1 ≤ whole.2) × (whole.2 ≤ length whole.0.items)) }
     ensures passes { IfOk result (λ whole. MayPass own.now key.now (R.remaining reader.old)
         (slice_range whole.0.items whole.1 whole.2)) }
+    ensures none { IfErr result (λ bar. IsChance bar ⊎ AsksNone own.now key.now (R.remaining reader.old)) }
 {
     let mut input = Vec::new(alloc);
     let mut headers = [EMPTY_HEADER_SPAN; 64];
@@ -236,26 +240,42 @@ fn read_whole<R: Source>(
             let whole = read_rest(own, key, reader, input, &headers, head)?;
             Ok(whole)
         }
-        Gathered::Nothing | Gathered::Bad => Err(Bar::Other(Fixed::BadRequest)),
+        Gathered::Nothing => Err(Bar::Other(Fixed::BadRequest)),
+        Gathered::Bad => Err(Bar::Other(Fixed::BadRequest)),
     }
 }
 
-/// What goes out where no command is handed on.
-fn bar_response(bar: Bar) -> &'static [u8] {
-    match bar {
-        Bar::Unread => b"",
-        Bar::Key => BAD_KEY,
-        Bar::Other(fixed) => fixed_response(fixed),
-    }
+/// What goes out before the frames of an answer.
+fn answer_head() -> &'static [u8]
+    ensures { result.now ≡ answer_head }
+{
+    b"HTTP/1.1 200 OK\r\ncontent-type: application/octet-stream\r\nconnection: close\r\n\r\n"
+}
+
+/// What goes out where the key is not the clerk's.
+fn bad_key() -> &'static [u8]
+    ensures { result.now ≡ bad_key }
+{
+    b"HTTP/1.1 403 Forbidden\r\ncontent-type: application/json\r\ncontent-length: 19\r\nconnection: close\r\n\r\n{\"fault\":\"bad key\"}"
+}
+
+/// Sends the answer to what bars a request.
+fn send_bar<W: Write>(text: &[u8], writer: &mut W) -> Result<Served, ServeFault>
+    ensures { Sends text.now (W.contents writer.old) (W.contents writer.new) result }
+{
+    send(writer, text)?;
+    Ok(Served::Answered)
 }
 
 /// Answers where something bars a request.
-fn turn_away<W: Write>(bar: Bar, writer: &mut W) -> Result<Served, ServeFault> {
-    if bar == Bar::Unread {
-        return Err(ServeFault::Read);
+fn turn_away<W: Write>(bar: Bar, writer: &mut W) -> Result<Served, ServeFault>
+    ensures { TurnsBy bar (W.contents writer.old) (W.contents writer.new) result }
+{
+    match bar {
+        Bar::Unread => Err(ServeFault::Read),
+        Bar::Key => send_bar(bad_key(), writer),
+        Bar::Other(fixed) => send_bar(fixed_response(fixed), writer),
     }
-    send(writer, bar_response(bar))?;
-    Ok(Served::Answered)
 }
 
 /// Has the clerk carry out what a body asks.
@@ -266,13 +286,19 @@ fn hand_on<S: Alter + Drop, H: Shelf<S>, W: Write, K: Clerk>(
     writer: &mut W,
     clerk: &mut K,
 ) -> Result<Served, ServeFault>
-    ensures { IsServedBy S.Store 1 world.old world.new }
+    ensures served { IsServedBy S.Store 1 world.old world.new }
+    ensures handed { IsAsked K.attends body.now (W.contents writer.old) (W.contents writer.new)
+        clerk.old clerk.new result
+        ⊎ (IsLeft world.old world.new shelf.old shelf.new clerk.old clerk.new
+        × IsCutShort (W.contents writer.old) (W.contents writer.new) result) }
 {
-    if send(writer, ANSWER_HEAD).is_err() {
-        return Err(ServeFault::Write);
+    match send(writer, answer_head()) {
+        Ok(()) => {
+            clerk.attend(world, shelf, body, writer);
+            Ok(Served::Answered)
+        }
+        Err(_) => Err(ServeFault::Write),
     }
-    clerk.attend(world, shelf, body, writer);
-    Ok(Served::Answered)
 }
 
 /// The request that stands on a connection, for a clerk with this key.
@@ -285,6 +311,8 @@ fn read_asked<R: Source, K: Clerk>(
     ensures bounds { IfOk result (λ whole. (whole.1 ≤ whole.2) × (whole.2 ≤ length whole.0.items)) }
     ensures passes { IfOk result (λ whole. MayPass own.now (K.key_of clerk.now) (R.remaining reader.old)
         (slice_range whole.0.items whole.1 whole.2)) }
+    ensures none { IfErr result (λ bar. IsChance bar
+        ⊎ AsksNone own.now (K.key_of clerk.now) (R.remaining reader.old)) }
 {
     match clerk.key() {
         Some(key) => read_whole(alloc, own, key, reader),
@@ -292,8 +320,9 @@ fn read_asked<R: Source, K: Clerk>(
     }
 }
 
-/// Reads a request for the clerk, and has it carry out the command. Where something bars it, that is answered, and the
-/// clerk is not asked. `own` is the desk's address, as `http://127.0.0.1:8080`.
+/// Reads a request for the clerk, and has it carry out the command: it is asked once, with the body that the request
+/// has. Where something bars it, that is answered, and the clerk is not asked. `own` is the desk's address, as
+/// `http://127.0.0.1:8080`.
 ///
 /// # Errors
 ///
@@ -308,8 +337,11 @@ pub fn serve_command<S: Alter + Drop, H: Shelf<S>, R: Source, W: Write, K: Clerk
     clerk: &mut K,
 ) -> Result<Served, ServeFault>
     ensures served { IsServedBy S.Store 1 world.old world.new }
-    ensures handed { IsHanded own.now (K.key_of clerk.old) (R.remaining reader.old)
-        ⊎ IsLeft world.old world.new shelf.old shelf.new clerk.old clerk.new }
+    ensures handed { IsHanded K.attends own.now (K.key_of clerk.old) (R.remaining reader.old)
+        (W.contents writer.old) (W.contents writer.new) clerk.old clerk.new result
+        ⊎ (IsLeft world.old world.new shelf.old shelf.new clerk.old clerk.new
+        × TurnsAway own.now (K.key_of clerk.old) (R.remaining reader.old)
+        (W.contents writer.old) (W.contents writer.new) result) }
 {
     match read_asked(alloc, own, reader, &*clerk) {
         Ok((input, begin, end)) => hand_on(world, shelf, &input[begin..end], writer, clerk),

@@ -1,5 +1,6 @@
 //! Where connections come from: the loopback address alone.
 ghost use Rattle.std.specs.Prelude.{◌≡◌, ◌++◌, IfOk, codes, decimal, string_bytes};
+ghost use Rattle.desk_http.specs.Commands.{IsAddress};
 
 use std::alloc::{AllocError, Global};
 use std::io;
@@ -29,7 +30,9 @@ fn address_at(alloc: Global, port: u16) -> Result<String, AllocError>
 /// # Errors
 ///
 /// The system's, where it cannot tell the port, and want of memory.
-pub fn own_address(alloc: Global, listener: &TcpListener) -> io::Result<String> {
+pub fn own_address(alloc: Global, listener: &TcpListener) -> io::Result<String>
+    ensures { IfOk result (λ text. IsAddress (string_bytes text)) }
+{
     let address = listener.local_addr()?;
     Ok(address_at(alloc, address.port())?)
 }

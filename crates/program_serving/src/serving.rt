@@ -1,5 +1,6 @@
 //! The clerk of a desk over a folder: what the words of a command line ask for is made of the open world, and what
 //! would be printed goes out as frames.
+ghost use Rattle.std.specs.Prelude.{⊤};
 ghost use Rattle.desk_http.specs.Connections.{IsServedBy};
 
 use crate::clerk_input::{Command, Heard, command_of};
@@ -38,6 +39,8 @@ impl<'a> FolderClerk<'a> {
 
 impl<'a> Clerk for FolderClerk<'a> {
     ghost key_of = { λ clerk. clerk.key.now };
+
+    ghost attends = { λ body held holds clerk next. ⊤ };
 
     fn key(&self) -> Option<&[u8]> {
         if self.key.is_empty() {

@@ -153,7 +153,7 @@ pub(crate) fn call_of(alloc: Global, question: &str, told: &mut Told) -> Result<
 }
 
 const CALLS: Table = Table(
-    91,
+    115,
     "# each beginning of a request
 cut 1 GET /nothing HTTP/1.1~~ => [BadRequest]
 cut 2 GET /nothing HTTP/1.1~~ => [BadRequest]
@@ -185,7 +185,7 @@ cut 0 GET /nothing HTTP/1.1~~ => [nothing]
 all ~^GET /packages HTTP/1.1~~ => [packages]
 all GET /packages HTTP/1.1^^ => [packages]
 all GET /packages HTTP/1.0~~ => [packages]
-all GET /packages?x=1?y HTTP/1.1~Host: desk~~ => [packages]
+all GET /packages?x=1?y HTTP/1.1~Accept: */*~~ => [packages]
 # a body of a GET is not looked at
 all GET /packages HTTP/1.1~Content-Length: x~Transfer-Encoding: chunked~~ => [packages]
 all GET /packages HTTP/2.0~~ => [BadRequest]
@@ -243,6 +243,31 @@ all GET /packages HTTP/1.1~Origin: http://127.0.0.1:8081~~ => [BadOrigin]
 all GET /packages HTTP/1.1~Origin: http://127.0.0.1:8080~Origin: http://127.0.0.1:8080~~ => [BadOrigin]
 all POST /requests HTTP/1.1~Origin: http://127.0.0.1:8080~Content-Length: 251~~@ => [the addition]
 all GET /packages HTTP/1.1~Referer: http://evil.example~~ => [packages]
+# nor does a page pass whose name was led to this machine; the machine's own names do, with any port
+all GET /packages HTTP/1.1~Host: 127.0.0.1:8080~~ => [packages]
+all GET /packages HTTP/1.1~Host: 127.0.0.1~~ => [packages]
+all GET /packages HTTP/1.1~host: localhost:9000~~ => [packages]
+all GET /packages HTTP/1.1~HOST: LOCALHOST~~ => [packages]
+all GET /packages HTTP/1.0~Host: localHost:~~ => [packages]
+all POST /requests HTTP/1.1~Host: localhost:8080~Content-Length: 251~~@ => [the addition]
+all GET /packages HTTP/1.1~X-Host: evil.example~~ => [packages]
+all POST /requests HTTP/1.1~Host: evil.example:8080~Content-Length: 251~~@ => [BadOrigin]
+all GET /nothing HTTP/1.1~Host: evil.example:8080~~ => [BadOrigin]
+all DELETE /packages HTTP/1.1~Host: evil.example~~ => [BadOrigin]
+all GET /receipts/x HTTP/1.0~Host: 10.0.0.1~~ => [BadOrigin]
+all GET /packages/x/manifest HTTP/1.1~Host: 127.0.0.1.evil.example~~ => [BadOrigin]
+all GET /packages HTTP/1.1~Host: localhost.evil.example:8080~~ => [BadOrigin]
+all GET /packages HTTP/1.1~Host: evil.localhost~~ => [BadOrigin]
+all GET /packages HTTP/1.1~Host: 127.0.0.1:80x~~ => [BadOrigin]
+all GET /packages HTTP/1.1~Host: 127.0.0.1:80:80~~ => [BadOrigin]
+all GET /packages HTTP/1.1~Host: 127.0.0.18080~~ => [BadOrigin]
+all GET /packages HTTP/1.1~Host: localhost@evil.example~~ => [BadOrigin]
+all GET /packages HTTP/1.1~Host: localhos~~ => [BadOrigin]
+all GET /packages HTTP/1.1~Host: :8080~~ => [BadOrigin]
+all GET /packages HTTP/1.1~Host:~~ => [BadOrigin]
+all GET /packages HTTP/1.1~Host: localhost~Host: localhost~~ => [BadOrigin]
+all GET /packages HTTP/1.1~Origin: http://127.0.0.1:8080~Host: evil.example~~ => [BadOrigin]
+all GET /packages HTTP/1.1~Origin: http://evil.example~Host: 127.0.0.1:8080~~ => [BadOrigin]
 # limits of heads
 repeated 64 GET /nothing HTTP/1.1~|a: b~|~ => [NoSuchPath]
 repeated 65 GET /nothing HTTP/1.1~|a: b~|~ => [BadRequest]
