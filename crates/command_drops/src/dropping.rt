@@ -1,7 +1,7 @@
 //! An item is dropped in a world.
-ghost use Rattle.std.specs.Prelude.{◌≡◌, IfOk, OnErr};
+ghost use Rattle.std.specs.Prelude.{◌≡◌, IfOk, OnErr, map};
 ghost use Rattle.command_plans.specs.Drops.{drop_commands};
-ghost use Rattle.command_plans.specs.Requests.{AreRequestsFor};
+ghost use Rattle.command_plans.specs.Requests.{AreRequestsFor, GivesEach, id_of};
 ghost use Rattle.command_drops.specs.Dropping.{IsDropped};
 
 use crate::holding::Holding;
@@ -32,8 +32,10 @@ fn requests_for<N: Identities>(
     holding: &Holding,
     identities: &mut N,
 ) -> Result<Vec<Request>, Fault>
-    ensures { IfOk result (λ requests. AreRequestsFor at.now
+    ensures asks { IfOk result (λ requests. AreRequestsFor at.now
         (drop_commands holding.now.holder id holding.now.links.items) requests.items) }
+    ensures gives { IfOk result (λ requests. GivesEach N.gives (map id_of requests.items)
+        identities.old identities.new) }
 {
     let links = holding.links.as_slice();
     match drop_requests(alloc, at, holding.holder, id, links, identities) {
@@ -44,7 +46,7 @@ fn requests_for<N: Identities>(
 }
 
 /// Drops an item which is held so, at this moment: its links are ended, and then it is deleted,
-/// each by a request of its own.
+/// each by a request of its own, under an identity of its own.
 ///
 /// # Errors
 ///
@@ -58,8 +60,8 @@ pub fn drop_held<S: Alter + Drop, H: Shelf<S>, N: Identities>(
     holding: &Holding,
     identities: &mut N,
 ) -> Result<Dropped, Fault>
-    ensures dropped { IfOk result (λ dropped. IsDropped S.Store at.now id holding.now world.old world.new dropped
-        (H.failures_of shelf.old) (H.failures_of shelf.new)) }
+    ensures dropped { IfOk result (λ dropped. IsDropped S.Store N.gives at.now id holding.now world.old world.new
+        identities.old identities.new dropped (H.failures_of shelf.old) (H.failures_of shelf.new)) }
     ensures undone { OnErr result (world.new ≡ world.old) }
 {
     let requests = requests_for(alloc, at, id, holding, identities)?;

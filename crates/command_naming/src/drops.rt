@@ -1,7 +1,7 @@
 //! An item that a word names is dropped.
-ghost use Rattle.std.specs.Prelude.{◌≡◌, IfOk, MatchResult};
+ghost use Rattle.std.specs.Prelude.{◌≡◌, IfOk, MatchResult, map};
 ghost use Rattle.command_plans.specs.Drops.{drop_commands};
-ghost use Rattle.command_plans.specs.Requests.{AreRequestsFor};
+ghost use Rattle.command_plans.specs.Requests.{AreRequestsFor, GivesEach, id_of};
 ghost use Rattle.command_requests.specs.Listing.{IsUntouched};
 ghost use Rattle.command_naming.specs.Drops.{DropsHeld, DropsItem, DropsNamed, may_drop};
 
@@ -59,8 +59,10 @@ fn plan_drop<N: Identities>(
     holding: &Holding,
     identities: &mut N,
 ) -> Result<Vec<Request>, Fault>
-    ensures { IfOk result (λ requests. AreRequestsFor at.now
+    ensures asks { IfOk result (λ requests. AreRequestsFor at.now
         (drop_commands holding.now.holder id holding.now.links.items) requests.items) }
+    ensures gives { IfOk result (λ requests. GivesEach N.gives (map id_of requests.items)
+        identities.old identities.new) }
 {
     let links = holding.links.as_slice();
     match drop_requests(alloc, at, holding.holder, id, links, identities) {
@@ -80,8 +82,9 @@ fn drop_so<S: Alter + Drop, H: Shelf<S>, N: Identities>(
     holding: Holding,
     identities: &mut N,
 ) -> Result<DropOutcome, Fault>
-    ensures { MatchResult result (λ outcome. DropsHeld S.Store dropping.now id holding world.old world.new outcome
-        (H.failures_of shelf.old) (H.failures_of shelf.new)) (λ fault. world.new ≡ world.old) }
+    ensures { MatchResult result (λ outcome. DropsHeld S.Store N.gives dropping.now id holding world.old world.new
+        identities.old identities.new outcome (H.failures_of shelf.old) (H.failures_of shelf.new))
+        (λ fault. world.new ≡ world.old) }
 {
     if !may_drop(dropping, &holding) {
         return Ok(DropOutcome::Linked(holding.links));
@@ -107,8 +110,9 @@ fn drop_item<S: Alter + Drop, H: Shelf<S>, N: Identities>(
     id: Uuid,
     identities: &mut N,
 ) -> Result<DropOutcome, Fault>
-    ensures { MatchResult result (λ outcome. DropsItem S.Store dropping.now id world.old world.new outcome
-        (H.failures_of shelf.old) (H.failures_of shelf.new)) (λ fault. IsUntouched S.Store world.old world.new) }
+    ensures { MatchResult result (λ outcome. DropsItem S.Store N.gives dropping.now id world.old world.new
+        identities.old identities.new outcome (H.failures_of shelf.old) (H.failures_of shelf.new))
+        (λ fault. IsUntouched S.Store world.old world.new) }
 {
     match holding_of(alloc, world, id) {
         Ok(Some(holding)) => {
@@ -135,8 +139,9 @@ pub fn drop_named<S: Alter + Drop, H: Shelf<S>, N: Identities>(
     dropping: &Dropping<'_>,
     identities: &mut N,
 ) -> Result<DropOutcome, Fault>
-    ensures { MatchResult result (λ outcome. DropsNamed S.Store dropping.now world.old world.new outcome
-        (H.failures_of shelf.old) (H.failures_of shelf.new)) (λ fault. IsUntouched S.Store world.old world.new) }
+    ensures { MatchResult result (λ outcome. DropsNamed S.Store N.gives dropping.now world.old world.new
+        identities.old identities.new outcome (H.failures_of shelf.old) (H.failures_of shelf.new))
+        (λ fault. IsUntouched S.Store world.old world.new) }
 {
     let found = match found_item(alloc, world, dropping.word) {
         Ok(found) => found,

@@ -55,7 +55,9 @@ fn add_to<S: Alter + Drop, H: Shelf<S>, N: Identities, F: Sheets>(
     sheets: &mut F,
     identities: &mut N,
 ) -> Result<(Counts, Result<(), AddFault>), Fault>
-    ensures { MatchResult result (λ it. AddsBeside S.Store target.now files.now world.old world.new it.0 it.1)
+    ensures { MatchResult result (λ it. AddsBeside S.Store N.gives F.gives target.now files.now
+        (record { world = world.old; ids = identities.old; sheets = sheets.old })
+        (record { world = world.new; ids = identities.new; sheets = sheets.new }) it.0 it.1)
         (λ fault. IsUntouched S.Store world.old world.new) }
 {
     match world.holdings(alloc, target.package) {
@@ -86,7 +88,9 @@ pub fn add_named<S: Alter + Drop, H: Shelf<S>, N: Identities, F: Sheets>(
     sheets: &mut F,
     identities: &mut N,
 ) -> Result<TreeOutcome, Fault>
-    ensures { MatchResult result (AddsNamed S.Store words.now files.now world.old world.new)
+    ensures { MatchResult result (AddsNamed S.Store N.gives F.gives words.now files.now
+        (record { world = world.old; ids = identities.old; sheets = sheets.old })
+        (record { world = world.new; ids = identities.new; sheets = sheets.new }))
         (λ fault. IsUntouched S.Store world.old world.new) }
 {
     let found = match found_package(alloc, world, words.package) {

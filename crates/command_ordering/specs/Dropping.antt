@@ -44,27 +44,29 @@ module _ {W : Type 0} (writer writer' : W) (before after : Option (List ℕ)) wh
       (replies_ending dropped.replies.items) ending
   TellsDrop (Err fault) ending = (ending ≡ stopped fault) × (writer' ≡ writer)
 
-module _ {S : Type 0} (g : Ghosts S) (d : Dropping) where
+module _ {S N : Type 0} (g : Ghosts S) (Gives : Option (List ℕ) → N → N → Type 0) (d : Dropping) where
   -- An item was dropped, or its requests were told, or it stays;
   -- where a store or memory gave out before, the world was only read.
-  pub record DropsIn {W : Type 0} (old new : Seen S) (writer writer' : W) (before after : Option (List ℕ))
-      (ending : Ending) (hint : Option Hint) : Type 0 where
+  pub record DropsIn {W : Type 0} (old new : Seen S) (ids ids' : N) (writer writer' : W)
+      (before after : Option (List ℕ)) (ending : Ending) (hint : Option Hint) : Type 0 where
     pub outcome : Result DropOutcome Fault
     -- how often the shelf had failed before and after
     pub faults : ℕ
     pub more : ℕ
-    pub made : MatchResult outcome (λ o. DropsNamed g d old new o faults more) (λ fault. IsUntouched g old new)
+    pub made : MatchResult outcome (λ o. DropsNamed g Gives d old new ids ids' o faults more)
+        (λ fault. IsUntouched g old new)
     pub told : TellsDrop writer writer' before after outcome ending
     pub hinted : hint ≡ drop_hint d outcome
 
   -- The same of a world that ended with it, and of which these stores are left.
-  abbrev pub EndsDrop : {W : Type 0} → Seen S → List (Held S) → W → W → Option (List ℕ)
+  abbrev pub EndsDrop : {W : Type 0} → Seen S → List (Held S) → N → N → W → W → Option (List ℕ)
       → Option (List ℕ)
       → Ending → Option Hint → Type 0
-  EndsDrop old stores writer writer' before after ending hint =
-      (new : Seen S) × (stores ≡ held g new) × DropsIn old new writer writer' before after ending hint
+  EndsDrop old stores ids ids' writer writer' before after ending hint =
+      (new : Seen S) × (stores ≡ held g new) × DropsIn old new ids ids' writer writer' before after ending hint
 
-  abbrev pub DropsFor : {W : Type 0} → W → W → Option (List ℕ) → Option (List ℕ) → Ending
+  abbrev pub DropsFor : {W : Type 0} → N → N → W → W → Option (List ℕ) → Option (List ℕ) → Ending
       → Option Hint → Type 0
-  DropsFor writer writer' before after ending hint =
-      OpensHinting g (λ old new. DropsIn old new writer writer' before after ending hint) writer writer' ending hint
+  DropsFor ids ids' writer writer' before after ending hint =
+      OpensHinting g (λ old new. DropsIn old new ids ids' writer writer' before after ending hint)
+      writer writer' ending hint

@@ -16,6 +16,7 @@ use Rattle.command_naming.specs.declared.trees.TreeOutcome.TheVariants as tree
 use Rattle.command_naming.specs.declared.trees.TreeWords.{TreeWords}
 use Rattle.command_requests.specs.Listing.{IsUntouched}
 use Rattle.command_searches.specs.Hints.{hint_of}
+use Rattle.command_trees.specs.Adding.{Work}
 use Rattle.command_trees.specs.declared.adding.AddFault.{AddFault}
 use Rattle.command_trees.specs.declared.adding.AddFault.TheVariants.{BadPlace, Failed, Refused, Unread}
 use Rattle.command_trees.specs.declared.adding.Counts.{Counts}
@@ -57,21 +58,26 @@ module _ {W : Type 0} (contents : W → Option (List ℕ)) where
   TellsTree writer writer' (Ok (tree.Added counts added)) ending = TellsAdded writer writer' counts added ending
   TellsTree writer writer' (Err fault) ending = (ending ≡ stopped fault) × (writer' ≡ writer)
 
-module _ {S : Type 0} (g : Ghosts S) (words : TreeWords) (files : List Place) {W : Type 0}
+module _ {S N F : Type 0} (g : Ghosts S) (Gives : Option (List ℕ) → N → N → Type 0)
+    (Reads : Place → Option (List ℕ) → F → F → Type 0) (words : TreeWords) (files : List Place) {W : Type 0}
     (contents : W → Option (List ℕ)) where
   -- The tiles were added, all or those before a fault; where a store or memory gave out before, the
   -- world was only read.
-  pub record PutsIn (old new : Seen S) (writer writer' : W) (ending : Ending) (hint : Option Hint) : Type 0 where
+  pub record PutsIn (old new : Work S N F) (writer writer' : W) (ending : Ending) (hint : Option Hint) :
+      Type 0 where
     pub outcome : Result TreeOutcome Fault
-    pub made : MatchResult outcome (AddsNamed g words files old new) (λ fault. IsUntouched g old new)
+    pub made : MatchResult outcome (AddsNamed g Gives Reads words files old new)
+        (λ fault. IsUntouched g old.world new.world)
     pub told : TellsTree contents writer writer' outcome ending
     pub hinted : hint ≡ tree_hint words outcome
 
   -- The same of a world that ended with it, and of which these stores are left.
-  abbrev pub EndsPut : Seen S → List (Held S) → W → W → Ending → Option Hint → Type 0
-  EndsPut old stores writer writer' ending hint =
-      (new : Seen S) × (stores ≡ held g new) × PutsIn old new writer writer' ending hint
+  abbrev pub EndsPut : Work S N F → List (Held S) → N → F → W → W → Ending → Option Hint → Type 0
+  EndsPut old stores ids sheets writer writer' ending hint =
+      (new : Seen S) × (stores ≡ held g new)
+      × PutsIn old (record { world = new; ids = ids; sheets = sheets }) writer writer' ending hint
 
-  abbrev pub PutsFor : W → W → Ending → Option Hint → Type 0
-  PutsFor writer writer' ending hint =
-      OpensHinting g (λ old new. PutsIn old new writer writer' ending hint) writer writer' ending hint
+  abbrev pub PutsFor : N → N → F → F → W → W → Ending → Option Hint → Type 0
+  PutsFor ids ids' sheets sheets' writer writer' ending hint =
+      OpensHinting g (λ old new. PutsIn (record { world = old; ids = ids; sheets = sheets })
+      (record { world = new; ids = ids'; sheets = sheets' }) writer writer' ending hint) writer writer' ending hint

@@ -131,8 +131,8 @@ pub fn drop_in<'t, S: Alter + Drop, H: Shelf<S>, N: Identities, W: Write>(
     identities: &mut N,
     writer: &mut W,
 ) -> (Ending, Option<Hint<'t>>)
-    ensures { DropsIn S.Store dropping.now world.old world.new writer.old writer.new
-        (W.contents writer.old) (W.contents writer.new) result.0 result.1 }
+    ensures { DropsIn S.Store N.gives dropping.now world.old world.new identities.old identities.new
+        writer.old writer.new (W.contents writer.old) (W.contents writer.new) result.0 result.1 }
 {
     let outcome = drop_named(alloc, world, shelf, dropping, identities);
     let hint = hint_after(dropping, &outcome);
@@ -149,8 +149,8 @@ fn drop_with<'t, S: Alter + Drop, H: Shelf<S>, N: Identities, W: Write>(
     identities: &mut N,
     writer: &mut W,
 ) -> (Ending, Option<Hint<'t>>, Vec<Connection<S>>)
-    ensures { EndsDrop S.Store dropping.now world result.2.items writer.old writer.new
-        (W.contents writer.old) (W.contents writer.new) result.0 result.1 }
+    ensures { EndsDrop S.Store N.gives dropping.now world result.2.items identities.old identities.new
+        writer.old writer.new (W.contents writer.old) (W.contents writer.new) result.0 result.1 }
 {
     let (ending, hint) = drop_in(alloc, &mut world, shelf, dropping, identities, writer);
     (ending, hint, world.into_stores())
@@ -164,8 +164,8 @@ pub fn drop_for<'t, N: Identities, W: Write>(
     identities: &mut N,
     writer: &mut W,
 ) -> (Ending, Option<Hint<'t>>)
-    ensures { DropsFor ⟦<FolderStore as Store>⟧ dropping.now writer.old writer.new
-        (W.contents writer.old) (W.contents writer.new) result.0 result.1 }
+    ensures { DropsFor ⟦<FolderStore as Store>⟧ N.gives dropping.now identities.old identities.new
+        writer.old writer.new (W.contents writer.old) (W.contents writer.new) result.0 result.1 }
 {
     match open_folder(rt, folder) {
         Ok(

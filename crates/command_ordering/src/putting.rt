@@ -114,8 +114,10 @@ pub fn put_tree_in<'t, S: Alter + Drop, H: Shelf<S>, N: Identities, F: Sheets, W
     identities: &mut N,
     writer: &mut W,
 ) -> (Ending, Option<Hint<'t>>)
-    ensures { PutsIn S.Store words.now files.now (W.contents) world.old world.new writer.old
-        writer.new result.0 result.1 }
+    ensures { PutsIn S.Store N.gives F.gives words.now files.now (W.contents)
+        (record { world = world.old; ids = identities.old; sheets = sheets.old })
+        (record { world = world.new; ids = identities.new; sheets = sheets.new })
+        writer.old writer.new result.0 result.1 }
 {
     let outcome = add_named(alloc, world, shelf, words, files, sheets, identities);
     let hint = hint_after(words, &outcome);
@@ -134,8 +136,9 @@ fn put_tree_with<'t, S: Alter + Drop, H: Shelf<S>, N: Identities, F: Sheets, W: 
     identities: &mut N,
     writer: &mut W,
 ) -> (Ending, Option<Hint<'t>>, Vec<Connection<S>>)
-    ensures { EndsPut S.Store words.now files.now (W.contents) world result.2.items writer.old
-        writer.new result.0 result.1 }
+    ensures { EndsPut S.Store N.gives F.gives words.now files.now (W.contents)
+        (record { world = world; ids = identities.old; sheets = sheets.old }) result.2.items
+        identities.new sheets.new writer.old writer.new result.0 result.1 }
 {
     let (ending, hint) = put_tree_in(
         alloc, &mut world, shelf, words, files, sheets, identities, writer,
@@ -153,8 +156,8 @@ pub fn put_tree_for<'t, N: Identities, F: Sheets, W: Write>(
     identities: &mut N,
     writer: &mut W,
 ) -> (Ending, Option<Hint<'t>>)
-    ensures { PutsFor ⟦<FolderStore as Store>⟧ words.now files.now (W.contents) writer.old
-        writer.new result.0 result.1 }
+    ensures { PutsFor ⟦<FolderStore as Store>⟧ N.gives F.gives words.now files.now (W.contents)
+        identities.old identities.new sheets.old sheets.new writer.old writer.new result.0 result.1 }
 {
     match open_folder(rt, folder) {
         Ok(

@@ -1,12 +1,12 @@
--- One more request behind others.
-use Rattle.std.proofs.Common.{◌≡◌, ◌∙◌, ◌<◌, ◌+◌, ◌++◌, ◌∷◌, [], ℕ, List, ap, sym}
+-- One more request behind others, and its identity behind theirs.
+use Rattle.std.proofs.Common.{◌≡◌, ◌∙◌, ◌<◌, ◌+◌, ◌++◌, ◌∷◌, [], ℕ, List, Option, Some, ap, refl, sym}
 use Rattle.std.proofs.Common.{subst, length, take, get_or, map}
 use Rattle.std.proofs.lemmas.List.{map-append, take_more}
 use Rattle.sheet_types.proofs.Every.{All-append}
 use Rattle.sheet_types.specs.declared.command.Command.{Command}
 use Rattle.sheet_types.specs.declared.command.Relation.{Relation}
 use Rattle.sheet_types.specs.declared.command.Request.{Request}
-use Rattle.command_plans.specs.Requests.{AreRequestsFor, command_of}
+use Rattle.command_plans.specs.Requests.{AreRequestsFor, GivesEach, command_of, id_of}
 
 pub asked_one : (at : List ℕ) (commands : List Command) (requests : List Request) (command : Command) (q : Request)
     → AreRequestsFor at commands requests → command_of q ≡ command → q.at ≡ at
@@ -32,3 +32,11 @@ pub asked_more : (at : List ℕ) (f : Relation → Command) (links : List Relati
 asked_more at f links i link requests q within item asked is now =
     subst (λ cs. AreRequestsFor at cs (requests ++ q ∷ [])) (map_taken f links i link within item)
     (asked_one at (map f (take i links)) requests (f link) q asked is now)
+
+module _ {N : Type 0} (Gives : Option (List ℕ) → N → N → Type 0) where
+  pub given_more : (requests : List Request) (q : Request) (old mid new : N)
+      → GivesEach Gives (map id_of requests) old mid → Gives (Some q.id) mid new
+      → GivesEach Gives (map id_of (requests ++ q ∷ [])) old new
+  given_more [] q old mid new same one = (new, subst (λ s. Gives (Some q.id) s new) same one, refl)
+  given_more (r ∷ requests) q old mid new (next, first, rest) one =
+      (next, first, given_more requests q next mid new rest one)

@@ -1,7 +1,7 @@
 //! The requests that drop an item.
 ghost use Rattle.std.specs.Prelude.{◌≡◌, IfOk, map};
 ghost use Rattle.command_plans.specs.Drops.{drop_commands, has_end, links_of, unlink};
-ghost use Rattle.command_plans.specs.Requests.{AreRequestsFor};
+ghost use Rattle.command_plans.specs.Requests.{AreRequestsFor, GivesEach, id_of};
 
 use crate::requests::{Identities, PlanFault, request_from};
 use sheet_types::command::{Command, Relation, Request};
@@ -53,7 +53,9 @@ fn unlink_requests<N: Identities>(
     links: &[Relation],
     identities: &mut N,
 ) -> Result<Vec<Request>, PlanFault>
-    ensures { IfOk result (λ requests. AreRequestsFor at.now (map (unlink holder) links.now) requests.items) }
+    ensures asks { IfOk result (λ requests. AreRequestsFor at.now (map (unlink holder) links.now) requests.items) }
+    ensures gives { IfOk result (λ requests. GivesEach N.gives (map id_of requests.items)
+        identities.old identities.new) }
 {
     let mut requests = Vec::new(alloc);
     for link in links {
@@ -64,7 +66,7 @@ fn unlink_requests<N: Identities>(
 }
 
 /// The requests that drop an item which has these links, all at this moment: each link is ended,
-/// and then the item is deleted.
+/// and then the item is deleted. Each request has the identity of a call of its own.
 ///
 /// # Errors
 ///
@@ -77,7 +79,9 @@ pub fn drop_requests<N: Identities>(
     links: &[Relation],
     identities: &mut N,
 ) -> Result<Vec<Request>, PlanFault>
-    ensures { IfOk result (λ requests. AreRequestsFor at.now (drop_commands holder id links.now) requests.items) }
+    ensures asks { IfOk result (λ requests. AreRequestsFor at.now (drop_commands holder id links.now) requests.items) }
+    ensures gives { IfOk result (λ requests. GivesEach N.gives (map id_of requests.items)
+        identities.old identities.new) }
 {
     let mut requests = unlink_requests(alloc, at, holder, links, identities)?;
     let command = Command::Delete {

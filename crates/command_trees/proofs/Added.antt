@@ -1,6 +1,6 @@
 -- One more file behind others.
 use Rattle.std.proofs.Common.{◌≡◌, ◌∙◌, ◌<◌, ◌≤◌, ◌+◌, ◌++◌, ◌∷◌, [], ℕ, suc}
-use Rattle.std.proofs.Common.{List, Bool, true, false, not, Ok, Err}
+use Rattle.std.proofs.Common.{List, Option, Bool, true, false, not, Ok, Err}
 use Rattle.std.proofs.Common.{ap, arith, cond, refl, sym, subst, length, take, drop, drop-cons, get_or}
 use Rattle.std.specs.Prelude.{count_by}
 use Rattle.std.proofs.lemmas.List.{take-append-drop, take_all, take_more}
@@ -10,7 +10,7 @@ use Rattle.sheet_types.specs.declared.command.Item.{Item}
 use Rattle.world.specs.Worlds.{Seen}
 use Rattle.command_plans.specs.Places.{IsPlaceOf}
 use Rattle.command_verbs.specs.declared.areas.Place.{Place}
-use Rattle.command_trees.specs.Adding.{AddsBytes, AddsFile, AddsFiles, AddsTile, AreAdded, AreCounted, is_there}
+use Rattle.command_trees.specs.Adding.{AddsBytes, AddsFile, AddsFiles, AddsTile, AreAdded, AreCounted, Work, is_there}
 use Rattle.command_trees.specs.declared.adding.AddFault.{AddFault}
 use Rattle.command_trees.specs.declared.adding.AddFault.TheVariants.{BadPlace, Failed, Refused, Unread}
 use Rattle.command_trees.specs.declared.adding.Counts.{Counts}
@@ -41,53 +41,59 @@ counted_old told added passed it =
 
 -- ---- files in turn
 
-module _ {S : Type 0} (g : Ghosts S) (t : Target) (items : List Item) where
-  pub added_more : (files : List Place) (told : List Bool) (old mid new : Seen S) (file : Place) (is_new : Bool)
-      → AreAdded g t items files told old mid → AddsFile g t items file mid new (Ok is_new)
-      → AreAdded g t items (files ++ file ∷ []) (told ++ is_new ∷ []) old new
-  added_more [] [] old mid new file is_new same step =
-      (new, subst (λ s. AddsFile g t items file s new (Ok is_new)) same step, refl)
-  added_more (f ∷ files) (b ∷ told) old mid new file is_new (next, first, rest) step =
-      (next, first, added_more files told next mid new file is_new rest step)
-  added_more [] (b ∷ told) old mid new file is_new none step = absurd none
-  added_more (f ∷ files) [] old mid new file is_new none step = absurd none
-
+module _ {S : Type 0} (g : Ghosts S) {N : Type 0} (Gives : Option (List ℕ) → N → N → Type 0) (t : Target)
+    (items : List Item) where
   -- a tile that was not added, of a file that lies there
-  pub not_added : (file place : Place) (bytes : List ℕ) (old new : Seen S) (fault : AddFault)
+  pub not_added : (file place : Place) (bytes : List ℕ) (old new : Seen S) (ids ids' : N) (fault : AddFault)
       → IsPlaceOf old.frame t.is_upward file place → is_there items place bytes ≡ false
-      → AddsTile g t place bytes old new (Err fault) → AddsBytes g t items file bytes old new (Err fault)
-  not_added file place bytes old new (Refused why) is not_there it = (place, is, not_there, it)
-  not_added file place bytes old new (Failed fault) is not_there it = it
-  not_added file place bytes old new BadPlace is not_there it = absurd it
-  not_added file place bytes old new Unread is not_there it = absurd it
+      → AddsTile g Gives t place bytes old new ids ids' (Err fault)
+      → AddsBytes g Gives t items file bytes old new ids ids' (Err fault)
+  not_added file place bytes old new ids ids' (Refused why) is not_there it = (place, is, not_there, it)
+  not_added file place bytes old new ids ids' (Failed fault) is not_there it = it
+  not_added file place bytes old new ids ids' BadPlace is not_there it = absurd it
+  not_added file place bytes old new ids ids' Unread is not_there it = absurd it
 
-  pub added_next : (files : List Place) (i : ℕ) (d : Place) (told : List Bool) (old mid new : Seen S) (is_new : Bool)
-      → i < length files
-      → AreAdded g t items (take i files) told old mid → AddsFile g t items (get_or files i d) mid new (Ok is_new)
-      → AreAdded g t items (take (i + 1) files) (told ++ is_new ∷ []) old new
-  added_next files i d told old mid new is_new within so_far step =
-      subst (λ fs. AreAdded g t items fs (told ++ is_new ∷ []) old new) (sym (take_more files i d within))
-      (added_more (take i files) told old mid new (get_or files i d) is_new so_far step)
+  module _ {F : Type 0} (Reads : Place → Option (List ℕ) → F → F → Type 0) where
+    pub added_more : (files : List Place) (told : List Bool) (old mid new : Work S N F) (file : Place)
+        (is_new : Bool) → AreAdded g Gives Reads t items files told old mid
+        → AddsFile g Gives Reads t items file mid new (Ok is_new)
+        → AreAdded g Gives Reads t items (files ++ file ∷ []) (told ++ is_new ∷ []) old new
+    added_more [] [] old mid new file is_new same step =
+        (new, subst (λ s. AddsFile g Gives Reads t items file s new (Ok is_new)) same step, refl)
+    added_more (f ∷ files) (b ∷ told) old mid new file is_new (next, first, rest) step =
+        (next, first, added_more files told next mid new file is_new rest step)
+    added_more [] (b ∷ told) old mid new file is_new none step = absurd none
+    added_more (f ∷ files) [] old mid new file is_new none step = absurd none
 
-  pub added_all : (files : List Place) (i : ℕ) (told : List Bool) (old new : Seen S) → length files ≤ i
-      → AreAdded g t items (take i files) told old new
-      → AreAdded g t items files told old new
-  added_all files i told old new beyond all = subst (λ fs. AreAdded g t items fs told old new)
-      (take_all i files beyond) all
+    pub added_next : (files : List Place) (i : ℕ) (d : Place) (told : List Bool) (old mid new : Work S N F)
+        (is_new : Bool) → i < length files
+        → AreAdded g Gives Reads t items (take i files) told old mid
+        → AddsFile g Gives Reads t items (get_or files i d) mid new (Ok is_new)
+        → AreAdded g Gives Reads t items (take (i + 1) files) (told ++ is_new ∷ []) old new
+    added_next files i d told old mid new is_new within so_far step =
+        subst (λ fs. AreAdded g Gives Reads t items fs (told ++ is_new ∷ []) old new)
+        (sym (take_more files i d within))
+        (added_more (take i files) told old mid new (get_or files i d) is_new so_far step)
 
-  pub stopped_at : (files : List Place) (i : ℕ) (d : Place) (told : List Bool) (counts : Counts)
-      (old mid new : Seen S) (fault : AddFault) → i < length files
-      → AreAdded g t items (take i files) told old mid → AreCounted told counts
-      → AddsFile g t items (get_or files i d) mid new (Err fault)
-      → AddsFiles g t items files old new counts (Err fault)
-  stopped_at files i d told counts old mid new fault within so_far counted step = (
-    told,
-    take i files,
-    drop (suc i) files,
-    get_or files i d,
-    mid,
-    sym (take-append-drop i files) ∙ ap (λ l. take i files ++ l) (drop-cons files i d within),
-    so_far,
-    counted,
-    step,
-  )
+    pub added_all : (files : List Place) (i : ℕ) (told : List Bool) (old new : Work S N F) → length files ≤ i
+        → AreAdded g Gives Reads t items (take i files) told old new
+        → AreAdded g Gives Reads t items files told old new
+    added_all files i told old new beyond all = subst (λ fs. AreAdded g Gives Reads t items fs told old new)
+        (take_all i files beyond) all
+
+    pub stopped_at : (files : List Place) (i : ℕ) (d : Place) (told : List Bool) (counts : Counts)
+        (old mid new : Work S N F) (fault : AddFault) → i < length files
+        → AreAdded g Gives Reads t items (take i files) told old mid → AreCounted told counts
+        → AddsFile g Gives Reads t items (get_or files i d) mid new (Err fault)
+        → AddsFiles g Gives Reads t items files old new counts (Err fault)
+    stopped_at files i d told counts old mid new fault within so_far counted step = (
+      told,
+      take i files,
+      drop (suc i) files,
+      get_or files i d,
+      mid,
+      sym (take-append-drop i files) ∙ ap (λ l. take i files ++ l) (drop-cons files i d within),
+      so_far,
+      counted,
+      step,
+    )

@@ -1,5 +1,7 @@
 //! The tiles of a tree, added one after the other.
-ghost use Rattle.std.specs.Prelude.{◌≡◌, ◌<◌, ◌+◌, ◌^◌, ◌++◌, ◌∷◌, [], Bool, List, IfOk};
+ghost use Rattle.std.specs.Prelude.{◌≡◌, ◌<◌, ◌+◌, ◌^◌, ◌++◌, ◌∷◌, [], ℕ, Bool, List};
+ghost use Rattle.std.specs.Prelude.{Option, Some, IfOk, option_map};
+ghost use Rattle.command_verbs.specs.declared.areas.Place.{Place};
 ghost use Rattle.command_trees.specs.Adding.{AddsBytes, AddsFile, AddsFiles, AddsTile, AreCounted, IsAddition};
 
 use command_plans::places::{is_there, place_of};
@@ -17,8 +19,14 @@ use world::world::World;
 
 /// Where the bytes of tiles come from.
 pub trait Sheets {
+    /// The file of this place was read once between these two states, and no other was. It had these
+    /// bytes, or it could not be read. Each source says what that is. Nothing is known of it but that
+    /// `bytes_of` does it. So who promises it of a place asked for the file of that place.
+    ghost gives: { Place → Option (List ℕ) → Self → Self → Type 0 };
+
     /// Those of the file of this place, where they can be read.
-    fn bytes_of(&mut self, file: &Place) -> Option<Vec<u8>>;
+    fn bytes_of(&mut self, file: &Place) -> Option<Vec<u8>>
+        ensures { gives file.now (option_map (λ v. v.items) result) self.old self.new };
 }
 
 /// Into which package tiles come, at which moment, and whether the rows of their files run upwards.
@@ -50,7 +58,9 @@ pub enum AddFault {
 }
 
 /// A new identity for an item.
-fn new_identity<N: Identities>(identities: &mut N) -> Result<Uuid, Fault> {
+fn new_identity<N: Identities>(identities: &mut N) -> Result<Uuid, Fault>
+    ensures { IfOk result (λ id. N.gives (Some id) identities.old identities.new) }
+{
     match identities.next_identity() {
         Some(identity) => Ok(identity),
         None => Err(Fault::StoreFault),
@@ -65,7 +75,7 @@ fn tile_request<N: Identities>(
     bytes: Vec<u8>,
     identities: &mut N,
 ) -> Result<Request, Fault>
-    ensures { IfOk result (IsAddition target.now place.now bytes.items) }
+    ensures { IfOk result (IsAddition N.gives target.now place.now bytes.items identities.old identities.new) }
 {
     let identity = new_identity(identities)?;
     let content = Content::Tile {
@@ -96,7 +106,8 @@ fn add_tile<S: Alter + Drop, H: Shelf<S>, N: Identities>(
     bytes: Vec<u8>,
     identities: &mut N,
 ) -> Result<(), AddFault>
-    ensures { AddsTile S.Store target.now place.now bytes.items world.old world.new result }
+    ensures { AddsTile S.Store N.gives target.now place.now bytes.items world.old world.new
+        identities.old identities.new result }
 {
     let request = match tile_request(alloc, target, place, bytes, identities) {
         Ok(request) => request,
@@ -119,7 +130,8 @@ pub fn add_bytes<S: Alter + Drop, H: Shelf<S>, N: Identities>(
     bytes: Vec<u8>,
     identities: &mut N,
 ) -> Result<bool, AddFault>
-    ensures { AddsBytes S.Store target.now items.now file.now bytes.items world.old world.new result }
+    ensures { AddsBytes S.Store N.gives target.now items.now file.now bytes.items world.old world.new
+        identities.old identities.new result }
 {
     if world.has_failed() {
         return Err(AddFault::Failed(Fault::StoreFault));
@@ -137,7 +149,7 @@ pub fn add_bytes<S: Alter + Drop, H: Shelf<S>, N: Identities>(
     }
 }
 
-/// The same of the bytes that its file has.
+/// The same of the bytes that its own file has, which is read once.
 fn add_file<S: Alter + Drop, H: Shelf<S>, N: Identities, F: Sheets>(
     alloc: Global,
     world: &mut World<S>,
@@ -148,7 +160,9 @@ fn add_file<S: Alter + Drop, H: Shelf<S>, N: Identities, F: Sheets>(
     sheets: &mut F,
     identities: &mut N,
 ) -> Result<bool, AddFault>
-    ensures { AddsFile S.Store target.now items.now file.now world.old world.new result }
+    ensures { AddsFile S.Store N.gives F.gives target.now items.now file.now
+        (record { world = world.old; ids = identities.old; sheets = sheets.old })
+        (record { world = world.new; ids = identities.new; sheets = sheets.new }) result }
 {
     let Some(bytes) = sheets.bytes_of(file) else {
         return Err(AddFault::Unread);
@@ -176,8 +190,9 @@ fn count_file(counts: Counts, is_new: bool) -> Counts
     }
 }
 
-/// Adds the tiles of files, in turn, to a package that held these items. Those that are there with
-/// the same content are passed over. What was done up to a fault stands, and is counted.
+/// Adds the tiles of files, in turn, to a package that held these items, each with the bytes of its own
+/// file. Those that are there with the same content are passed over. What was done up to a fault stands,
+/// and is counted.
 pub fn add_files<S: Alter + Drop, H: Shelf<S>, N: Identities, F: Sheets>(
     alloc: Global,
     world: &mut World<S>,
@@ -188,7 +203,9 @@ pub fn add_files<S: Alter + Drop, H: Shelf<S>, N: Identities, F: Sheets>(
     sheets: &mut F,
     identities: &mut N,
 ) -> (Counts, Result<(), AddFault>)
-    ensures { AddsFiles S.Store target.now items.now files.now world.old world.new result.0 result.1 }
+    ensures { AddsFiles S.Store N.gives F.gives target.now items.now files.now
+        (record { world = world.old; ids = identities.old; sheets = sheets.old })
+        (record { world = world.new; ids = identities.new; sheets = sheets.new }) result.0 result.1 }
 {
     let mut counts = Counts {
         added: 0,

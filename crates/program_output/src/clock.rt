@@ -1,4 +1,6 @@
 //! The moment of the clock, and new UUIDs. Nothing below the program asks for either.
+ghost use Rattle.std.specs.Prelude.{⊤};
+
 use command_plans::requests::Identities;
 use jiff_core::civil::Date;
 use std::alloc::{AllocError, Global};
@@ -80,6 +82,10 @@ pub struct NewIdentities<'r> {
 }
 
 impl<'r> Identities for NewIdentities<'r> {
+    // That the system gives none twice is in no clause. That each request has the UUID of a call of
+    // its own is proved over all sources.
+    ghost gives = { λ id old new. ⊤ };
+
     fn next_identity(&mut self) -> Option<Uuid> {
         match new_uuid(self.rt) {
             Ok(id) => Some(id),

@@ -1,4 +1,6 @@
 //! A tree of files `ZOOM/COLUMN/ROW.png`.
+ghost use Rattle.std.specs.Prelude.{⊤};
+
 use crate::tile_names::numbers_in;
 use command_folder::endings::Ending;
 use command_trees::adding::Sheets;
@@ -45,6 +47,10 @@ impl<'r, 't> Tree<'r, 't> {
 }
 
 impl<'r, 't> Sheets for Tree<'r, 't> {
+    // No clause can speak of the files of a folder. That each tile has the bytes of the call for its
+    // own place is proved over all sources.
+    ghost gives = { λ file bytes old new. ⊤ };
+
     fn bytes_of(&mut self, place: &Place) -> Option<Vec<u8>> {
         self.tell();
         match self.read(place) {

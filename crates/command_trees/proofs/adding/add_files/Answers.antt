@@ -12,9 +12,12 @@ loop-file-preserved g c =
     record {
       so_far = (
         so_far.0 ++ c.in-Ok.is_new ∷ [],
-        added_next g.S.Store c.args.target.now c.args.items.now c.args.files.now c.loop-file.file-index _ so_far.0
-            c.args.world.now c.loop-file.world c.add_file.new.world c.in-Ok.is_new
-            c.loop-file-test.true so_far.1 c.in-Ok.ensures,
+        added_next g.S.Store g.N.Identities.gives c.args.target.now c.args.items.now g.F.Sheets.gives c.args.files.now
+            c.loop-file.file-index _ so_far.0
+            (record { world = c.args.world.now; ids = c.args.identities.now; sheets = c.args.sheets.now })
+            (record { world = c.loop-file.world; ids = c.loop-file.identities; sheets = c.loop-file.sheets })
+            (record { world = c.add_file.new.world; ids = c.add_file.new.identities; sheets = c.add_file.new.sheets })
+            c.in-Ok.is_new c.loop-file-test.true so_far.1 c.in-Ok.ensures,
         c.count_file-counts.ensures.each so_far.0 so_far.2,
       );
       all = omega (arith, c.count_file-counts.ensures.one);
@@ -24,14 +27,21 @@ pub returns : goal.returns
 returns g c =
     let so_far = c.loop-file.invariant.so_far in (
       so_far.0,
-      added_all g.S.Store c.args.target.now c.args.items.now c.args.files.now c.loop-file.file-index so_far.0
-          c.args.world.now c.loop-file.world c.loop-file-test.false so_far.1,
+      added_all g.S.Store g.N.Identities.gives c.args.target.now c.args.items.now g.F.Sheets.gives c.args.files.now
+          c.loop-file.file-index so_far.0
+          (record { world = c.args.world.now; ids = c.args.identities.now; sheets = c.args.sheets.now })
+          (record { world = c.loop-file.world; ids = c.loop-file.identities; sheets = c.loop-file.sheets })
+          c.loop-file-test.false so_far.1,
       so_far.2,
     )
 
 pub returns-in-Err : goal.returns-in-Err
 returns-in-Err g c =
     let so_far = c.loop-file.invariant.so_far in
-    stopped_at g.S.Store c.args.target.now c.args.items.now c.args.files.now c.loop-file.file-index _ so_far.0
-    c.loop-file.counts c.args.world.now c.loop-file.world c.add_file.new.world c.in-Err.fault
+    stopped_at g.S.Store g.N.Identities.gives c.args.target.now c.args.items.now g.F.Sheets.gives c.args.files.now
+    c.loop-file.file-index _ so_far.0 c.loop-file.counts
+    (record { world = c.args.world.now; ids = c.args.identities.now; sheets = c.args.sheets.now })
+    (record { world = c.loop-file.world; ids = c.loop-file.identities; sheets = c.loop-file.sheets })
+    (record { world = c.add_file.new.world; ids = c.add_file.new.identities; sheets = c.add_file.new.sheets })
+    c.in-Err.fault
     c.loop-file-test.true so_far.1 so_far.2 c.in-Err.ensures
