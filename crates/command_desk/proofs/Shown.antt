@@ -58,25 +58,25 @@ module _ {S : Type 0} (g : Ghosts S) {W : Type 0} (writer writer' : W) (before a
       let same = shown how answer mid new failed fails ending is in
       told_by g old new (subst (λ seen. IsUntouched g old seen) (sym same) read)
 
-module _ {S : Type 0} (g : Ghosts S) (d : Dropping) where
+module _ {S N : Type 0} (g : Ghosts S) (Gives : Option (List ℕ) → N → N → Type 0) (d : Dropping) (ids ids' : N) where
   -- an item that is held so stays
   held_stays : (id : List ℕ) (h : Holding) (old new : Seen S) (outcome : DropOutcome) (failed fails : ℕ)
-      → DropsHeld g (as_shown d) id h old new outcome failed fails → new ≡ old
+      → DropsHeld g Gives (as_shown d) id h old new ids ids' outcome failed fails → new ≡ old
   held_stays id h old new (Unnamed fault found) failed fails is = absurd is
   held_stays id h old new (Linked links) failed fails (may, are, same) = same
-  held_stays id h old new (Planned requests) failed fails (may, due, are, same) = same
+  held_stays id h old new (Planned requests) failed fails (may, due, are, each, same) = same
   held_stays id h old new (Dropped dropped) failed fails (may, due, is) =
       let wrong : true ≡ false = due in absurd (cc)
 
   item_stays : (id : List ℕ) (old new : Seen S) (outcome : DropOutcome) (failed fails : ℕ)
-      → DropsItem g (as_shown d) id old new outcome failed fails → IsUntouched g old new
+      → DropsItem g Gives (as_shown d) id old new ids ids' outcome failed fails → IsUntouched g old new
   item_stays id old new outcome failed fails is =
       subst (λ seen. IsUntouched g old seen)
       (sym (held_stays id is.holding is.read new outcome failed fails is.made)) is.untouched
 
   -- one that a word names, if any
   found_stays : (found : Found) (old new : Seen S) (outcome : DropOutcome) (failed fails : ℕ)
-      → DropsFound g (as_shown d) found old new outcome failed fails → IsUntouched g old new
+      → DropsFound g Gives (as_shown d) found old new ids ids' outcome failed fails → IsUntouched g old new
   found_stays found old new (Unnamed fault told) failed fails (unnamed, are, same) = inl same
   found_stays found old new (Linked links) failed fails (id, named, is) =
       item_stays id old new (Linked links) failed fails is
@@ -86,7 +86,8 @@ module _ {S : Type 0} (g : Ghosts S) (d : Dropping) where
       item_stays id old new (Dropped dropped) failed fails is
 
   pub drop_served : (old new : Seen S) (outcome : Result DropOutcome Fault) (failed fails : ℕ)
-      → MatchResult outcome (λ o. DropsNamed g (as_shown d) old new o failed fails) (λ fault. IsUntouched g old new)
+      → MatchResult outcome (λ o. DropsNamed g Gives (as_shown d) old new ids ids' o failed fails)
+      (λ fault. IsUntouched g old new)
       → IsServedBy g 1 old new
   drop_served old new (Err fault) failed fails read = told_by g old new read
   drop_served old new (Ok outcome) failed fails is =

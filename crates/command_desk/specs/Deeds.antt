@@ -34,13 +34,13 @@ use Rattle.command_desk.specs.Carrying.{Carries}
 use Rattle.command_desk.specs.declared.deeds.Deed.{Deed}
 use Rattle.command_desk.specs.declared.deeds.Deed.TheVariants as deed
 
--- of the stores of a folder, which has so many, so many are of no live package
+-- How many stores of a folder are of no live package: `files` is the number of its stores, `strays` of those beside.
 abbrev pub AreStrays : {S : Type 0} → Ghosts S → Seen S → ℕ → ℕ → Type 0
 AreStrays g seen files strays = (w : World) → StandsFor g seen w → strays ≡ files - length w.packages
 
 module _ {S : Type 0} (g : Ghosts S) {W : Type 0} (old new : Seen S) (writer writer' : W)
     (before after : Option (List ℕ)) where
-  -- It was looked at, with the stores beside that a folder of so many has; or memory was wanting for their count.
+  -- It was looked at, and the look tells the strays among `files` stores; or memory was wanting to count them.
   abbrev pub ShowsLook : ℕ → Look → Ending → Type 0
   ShowsLook files it ending =
       ((strays : ℕ) × AreStrays g old files strays
@@ -83,7 +83,7 @@ module _ {S : Type 0} (g : Ghosts S) {W : Type 0} (old new : Seen S) (writer wri
   IsNamedLooked contents (Export word) ending hint =
       IsPackageLooked contents kind.Export word ending hint
 
-  -- What was done over these bytes of standard input, where the folder has so many stores.
+  -- What was done over these bytes of standard input. The folder has `files` stores.
   abbrev pub IsDone : (W → Option (List ℕ)) → ℕ → List ℕ → Deed → Ending → Option Hint → Type 0
   IsDone contents files input deed.Apply ending hint =
       (told : CommandEnding) × (ending ≡ Usual told) × (hint ≡ None)

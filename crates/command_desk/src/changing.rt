@@ -90,8 +90,9 @@ pub fn show_drop<'t, S: Alter + Drop, H: Shelf<S>, N: Identities, W: Write>(
     identities: &mut N,
     writer: &mut W,
 ) -> (Ending, Option<Hint<'t>>)
-    ensures drops { DropsIn S.Store (as_shown dropping.now) world.old world.new
-        writer.old writer.new (W.contents writer.old) (W.contents writer.new) result.0 result.1 }
+    ensures drops { DropsIn S.Store N.gives (as_shown dropping.now) world.old world.new
+        identities.old identities.new writer.old writer.new
+        (W.contents writer.old) (W.contents writer.new) result.0 result.1 }
     ensures served { IsServedBy S.Store 1 world.old world.new }
 {
     let shown = as_shown(dropping);

@@ -29,7 +29,7 @@ left_so : (db : Database) → IsDatabase db → (f : Frame) (p : Package) → Re
     → (trees ≡ db.trees) ⊎ WouldLeave Either db trees → ReadsAtEither f p trees
 left_so db sound f p reads trees (inl same) = subst (ReadsAtEither f p) (sym same) (db.schema, sound, reads)
 left_so db sound f p reads trees (inr (x, new, brings, same)) =
-    let it : Reads f p new × (IsDatabase db → IsDatabase new) = brings f p reads in
+    let it : Reads f p new × (IsDatabase db → IsDatabase new) × (Reads f p db → new ≡ db) = brings f p reads in
     subst (ReadsAtEither f p) (sym same) (new.schema, it.1 sound, inr it.0)
 
 module _ {S : Type 0} (g : Ghosts S) (shuts : Shuts g) (settles : Settles g) where

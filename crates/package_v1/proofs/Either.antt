@@ -1,5 +1,5 @@
 -- A store of either version comes to the second.
-use Rattle.std.proofs.Common.{inl, inr, Ok, Err, IsTrue, sym, ◌∙◌}
+use Rattle.std.proofs.Common.{inl, inr, Ok, Err, IsTrue, refl, sym, ◌∙◌}
 use Rattle.std.specs.Prelude.{IfOk}
 use Rattle.sqlite.specs.Tree.{Trees}
 use Rattle.sqlite.specs.Store.{Ghosts}
@@ -20,12 +20,13 @@ not_free : (f : Frame) (p : Package) (db : Database) → Reads f p db → AreFre
 not_free f p db reads free = let e = sym free.table.table ∙ reads.formed.rows_tiles.placed.has.named in cc
 
 brings_either : (old new : Database) → AreFree old.schema → Brings old new → BringsIfFirst old new
-brings_either old new free brings f p (inl first) = let it = brings f p first in (it.reads, λ _. it.sound)
+brings_either old new free brings f p (inl first) =
+    let it = brings f p first in (it.reads, λ _. it.sound, λ second. absurd (not_free f p old second free))
 brings_either old new free brings f p (inr second) = absurd (not_free f p old second free)
 
 stays_either : (db : Database) → (AreFree db.schema → ⊥) → BringsIfFirst db db
 stays_either db taken f p (inl first) = absurd (taken first.free)
-stays_either db taken f p (inr second) = (second, λ sound. sound)
+stays_either db taken f p (inr second) = (second, λ sound. sound, λ _. refl)
 
 abbrev First : Unit {0} → Database → Database → Type 0
 First _ = Brings

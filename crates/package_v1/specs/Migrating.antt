@@ -59,7 +59,8 @@ abbrev pub Brings : Database → Database → Type 0
 Brings old new = (f : Frame) (p : Package) → ReadsAtVersionOne f p old → IsBrought f p old new
 
 -- A store that reads as a package at either version reads as the same one at the second, and its trees still list its
--- schema.
+-- schema. One that was of the second version is as it was.
 abbrev pub BringsIfFirst : Database → Database → Type 0
 BringsIfFirst old new =
-    (f : Frame) (p : Package) → ReadsAtOne f p old → Reads f p new × (IsDatabase old → IsDatabase new)
+    (f : Frame) (p : Package) → ReadsAtOne f p old
+    → Reads f p new × (IsDatabase old → IsDatabase new) × (Reads f p old → new ≡ old)

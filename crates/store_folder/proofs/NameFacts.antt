@@ -1,19 +1,27 @@
 -- Names and the packages whose files they are.
 use Rattle.std.proofs.Common.{◌≡◌, ◌≢◌, inl, inr, refl, sym, ap, subst, ◌∙◌, ℕ, ◌+◌, ◌<◌}
 use Rattle.std.proofs.Common.{Bool, ◌||◌, List, [], ◌∷◌}
-use Rattle.std.proofs.Common.{◌++◌, length, map, take, get_or, Option, Some, None, IfSome}
-use Rattle.std.specs.Prelude.{Contains}
-use Rattle.std.specs.List.{list_any}
+use Rattle.std.proofs.Common.{◌++◌, length, length-append, map, take, get_or, Option, Some, None, IfSome, IfNone}
+use Rattle.std.specs.Prelude.{Contains, nat_eq}
+use Rattle.std.specs.Cmp.Lexicographic.{pointwise}
+use Rattle.std.specs.List.{dedup, list_any}
 use Rattle.std.specs.List.Sorted.{IsPermutation}
+use Rattle.std.proofs.lemmas.Bool.Decides.{Decides-eqb}
+use Rattle.std.proofs.lemmas.Cmp.{nat_list_eq_equiv}
 use Rattle.std.proofs.lemmas.List.Elements.{All-push, All-weaker, Contains-append_left, Contains-push}
 use Rattle.std.proofs.lemmas.List.Elements.{Contains-push_cases}
 use Rattle.std.proofs.lemmas.List.{map-append, take_more}
+use Rattle.std.proofs.lemmas.List.Filters.{All-dedup}
+use Rattle.std.proofs.lemmas.List.Kept.{Contains-dedup}
 use Rattle.std.proofs.lemmas.List.Sorted.{All-permutation, Contains-permutation}
+use Rattle.std.proofs.lemmas.Slice.Eq.{slice_eq-Decides}
+use Rattle.std.proofs.Math.Seq.{take-append_seam}
+use Rattle.uuid.proofs.TextLemmas.{by_index_length}
 use Rattle.uuid.specs.Text.{parsed}
 use Rattle.sheet_types.specs.Lines.{IsUuid}
 use Rattle.sheet_types.specs.Texts.{uuid_text}
 use Rattle.sheet_types.proofs.UuidTexts.{parsed_36, reads_own}
-use Rattle.store_folder.specs.Names.{file_name, HaveFiles}
+use Rattle.store_folder.specs.Names.{extension, file_name, HaveFiles}
 
 -- a text of 36 bytes that was read is the text of what was read alone
 pub reads_one : (text id other : List ℕ) → length text ≡ 36 → Some id ≡ parsed text → IsUuid other
@@ -26,6 +34,29 @@ pub some_so : {X : Type 0} (P Q : X → Type 0) → ((x : X) → P x → Q x) �
     → IfSome o Q
 some_so P Q follows (Some x) p = follows x p
 some_so P Q follows None p = tt
+
+pub some_both : {X : Type 0} (P Q R : X → Type 0) → ((x : X) → P x → Q x → R x) → (o : Option X) → IfSome o P
+    → IfSome o Q → IfSome o R
+some_both P Q R follows (Some x) p q = follows x p q
+some_both P Q R follows None p q = tt
+
+pub none_so : {X : Type 0} (P Q : Type 0) → (P → Q) → (o : Option X) → IfNone o P → IfNone o Q
+none_so P Q follows (Some x) p = tt
+none_so P Q follows None p = follows p
+
+-- the names of all packages' files are of one length
+file_length : (id : List ℕ) → length (file_name id) ≡ 36 + length extension
+file_length id = length-append (uuid_text id) extension ∙ ap (λ n. n + length extension) (by_index_length 36 _)
+
+front_same : (s t x y : List ℕ) → length s ≡ length t → s ++ x ≡ t ++ y → s ≡ t
+front_same s t x y long is =
+    sym (take-append_seam s x) ∙ ap (take (length s)) is ∙ ap (λ n. take n (t ++ y)) long ∙ take-append_seam t y
+
+-- so a name begins with one of them at most
+pub file_same : (id other x y : List ℕ) → file_name id ++ x ≡ file_name other ++ y
+    → file_name id ≡ file_name other
+file_same id other x y is =
+    front_same (file_name id) (file_name other) x y (file_length id ∙ sym (file_length other)) is
 
 pub list_any-map : {X Y : Type 0} (test : Y → Bool) (f : X → Y) (xs : List X)
     → list_any test (map f xs) ≡ list_any (λ x. test (f x)) xs
@@ -64,6 +95,16 @@ pub files_permuted : (names old new : List (List ℕ)) → IsPermutation old new
 files_permuted names old new moved it = record {
   there = All-permutation (λ id. Contains names (file_name id)) old new moved it.there;
   all = λ id fit there. Contains-permutation old new id moved (it.all id fit there);
+}
+
+-- without those that are there already
+pub files_once : (names packages : List (List ℕ)) → HaveFiles names packages
+    → HaveFiles names (dedup (pointwise nat_eq) packages)
+files_once names packages it = record {
+  there = All-dedup (pointwise nat_eq) (λ id. Contains names (file_name id)) packages it.there;
+  all = λ id fit there. Contains-dedup nat_list_eq_equiv
+      (λ x y same. (slice_eq-Decides Decides-eqb x y (pointwise nat_eq x y) refl).0 same) packages id
+      (it.all id fit there);
 }
 
 -- the first of a list, and one more

@@ -1,6 +1,7 @@
 -- Names of files in a folder of packages (profile).
-use Rattle.std.specs.Prelude.{ℕ, ◌==◌, Bool, List, ◌++◌, codes, nat_eq, All, Contains, IsSorted}
+use Rattle.std.specs.Prelude.{ℕ, ◌==◌, Bool, List, ◌++◌, codes, nat_eq, All, Contains}
 use Rattle.std.specs.List.{slice_split, ends_with}
+use Rattle.std.specs.List.Sorted.{IsStrictlySortedBy}
 use Rattle.std.specs.Ordering.{nat_cmp}
 use Rattle.std.specs.Cmp.Lexicographic.{slice_cmp}
 use Rattle.sheet_types.specs.Lines.{IsUuid}
@@ -34,7 +35,7 @@ pub record HaveFiles (names : List (List ℕ)) (packages : List (List ℕ)) : Ty
   pub there : All (λ uuid. Contains names (file_name uuid)) packages
   pub all : (uuid : List ℕ) → IsUuid uuid → Contains names (file_name uuid) → Contains packages uuid
 
--- the same, in the order of their UUIDs
+-- the same, in the order of their UUIDs, and none of them twice
 pub record ArePackagesIn (names : List (List ℕ)) (packages : List (List ℕ)) : Type 0 where
   pub files : HaveFiles names packages
-  pub sorted : IsSorted (slice_cmp nat_cmp) packages
+  pub rising : IsStrictlySortedBy (slice_cmp nat_cmp) packages

@@ -1,7 +1,13 @@
 //! What stands in a folder beside no package: logs without their database, and what was left of
 //! archives that were never whole.
-ghost use Rattle.std.specs.Prelude.{◌≡◌, ◌++◌, All, IfOk, IfSome, IsTrue, string_bytes};
-ghost use Rattle.store_folder.specs.Leftovers.{IsBeside, IsLeftover, IsLeftoverIn, MayPush};
+ghost use Rattle.std.specs.Prelude.{◌≡◌, ◌++◌, ℕ, List, All, Contains, IfNone, IfOk, IfSome};
+ghost use Rattle.std.specs.Prelude.{IsTrue, map};
+ghost use Rattle.std.specs.Prelude.{string_bytes};
+ghost use Rattle.std.specs.List.Sorted.{IsStrictlySortedBy};
+ghost use Rattle.std.specs.String.{string_cmp};
+ghost use Rattle.sheet_types.specs.Lines.{IsUuid};
+ghost use Rattle.store_folder.specs.Leftovers.{IsBeside, IsLeftover, IsLeftoverIn, IsNoneWith};
+ghost use Rattle.store_folder.specs.Leftovers.{IsOnly, IsToldIn, IsToldOf, MayPush, Tells};
 ghost use Rattle.store_folder.specs.Names.{file_name, names_in};
 
 use crate::fault::FolderFault;
@@ -13,7 +19,9 @@ use uuid::Uuid;
 
 /// The package of a name that begins as its file's does, and ends so.
 fn package_before(name: &[u8], end: &[u8]) -> Option<Uuid>
-    ensures { IfSome result (λ id. name.now ≡ file_name id ++ end.now) }
+    ensures some { IfSome result (λ id. name.now ≡ file_name id ++ end.now) }
+    ensures only { IfSome result (IsOnly name.now) }
+    ensures none { IfNone result (IsNoneWith name.now end.now) }
 {
     match name.strip_suffix(end) {
         Some(file) => package_of(file),
@@ -24,7 +32,9 @@ fn package_before(name: &[u8], end: &[u8]) -> Option<Uuid>
 /// The package beside whose file a file of this name stands: the log, the journal, and what is not
 /// whole yet, with its own.
 pub fn package_beside(name: &[u8]) -> Option<Uuid>
-    ensures { IfSome result (λ id. IsBeside id name.now) }
+    ensures some { IfSome result (λ id. IsBeside id name.now) }
+    ensures only { IfSome result (IsOnly name.now) }
+    ensures none { IfNone result ((id : List ℕ) → IsUuid id → ¬ IsBeside id name.now) }
 {
     package_before(name, b"-wal".as_slice())
         .or(package_before(name, b"-shm".as_slice()))
@@ -36,7 +46,9 @@ pub fn package_beside(name: &[u8]) -> Option<Uuid>
 
 /// Whether a name stands beside no package of these.
 fn is_leftover(name: &[u8], packages: &[Uuid]) -> bool
-    ensures { IsTrue result → IsLeftover packages.now name.now }
+    ensures left { IsTrue result → IsLeftover packages.now name.now }
+    ensures all { (id : List ℕ) → IsUuid id → IsBeside id name.now → ¬ Contains packages.now id
+        → IsTrue result }
 {
     match package_beside(name) {
         Some(package) => !packages.contains(&package),
@@ -54,13 +66,19 @@ fn push_text(alloc: Global, texts: &mut Vec<String>, name: &[u8]) -> Result<(), 
     Ok(())
 }
 
-/// The names that stand beside no package of these, as texts.
+/// Those of the names that stand beside no package of these, as texts.
 fn leftovers_among(
     alloc: Global,
     names: &[&[u8]],
     packages: &[Uuid],
 ) -> Result<Vec<String>, AllocError>
-    ensures { IfOk result (λ found. All (λ text. IsLeftover packages.now (string_bytes text)) found.items) }
+    ensures left { IfOk result (λ found.
+        All (λ text. IsLeftover packages.now (string_bytes text)) found.items) }
+    ensures there { IfOk result (λ found. All (λ text.
+        Contains (map (λ name. name.now) names.now) (string_bytes text)) found.items) }
+    ensures all { IfOk result (λ found. (name : List ℕ)
+        → Contains (map (λ name. name.now) names.now) name → IsToldOf packages.now name
+        → Tells found.items name) }
 {
     let mut found = Vec::new(alloc);
     for name in names {
@@ -71,19 +89,25 @@ fn leftovers_among(
     Ok(found)
 }
 
-/// The names of the files of a folder that stand beside no package, in their order; of the folder's
-/// bytes, in which each name is ended by a NUL. A name that is no UTF-8 is none of them.
+/// The names of the files of a folder that stand beside no package, each once, in their order; of
+/// the folder's bytes, in which each name is ended by a NUL. A name that is no UTF-8 is none of
+/// them.
 ///
 /// # Errors
 ///
 /// Want of memory.
 pub fn leftovers_in(alloc: Global, bytes: &[u8]) -> Result<Vec<String>, FolderFault>
-    ensures { IfOk result (λ found. All (λ text. IsLeftoverIn (names_in bytes.now) (string_bytes text)) found.items) }
+    ensures left { IfOk result (λ found.
+        All (λ text. IsLeftoverIn (names_in bytes.now) (string_bytes text)) found.items) }
+    ensures all { IfOk result (λ found. (name : List ℕ) → IsToldIn (names_in bytes.now) name
+        → Tells found.items name) }
+    ensures rising { IfOk result (λ found. IsStrictlySortedBy string_cmp found.items) }
 {
     let listing = listing_of(alloc, bytes)?;
     let names = names_in(alloc, bytes)?;
     let mut texts = leftovers_among(alloc, names.as_slice(), &listing.packages)?;
     texts.sort_unstable();
+    texts.dedup();
     Ok(texts)
 }
 

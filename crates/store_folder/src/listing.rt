@@ -13,7 +13,7 @@ use uuid::Uuid;
 /// What a folder holds, by the names of its files.
 #[derive(Drop)]
 pub struct Listing {
-    /// The packages that have a file there, in the order of their UUIDs.
+    /// The packages that have a file there, each once, in the order of their UUIDs.
     pub packages: Vec<Uuid>,
     /// Whether the name of any file ends in `.gpkg`, be it a package's or not.
     pub holds_packages: bool,

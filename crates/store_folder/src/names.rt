@@ -79,12 +79,13 @@ pub fn holds_packages(names: &[&[u8]]) -> bool
     names.iter().any(|name| is_package_file(name))
 }
 
-/// The packages that have a file among these names, in the order of their UUIDs.
+/// The packages that have a file among these names, each once, in the order of their UUIDs.
 pub fn packages_in(alloc: Global, names: &[&[u8]]) -> Result<Vec<Uuid>, AllocError>
     ensures { IfOk result (λ packages. ArePackagesIn (map (λ name. name.now) names.now) packages.items) }
 {
     let mut packages = packages_among(alloc, names)?;
     packages.sort_unstable();
+    packages.dedup();
     Ok(packages)
 }
 

@@ -1,7 +1,8 @@
 //! The store of a package, taken out of its folder.
-ghost use Rattle.std.specs.Prelude.{◌≡◌, ⊤, ℕ, List, nat_eq};
+ghost use Rattle.std.specs.Prelude.{◌≡◌, ⊤, ℕ, List, IfOk, map, nat_eq};
 ghost use Rattle.std.specs.List.{starts_with};
-ghost use Rattle.store_folder.specs.Removals.{RemovesBeside, RemovesIfBeside, RemovesWithBeside};
+ghost use Rattle.store_folder.specs.Removals.{RemovesAllBeside, RemovesBeside, RemovesIfBeside};
+ghost use Rattle.store_folder.specs.Removals.{RemovesWithAllBeside, RemovesWithBeside};
 
 use crate::fault::FolderFault;
 use crate::listing::folder_bytes;
@@ -78,13 +79,15 @@ fn remove_if_beside<F: RemoveFile>(
     Ok(())
 }
 
-/// Removes each file whose name begins with this one and is longer, and no other.
+/// Removes each of these files whose name begins with this one and is longer, and no other.
 pub fn remove_beside_each<F: RemoveFile>(
     files: &mut F,
     names: &[&[u8]],
     file: &str,
 ) -> Result<(), FolderFault>
-    ensures { RemovesBeside F.removes file.now files.old files.new }
+    ensures no_other { RemovesBeside F.removes file.now files.old files.new }
+    ensures all { IfOk result (λ _. RemovesAllBeside F.removes
+        (map (λ name. name.now) names.now) file.now files.old files.new) }
 {
     for name in names {
         remove_if_beside(files, name, file)?;
@@ -92,13 +95,16 @@ pub fn remove_beside_each<F: RemoveFile>(
     Ok(())
 }
 
-/// Removes the file of this name, and then each of these whose name begins with it and is longer, and no other.
+/// Removes the file of this name, and then each of these whose name begins with it and is longer,
+/// and no other.
 pub fn remove_with_beside<F: RemoveFile>(
     files: &mut F,
     names: &[&[u8]],
     file: &str,
 ) -> Result<(), FolderFault>
-    ensures { RemovesWithBeside F.removes file.now files.old files.new }
+    ensures no_other { RemovesWithBeside F.removes file.now files.old files.new }
+    ensures all { IfOk result (λ _. RemovesWithAllBeside F.removes
+        (map (λ name. name.now) names.now) file.now files.old files.new) }
 {
     files.remove_file(file.as_bytes())?;
     remove_beside_each(files, names, file)

@@ -14,7 +14,7 @@ use Rattle.package_tables.specs.declared.fault.Fault.TheVariants as fault
 use Rattle.store_sql.proofs.Transactions.{Shuts, Settles}
 use Rattle.sheet_types.specs.declared.refusal.Refusal.TheVariants.{StoreFault}
 use Rattle.world_members.proofs.Changing.{each_leaves}
-use Rattle.world_members.specs.Members.{AllRest, AllClean, AllOpen, AreMembers}
+use Rattle.world_members.specs.Members.{AllRest, AllClean, AllOpen, AllStay, AreMembers}
 use Rattle.world.specs.Creating.{HasRoomFor}
 use Rattle.world_known.specs.Known.{Knows}
 use Rattle.world_known.proofs.Remembering.{knows_more}
@@ -43,7 +43,8 @@ use Rattle.world_decisions.specs.Deciding.{child_asked}
 use Rattle.world.specs.Asked.{IsNewTo, IsHomeBy, IsNoPackage, IsStepWith, ServesChild, ServesWith, SettlesChild}
 use Rattle.world.specs.Asked.{UsesFor, child_returned}
 use Rattle.world.proofs.Asks.{asks_nothing, uses_asked, uses_weaker}
-use Rattle.world.specs.Worlds.{Seen, StandsFor, IsHeld, IsAccepted, IsStep, StandsStill, LeavesNoTrace, LeftAsItStands}
+use Rattle.world.specs.Worlds.{AddsNone, Seen, StandsFor, IsHeld, IsAccepted, IsStep, StandsStill}
+use Rattle.world.specs.Worlds.{LeavesNoTrace, LeftAsItStands}
 use Rattle.register_lending.specs.declared.turn_fault.TurnFault.TheVariants.{Before, Committing}
 use Rattle.world_members.specs.declared.members.Member.{Member}
 
@@ -106,6 +107,7 @@ module _ {S : Type 0} (g : Ghosts S) where
   step_unserved shuts settles q seen at_rest failed = record {
     gone = [];
     register = λ w stands. stands.members.register;
+    reads = λ no_fault. absurd (no_fault (inr refl));
     survive = λ refused. same_survive g seen.members;
     dropped = λ refused. refl;
     writes = none_written g (child_asked q.command) (child_returned q.command) seen.members seen.members
@@ -187,12 +189,14 @@ module _ {S : Type 0} (g : Ghosts S) where
     were_written = subst (λ ms. WritesTwoAtMost g (child_asked q.command) (child_returned q.command) ms new it.gone)
         (ap (λ s. s.members) seen) writes
 
-    -- a reply is a step
-    step_told : (reply : Result Receipt Refusal) → r ≡ Ok reply → (step : IsStep g q was reply now_seen)
-        × (step.gone ≡ it.gone)
-    step_told reply is = (
+    -- a reply is a step, where stores were only read unless it adds a receipt
+    step_told : (reply : Result Receipt Refusal) → r ≡ Ok reply → (AddsNone reply before after → AllStay g old new)
+        → (step : IsStep g q was reply now_seen) × (step.gone ≡ it.gone)
+    step_told reply is only_read = (
       record {
         gone = it.gone;
+        reads = λ no_fault none. subst (λ ms. AllStay g ms new) (ap (λ s. s.members) seen)
+            (only_read (subst (λ n. AddsNone reply n after) (sym (ap (λ s. s.count) seen)) none));
         writes = were_written;
         dropped = λ refused. it.dropped (subst HasNoReceipt (sym is) refused);
         survive = λ refused. were_there (it.survive (subst HasNoReceipt (sym is) refused));
@@ -217,8 +221,9 @@ module _ {S : Type 0} (g : Ghosts S) where
       refl,
     )
 
-    pub step_replied : (reply : Result Receipt Refusal) → r ≡ Ok reply → IsStep g q was reply now_seen
-    step_replied reply is = (step_told reply is).0
+    pub step_replied : (reply : Result Receipt Refusal) → r ≡ Ok reply
+        → (AddsNone reply before after → AllStay g old new) → IsStep g q was reply now_seen
+    step_replied reply is only_read = (step_told reply is only_read).0
 
     -- and so is a fault
     step_faulted : (e : ServeFault) → r ≡ Err e → (why : Refusal) → why ≡ told_refusal e
@@ -226,6 +231,7 @@ module _ {S : Type 0} (g : Ghosts S) where
     step_faulted e is why told = (
       record {
         gone = it.gone;
+        reads = λ no_fault. absurd (no_fault (told_as_fault e why told));
         writes = were_written;
         dropped = λ refused. it.dropped (subst HasNoReceipt (sym is) tt);
         survive = λ refused. were_there (it.survive (subst HasNoReceipt (sym is) tt));
@@ -278,9 +284,10 @@ module _ {S : Type 0} (g : Ghosts S) where
       }
 
       pub replied_with : (reply : Result Receipt Refusal) → r ≡ Ok reply
+          → (AddsNone reply before after → AllStay g old new)
           → SettlesChild g Asks Takes Fails (child_asked q.command) was reply now_seen s t
           → IsStepWith g Asks Takes Fails q was reply now_seen s t
-      replied_with reply is settled = step_with reply (step_told reply is) settled
+      replied_with reply is only_read settled = step_with reply (step_told reply is only_read) settled
 
       pub failed_with : (e : ServeFault) → r ≡ Err e → (why : Refusal) → why ≡ told_refusal e
           → SettlesChild g Asks Takes Fails (child_asked q.command) was (Err why) now_seen s t

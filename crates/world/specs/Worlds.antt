@@ -1,7 +1,7 @@
 -- What a clause sees of a value of `World`, and the world of the model that it stands for. Profile.
 use Rattle.std.specs.Prelude.{◌≡◌, ◌⊎◌, ◌≤◌, ℕ, ℤ, Bool, true, false, List, [], ◌∷◌}
 use Rattle.std.specs.Prelude.{◌++◌, map, Option, None, Result}
-use Rattle.std.specs.Prelude.{Err, IsTrue, IsOk, IfOk, IsErr, refl}
+use Rattle.std.specs.Prelude.{Ok, Err, IsTrue, IsOk, IfOk, IsErr, refl}
 use Rattle.std.specs.List.{AllByRecursion}
 use Rattle.std.specs.Coded.{Coded, code_by, coded×, coded_bool, coded_list, coded_option, coded_ℕ, coded_ℤ}
 use Rattle.sqlite.specs.Store.{Ghosts}
@@ -161,6 +161,11 @@ RunsOverRegisters w (q ∷ qs) (reply ∷ replies) next = IsRegister w
 RunsOverRegisters w [] (reply ∷ replies) next = ⊥
 RunsOverRegisters w (q ∷ qs) [] next = ⊥
 
+-- A reply that adds no receipt: a refusal, or a receipt that was there before, as the count of all receipts stays.
+abbrev pub AddsNone : Result Receipt Refusal → ℕ → ℕ → Type 0
+AddsNone (Ok receipt) before after = after ≡ before
+AddsNone (Err why) before after = Unit {0}
+
 module _ {S : Type 0} (g : Ghosts S) where
   -- Its frame is that of the world, its members are the world's packages, and it knows what the world's receipts name.
   pub record StandsFor (seen : Seen S) (w : World) : Type 0 where
@@ -212,6 +217,8 @@ module _ {S : Type 0} (g : Ghosts S) where
     pub register : (w : World) → StandsFor new w → IsRegister w
     -- After a refusal or a fault nothing but a failure of its disk has shut a store that was open.
     pub survive : IsErr reply → AllSurvive g old.members new.members
+    -- After a refusal, and after a request that came again, no store was written to: all were only read.
+    pub reads : ¬ IsFault reply → AddsNone reply old.count new.count → AllStay g old.members new.members
     -- At most two stores were written to. No member left, and no connection, but that of the package that a merge takes
     -- home, where a receipt is the reply; none came but that of the package that a split makes.
     pub writes : WritesTwoAtMost g (child_asked q.command) (child_returned q.command) old.members new.members gone

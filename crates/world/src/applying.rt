@@ -1,11 +1,11 @@
 //! One request over the members of a world: what it comes to is decided, and where a change is due it is carried out.
-ghost use Rattle.std.specs.Prelude.{◌≡◌, ℕ, ◌≤◌, ◌<◌, ◌+◌, [], IsTrue, OnOk, IfSome, None, Some};
+ghost use Rattle.std.specs.Prelude.{◌≡◌, ℕ, ◌≤◌, ◌<◌, ◌+◌, [], IsTrue, IfOk, OnOk, IfSome, None, Some};
 ghost use Rattle.std.specs.Prelude.{length, vec_len};
 ghost use Rattle.std.specs.Prelude.{vec_capacity};
 ghost use Rattle.sheet_types.specs.Matrix.{is_good_frame};
 ghost use Rattle.sheet_types.specs.Refuse.{greatest_receipts};
 ghost use Rattle.world_decisions.specs.Deciding.{HasPlace, child_asked};
-ghost use Rattle.world_members.specs.Members.{AllRest, AllClean, AllOpen};
+ghost use Rattle.world_members.specs.Members.{AllRest, AllClean, AllOpen, AllStay};
 ghost use Rattle.world_changes.specs.Carries.{Carries, ServesAll, OfEachDue, OfEachSeen};
 ghost use Rattle.world_changes.specs.Leaving.{IsChildBeside};
 ghost use Rattle.world_changes.specs.Writing.{WritesTwoAtMost};
@@ -13,6 +13,7 @@ ghost use Rattle.world.specs.Creating.{HasRoomFor};
 ghost use Rattle.world_loans.specs.Loans.{HasLendingPlace, HasReturnPlace, IsLent, IsReturned};
 ghost use Rattle.world_loans.specs.ServeFaults.{CountsShelf};
 ghost use Rattle.world.specs.Changes.{Changes};
+ghost use Rattle.world.specs.Worlds.{AddsNone};
 ghost use Rattle.world.specs.Asked.{ComeHome, HasUuidAt, IsNoPackage, ServesChild, ServesWith, UsesChild};
 ghost use Rattle.world.specs.Asked.{child_returned};
 ghost use Rattle.world_decisions.specs.declared.deciding.Decision.TheVariants.{ChangeDue};
@@ -181,6 +182,8 @@ pub(crate) fn serve<S: Alter + Drop, H: Shelf<S>>(
         count.old
         (λ w. AllOpen S.Store members.old.items → IsChildBeside w.frame w.packages child trees))
         strays.new.items result shelf.old shelf.new }
+    ensures reads { IfOk result (λ reply. AddsNone reply count.old count.new
+        → AllStay S.Store members.old.items members.new.items) }
     ensures room { HasRoomFor members.new.items strays.new }
     ensures shelf { CountsShelf result (H.failures_of shelf.old) (H.failures_of shelf.new) }
 {

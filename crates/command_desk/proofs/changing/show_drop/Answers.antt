@@ -8,4 +8,5 @@ returns-clause-drops g c = rw c.as_shown-shown.ensures at c.drop_in.ensures
 pub returns-clause-served : goal.returns-clause-served
 returns-clause-served g c =
     let is = rw c.as_shown-shown.ensures at c.drop_in.ensures in
-    drop_served g.S.Store c.args.dropping.now c.args.world.now c.drop_in.new.world is.outcome is.faults is.more is.made
+    drop_served g.S.Store g.N.Identities.gives c.args.dropping.now c.args.identities.now c.drop_in.new.identities
+    c.args.world.now c.drop_in.new.world is.outcome is.faults is.more is.made

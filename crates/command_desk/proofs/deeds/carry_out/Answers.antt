@@ -40,8 +40,9 @@ returns-in-Order-clause-done g c = rw c.in-Order.is (c.hint_order_in-told.result
 
 pub returns-in-Order-clause-served : goal.returns-in-Order-clause-served
 returns-in-Order-clause-served g c =
-    done_served g.S.Store c.hint_order_in-told.new.writer (g.W.Write.contents c.hint_order_in-told.new.writer) g.W.Write.contents
-    c.args.world.now c.hint_order_in-told.new.world c.args.writer.now (g.W.Write.contents c.args.writer.now)
+    done_served g.S.Store c.hint_order_in-told.new.writer (g.W.Write.contents c.hint_order_in-told.new.writer)
+    g.W.Write.contents c.args.world.now c.hint_order_in-told.new.world c.args.writer.now
+    (g.W.Write.contents c.args.writer.now)
     c.args.files c.args.input.now (deed.Order c.in-Order.order c.in-Order.purpose) _ _
     (c.hint_order_in-told.result.0, refl, c.hint_order_in-told.ensures)
 
@@ -50,8 +51,9 @@ returns-in-LendBox-clause-done g c = rw c.in-LendBox.is (c.lend_box_in-told.resu
 
 pub returns-in-LendBox-clause-served : goal.returns-in-LendBox-clause-served
 returns-in-LendBox-clause-served g c =
-    done_served g.S.Store c.lend_box_in-told.new.writer (g.W.Write.contents c.lend_box_in-told.new.writer) g.W.Write.contents
-    c.args.world.now c.lend_box_in-told.new.world c.args.writer.now (g.W.Write.contents c.args.writer.now)
+    done_served g.S.Store c.lend_box_in-told.new.writer (g.W.Write.contents c.lend_box_in-told.new.writer)
+    g.W.Write.contents c.args.world.now c.lend_box_in-told.new.world c.args.writer.now
+    (g.W.Write.contents c.args.writer.now)
     c.args.files c.args.input.now (deed.LendBox c.in-LendBox.boxed c.in-LendBox.purpose) _ _
     (c.lend_box_in-told.result.0, refl, c.lend_box_in-told.ensures)
 

@@ -13,4 +13,4 @@ take_leftover_each-requires g c =
     (All-weaker (λ t. IsLeftoverIn (names_in c.in_ok-bytes.bytes.items) (string_bytes t))
     (λ t. IsLeftoverFile g.Y.Yard.listed g.Y.Yard.shown g.Y.Yard.removes (string_bytes t))
     (λ t left. (c.in_ok-bytes.bytes.items, c.in_ok-bytes.ensures, left)) c.in_ok-found.found.items
-    (rw c.deref.ensures.value at c.in_ok-found.ensures))
+    (rw c.deref.ensures.value at c.in_ok-found.ensures.left))

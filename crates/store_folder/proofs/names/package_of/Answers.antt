@@ -1,16 +1,12 @@
 -- A name with the extension is the text before it and the extension.
-use Rattle.std.proofs.Common.{◌≡◌, ◌++◌, ap, sym, ◌∙◌, List, ℕ, Option, Some, None, IfNone}
+use Rattle.std.proofs.Common.{◌≡◌, ◌++◌, ap, sym, ◌∙◌, List, ℕ, Some}
 use Rattle.std.proofs.lemmas.Bool.Decides.{Decides-eqb}
 use Rattle.std.proofs.lemmas.List.{append_cancel_right}
 use Rattle.std.proofs.lemmas.Slice.Eq.{strip_suffix_is}
 use Rattle.sheet_types.specs.Texts.{uuid_text}
 use Rattle.store_folder.specs.Names.{extension, file_name}
-use Rattle.store_folder.proofs.NameFacts.{some_so}
+use Rattle.store_folder.proofs.NameFacts.{none_so, some_so}
 use Rattle.store_folder.proofs.names.package_of.Goals as goal
-
-none_so : {X : Type 0} (P Q : Type 0) → (P → Q) → (o : Option X) → IfNone o P → IfNone o Q
-none_so P Q follows (Some x) p = tt
-none_so P Q follows None p = follows p
 
 -- what stands before the extension
 before : (name text other : List ℕ) → name ≡ text ++ extension → name ≡ file_name other

@@ -1,5 +1,5 @@
 -- What was decided, and where something was due what became of it.
-use Rattle.std.proofs.Common.{◌∙◌, refl, sym, ap, subst, arith, [], Result, Ok, None, Some}
+use Rattle.std.proofs.Common.{◌≡◌, ◌∙◌, refl, sym, ap, subst, arith, [], Result, IfOk, Ok, Err, None, Some}
 use Rattle.sheet_types.specs.declared.receipt.Receipt.{Receipt}
 use Rattle.sheet_types.specs.declared.refusal.Refusal.{Refusal}
 use Rattle.world_changes.specs.Carries.{ServesAll, OfEachSeen}
@@ -8,6 +8,7 @@ use Rattle.world.specs.Asked.{IsNoPackage, ServesChild, child_returned}
 use Rattle.world_changes.specs.Leaving.{IsChildBeside}
 use Rattle.world_decisions.specs.Deciding.{HasPlace, IsNoted}
 use Rattle.register_lending.specs.declared.turn_fault.TurnFault.TheVariants.{Before}
+use Rattle.world_loans.specs.declared.loans.ServeFault.{ServeFault}
 use Rattle.world_loans.specs.declared.loans.ServeFault.TheVariants.{Turn}
 use Rattle.world_decisions.specs.Deciding.{child_asked, Makes}
 use Rattle.world.proofs.Asks.{asks_due}
@@ -81,6 +82,46 @@ returns-in_ok-receipt-in-ChangeDue-clause-serves g c =
     (one_written g.S.Store (child_asked c.args.request.now.command) (child_returned c.args.request.now.command)
     c.args.members.now.items c.decide_and_note.new.members.items c.decide_and_note.ensures.asks.stay
     c.carry_out_change.new.members.items c.in_ok-receipt-in-ChangeDue.ensures.changes.others)
+
+-- ---- what was only read
+
+-- of a fault nothing is said of a reply
+unreplied : (Fact : Result Receipt Refusal → Type 0) (r : Result (Result Receipt Refusal) ServeFault) (e : ServeFault)
+    → r ≡ Err e → IfOk r Fact
+unreplied Fact r e told = subst (λ x. IfOk x Fact) (sym told) tt
+
+pub returns-in_err-reply-clause-reads : goal.returns-in_err-reply-clause-reads
+returns-in_err-reply-clause-reads g c = unreplied _ _ _ (turned_into _ _ c.from_residual.ensures.1)
+
+pub returns-in_err-receipt-in-ChangeDue-clause-reads : goal.returns-in_err-receipt-in-ChangeDue-clause-reads
+returns-in_err-receipt-in-ChangeDue-clause-reads g c =
+    unreplied _ _ _ (turned_into _ _ c.from_residual-in_err-receipt-in-ChangeDue.ensures.1)
+
+pub returns-in_err-receipt-in-SplitDue-clause-reads : goal.returns-in_err-receipt-in-SplitDue-clause-reads
+returns-in_err-receipt-in-SplitDue-clause-reads g c =
+    unreplied _ _ _ (turned_into _ _ c.from_residual-in_err-receipt-in-SplitDue.ensures.1)
+
+pub returns-in_err-receipt-in-MergeDue-clause-reads : goal.returns-in_err-receipt-in-MergeDue-clause-reads
+returns-in_err-receipt-in-MergeDue-clause-reads g c =
+    unreplied _ _ _ (turned_into _ _ c.from_residual-in_err-receipt-in-MergeDue.ensures.1)
+
+pub returns-in-Answered-clause-reads : goal.returns-in-Answered-clause-reads
+returns-in-Answered-clause-reads g c = λ none. c.decide_and_note.ensures.asks.stay
+
+pub returns-in_ok-receipt-in-ChangeDue-clause-reads : goal.returns-in_ok-receipt-in-ChangeDue-clause-reads
+returns-in_ok-receipt-in-ChangeDue-clause-reads g c = λ none. absurd
+    (let more = (c.in_ok-receipt-in-ChangeDue.ensures.changes.ok c.in_ok-receipt-in-ChangeDue.receipt refl).1 in
+    omega (arith, more, none))
+
+pub returns-in_ok-receipt-in-SplitDue-clause-reads : goal.returns-in_ok-receipt-in-SplitDue-clause-reads
+returns-in_ok-receipt-in-SplitDue-clause-reads g c = λ none. absurd
+    (let more = (c.in_ok-receipt-in-SplitDue.ensures.carries.0.ok c.in_ok-receipt-in-SplitDue.receipt refl).1 in
+    omega (arith, more, none))
+
+pub returns-in_ok-receipt-in-MergeDue-clause-reads : goal.returns-in_ok-receipt-in-MergeDue-clause-reads
+returns-in_ok-receipt-in-MergeDue-clause-reads g c = λ none. absurd
+    (let more = (c.in_ok-receipt-in-MergeDue.ensures.carries.0.ok c.in_ok-receipt-in-MergeDue.receipt refl).1 in
+    omega (arith, more, none))
 
 pub returns-in_err-receipt-in-ChangeDue-clause-room : goal.returns-in_err-receipt-in-ChangeDue-clause-room
 returns-in_err-receipt-in-ChangeDue-clause-room g c =

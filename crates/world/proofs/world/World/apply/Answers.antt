@@ -24,7 +24,7 @@ invariant_of-self g c = (
       c.serve.ensures.serves.0.rests c.serve.ensures.serves.0.stray_rests
       (λ usable. c.serve.ensures.serves.0.none c.in-Ok.reply c.in-Ok.is) c.serve.ensures.serves.0.counted
       (step_replied g.S.Store _ _ _ _ _ _ _ _ _ _ c.serve.ensures.serves.0 c.serve.ensures.serves.2 _ _ _ _ refl
-      c.in-Ok.reply c.in-Ok.is),
+      c.in-Ok.reply c.in-Ok.is c.in-Ok.ensures.reads),
   c.serve.ensures.room,
 )
 
@@ -44,7 +44,7 @@ pub returns-in-Ok-clause-uses : goal.returns-in-Ok-clause-uses
 returns-in-Ok-clause-uses g c = replied_with g.S.Store _ _ _ _ _ _ _ _ _ _ c.serve.ensures.serves.0
     c.serve.ensures.serves.2 c.self.inside.has_failed c.is_store_fault-self-inside.result _ _ c.self.view_is
     g.H.Shelf.asks g.H.Shelf.takes g.H.Shelf.failures_of c.args.shelf.now c.serve.new.shelf c.serve.ensures.serves.1
-    c.in-Ok.reply c.in-Ok.is
+    c.in-Ok.reply c.in-Ok.is c.in-Ok.ensures.reads
     (settled_replied g.S.Store _ _ _ _ _ _ _ _ _ _ c.serve.ensures.serves.0 c.serve.ensures.serves.2
     c.self.inside.has_failed c.is_store_fault-self-inside.result _ _ c.self.view_is g.H.Shelf.asks g.H.Shelf.takes
     g.H.Shelf.failures_of c.args.shelf.now c.serve.new.shelf (child_asked c.args.request.now.command)
@@ -53,7 +53,7 @@ returns-in-Ok-clause-uses g c = replied_with g.S.Store _ _ _ _ _ _ _ _ _ _ c.ser
 pub returns-in-Ok-clause-step : goal.returns-in-Ok-clause-step
 returns-in-Ok-clause-step g c = step_replied g.S.Store _ _ _ _ _ _ _ _ _ _ c.serve.ensures.serves.0
     c.serve.ensures.serves.2 c.self.inside.has_failed c.is_store_fault-self-inside.result _ _ c.self.view_is
-    c.in-Ok.reply c.in-Ok.is
+    c.in-Ok.reply c.in-Ok.is c.in-Ok.ensures.reads
 
 pub returns-in-Err-clause-step : goal.returns-in-Err-clause-step
 returns-in-Err-clause-step g c = step_failed g.S.Store _ _ _ _ _ _ _ _ _ _ c.serve.ensures.serves.0
