@@ -1,11 +1,11 @@
-// What is asked of the tables of a package at rest: any statement's rows, and the look-ups that no
-// command of the program makes.
+// What is asked of the tables of a package at rest: any statement's rows, and look-ups by number, by
+// place and by span.
 
 use crate::lines::Line;
-use package_tables::attributes::{attributes_within, has_attribute};
+use package_tables::attributes::{attribute_by_id, attribute_ids_within};
 use package_tables::fault::Fault;
-use package_tables::media::has_medium;
-use package_tables::tiles::{has_tile, tile_at, tiles_between};
+use package_tables::media::medium_by_id;
+use package_tables::tiles::{has_tile_at, tile_by_id, tile_ids_between};
 use sqlite::{Alter, Connection, Error};
 use std::alloc::{AllocError, Global};
 use store_sql::forms::is_inert;
@@ -44,18 +44,18 @@ pub(crate) fn asked<S: Alter>(
     at_rest(conn)?;
     let n = line.n;
     match line.kind {
-        "tile_at" => answered(a, tile_at(conn, n[0], n[1], n[2])?.is_some()),
+        "tile_at" => answered(a, has_tile_at(conn, n[0], n[1], n[2])?),
         "tiles_between" => {
-            let tiles = tiles_between(conn, a, n[0], n[1], n[2], n[3], n[4])?;
+            let tiles = tile_ids_between(conn, a, n[0], n[1], n[2], n[3], n[4])?;
             Ok(counted(a, tiles.len())?)
         }
         "rows_within" => {
-            let rows = attributes_within(conn, a, n[0], n[1], n[2], n[3])?;
+            let rows = attribute_ids_within(conn, a, n[0], n[1], n[2], n[3])?;
             Ok(counted(a, rows.len())?)
         }
-        "has_tile" => answered(a, has_tile(conn, n[0])?),
-        "has_medium" => answered(a, has_medium(conn, n[0])?),
-        "has_row" => answered(a, has_attribute(conn, n[0])?),
+        "has_tile" => answered(a, tile_by_id(conn, n[0])?.is_some()),
+        "has_medium" => answered(a, medium_by_id(conn, n[0])?.is_some()),
+        "has_row" => answered(a, attribute_by_id(conn, n[0])?.is_some()),
         "is_inert" => answered(a, is_inert(conn.schema())),
         _ => Ok(String::from_str(a, "no question")?),
     }
