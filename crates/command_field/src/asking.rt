@@ -18,6 +18,7 @@ use crate::freedom::{Taken, taken_in};
 use field_changes::changes::{Holdings, Unasked, changes};
 use field_changes::held::Held;
 use field_changes::ids::Asker;
+use field_changes::known::Known;
 use field_faults::files::held_of;
 use field_faults::heads::{HeadFault, head_fault};
 use field_faults::lines::{Judge, fault_lines};
@@ -98,10 +99,10 @@ fn answer_by(
     asker: &Asker<'_>,
     holdings: &Holdings<'_>,
     more: bool,
-    held: Held,
+    held: Held<'_>,
 ) -> Result<Answer, Fault>
     ensures { IfOk result (AnswersBy asker.now.package asker.now.ticket asker.now.at.now holdings.now.items.now
-        holdings.now.links.now more held) }
+        holdings.now.links.now more held.entry) }
 {
     let Held { items, links, .. } = held;
     match changes(alloc, asker, holdings, more, items, links.as_slice()) {
@@ -119,11 +120,12 @@ fn answer_with(
     asker: &Asker<'_>,
     holdings: &Holdings<'_>,
     more: bool,
-    held: Held,
+    held: Held<'_>,
 ) -> Result<Answer, Fault>
     requires { IsTrue (is_good_frame frame.now) }
-    ensures { IfOk result (AnswersLines (fault_lines frame.now holdings.now.items.now more held)
-        asker.now.package asker.now.ticket asker.now.at.now holdings.now.items.now holdings.now.links.now more held) }
+    ensures { IfOk result (AnswersLines (fault_lines frame.now holdings.now.items.now more held.entry)
+        asker.now.package asker.now.ticket asker.now.at.now holdings.now.items.now holdings.now.links.now more
+        held.entry) }
 {
     let judge = Judge {
         frame,
@@ -159,10 +161,11 @@ fn answer_given(
     ask: &Ask<'_>,
     ticket: u64,
     holdings: &Holdings<'_>,
-    held: Held,
+    held: Held<'_>,
 ) -> Result<Answer, Fault>
     requires { IsTrue (is_good_frame frame.now) }
-    ensures { IfOk result (AnswersGiven frame.now ask.now ticket holdings.now.items.now holdings.now.links.now held) }
+    ensures { IfOk result (AnswersGiven frame.now ask.now ticket holdings.now.items.now holdings.now.links.now
+        held.entry) }
 {
     if let Some(fault) = head_fault(ask.package, ticket, frame, ask.more, &held) {
         return Ok(head_answer(ticket, fault));
@@ -225,11 +228,11 @@ fn answer_in<S: Alter + Drop>(
     ask: &Ask<'_>,
     number: u64,
     holdings: &Holdings<'_>,
-    held: Held,
+    held: Held<'_>,
 ) -> Result<Answer, Fault>
     ensures told { TellsOf S.Store (λ w answer. IsSeen w ask.now.package number
         (holdings.now.items.now, holdings.now.links.now)
-        → AnswersFile w ask.now held answer) world.old world.new result }
+        → AnswersFile w ask.now held.entry answer) world.old world.new result }
     ensures merges { IfOk result AsksNoMerge }
     ensures read { IsUntouched S.Store world.old world.new }
 {
@@ -241,11 +244,19 @@ fn answer_in<S: Alter + Drop>(
     keep_free(alloc, world, holdings, first)
 }
 
-/// What the text of a reader lists; `None` where it is no list.
-fn held_in<R: Read + Drop>(alloc: Global, reader: R) -> Result<Option<Held>, Fault>
+/// What the text of a reader lists; `None` where it is no list. What these items hold too is held
+/// once.
+fn held_in<'a, R: Read + Drop>(
+    alloc: Global,
+    items: &'a [Item],
+    reader: R,
+) -> Result<Option<Held<'a>>, Fault>
     ensures { IfOk result (AreHeldIn (R.remaining reader)) }
 {
-    let entries = match read_entries(alloc, Stream(reader)) {
+    let Ok(known) = Known::of(alloc, items) else {
+        return Err(Fault::OutOfMemory);
+    };
+    let entries = match read_entries(alloc, Stream(reader), &known) {
         Ok(entries) => entries,
         Err(ListFault::Memory) => return Err(Fault::OutOfMemory),
         Err(_) => return Ok(None),
@@ -271,7 +282,7 @@ fn answer_listed<S: Alter + Drop, R: Read + Drop>(
     ensures merges { IfOk result AsksNoMerge }
     ensures read { IsUntouched S.Store world.old world.new }
 {
-    match held_in(alloc, reader)? {
+    match held_in(alloc, holdings.items, reader)? {
         Some(held) => answer_in(alloc, world, ask, number, holdings, held),
         None => Ok(Answer::NoList),
     }
@@ -281,7 +292,7 @@ fn answer_listed<S: Alter + Drop, R: Read + Drop>(
 /// live is asked before anything is read. The world is only read.
 ///
 /// The package is read before the list. So the contents of the list take the room that the rows of
-/// the package left, and memory holds each side once.
+/// the package left. Of an item that both have, memory holds the content of the package alone.
 ///
 /// # Errors
 ///

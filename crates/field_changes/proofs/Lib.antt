@@ -1,6 +1,7 @@
 pub mod KeyOrder
 pub mod Sets
 pub mod Contents
+pub mod Looking
 pub mod Counting
 pub mod Walking
 pub mod Lasts

@@ -1,3 +1,4 @@
+pub mod Sharing
 pub mod Keys
 pub mod Naming
 pub mod Ids

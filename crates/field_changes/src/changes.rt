@@ -88,13 +88,13 @@ pub fn parts_for(
     asker: &Asker<'_>,
     holdings: &Holdings<'_>,
     more: bool,
-    file: Vec<HeldItem>,
+    file: Vec<HeldItem<'_>>,
     held: &[HeldLink],
 ) -> Result<Parts, Unasked>
     ensures parts { IfOk result (λ parts. ArePartsFor asker.now.package asker.now.ticket holdings.now.items.now
-        holdings.now.links.now more file.items held.now parts) }
+        holdings.now.links.now more file.entry.items held.now parts) }
     ensures why { IfErr result (IsWhyUnasked asker.now.package asker.now.ticket holdings.now.items.now
-        holdings.now.links.now file.items held.now) }
+        holdings.now.links.now file.entry.items held.now) }
 {
     let names = names(
         alloc,
@@ -139,13 +139,13 @@ pub fn changes(
     asker: &Asker<'_>,
     holdings: &Holdings<'_>,
     more: bool,
-    file: Vec<HeldItem>,
+    file: Vec<HeldItem<'_>>,
     held: &[HeldLink],
 ) -> Result<Vec<Request>, Unasked>
     ensures made { IfOk result (λ requests. AreChanges asker.now.package asker.now.ticket asker.now.at.now
-        holdings.now.items.now holdings.now.links.now more file.items held.now requests.items) }
+        holdings.now.items.now holdings.now.links.now more file.entry.items held.now requests.items) }
     ensures why { IfErr result (IsWhyUnasked asker.now.package asker.now.ticket holdings.now.items.now
-        holdings.now.links.now file.items held.now) }
+        holdings.now.links.now file.entry.items held.now) }
 {
     let parts = parts_for(alloc, asker, holdings, more, file, held)?;
     Ok(requests(alloc, asker, parts)?)

@@ -1,6 +1,7 @@
 //! What an edited file holds, as values.
+use crate::sharing::HeldContent;
 use sheet_types::collections::Text;
-use sheet_types::command::{Content, Mapping};
+use sheet_types::command::Mapping;
 use sheet_types::frame::Frame;
 use uuid::Uuid;
 
@@ -14,10 +15,10 @@ pub struct Export {
 /// An item of a file, by its number among those of its kind. The identity that stands beside it may
 /// be missing, or that of another item.
 #[derive(Drop)]
-pub struct HeldItem {
+pub struct HeldItem<'a> {
     pub number: i64,
     pub identity: Option<Uuid>,
-    pub content: Content,
+    pub content: HeldContent<'a>,
 }
 
 /// A link of a file, by the numbers of its ends.
@@ -38,14 +39,14 @@ pub struct BadRecord {
 
 /// What a file holds. Its items stand by kind and number.
 #[derive(Drop)]
-pub struct Held {
+pub struct Held<'a> {
     /// The export that it was; none of a file of other software.
     pub export: Option<Export>,
     /// The number of the reference system of its points.
     pub system: Option<i64>,
     /// The frame of its tiles.
     pub frame: Option<Frame>,
-    pub items: Vec<HeldItem>,
+    pub items: Vec<HeldItem<'a>>,
     pub links: Vec<HeldLink>,
     pub bad: Vec<BadRecord>,
 }

@@ -134,9 +134,10 @@ fn rest_order(a: &Content, b: &Content) -> Ordering
     words.then(bodies)
 }
 
-// The order of contents, by which two are equal where all of them is. Bytes are compared only where the heads are one.
+/// The order of contents, by which two are equal where all of them is. Bytes are compared only where
+/// the heads are one.
 #[tactic(auto, using(crate::proofs::KeyOrder::content_order))]
-fn content_order(a: &Content, b: &Content) -> Ordering
+pub(crate) fn content_order(a: &Content, b: &Content) -> Ordering
     ensures { result ≡ slice_cmp nat_cmp (content_key a.now) (content_key b.now) }
 {
     match head_of(a).cmp(&head_of(b)) {

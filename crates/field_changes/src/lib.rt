@@ -7,5 +7,7 @@ pub mod ends;
 pub mod held;
 pub mod ids;
 mod keys;
+pub mod known;
 pub mod naming;
 pub mod parts;
+pub mod sharing;

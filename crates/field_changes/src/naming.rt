@@ -46,18 +46,18 @@ fn marks_of<'a>(alloc: Global, items: &'a [Item]) -> Result<BTreeSet<Key<'a>>, O
 }
 
 // Notes what an item of the file is marked as, and whether that is new.
-fn note_mark<'a>(marks: &mut BTreeSet<Key<'a>>, item: &'a HeldItem) -> Result<(), OutOfMemory>
+fn note_mark<'a>(marks: &mut BTreeSet<Key<'a>>, item: &'a HeldItem<'_>) -> Result<(), OutOfMemory>
     ensures { IfOk result (λ _. (q : List ℕ) → contains (slice_cmp nat_cmp) marks.new q
         ≡ (contains (slice_cmp nat_cmp) marks.old q || is_marked q item.now)) }
 {
     if let Some(identity) = item.identity {
-        marks.insert(Key::of_mark(identity, &item.content))?;
+        marks.insert(Key::of_mark(identity, item.content.get()))?;
     }
     Ok(())
 }
 
 // The marks of the items of a file.
-fn marks_in<'a>(alloc: Global, file: &'a [HeldItem]) -> Result<BTreeSet<Key<'a>>, OutOfMemory>
+fn marks_in<'a>(alloc: Global, file: &'a [HeldItem<'_>]) -> Result<BTreeSet<Key<'a>>, OutOfMemory>
     ensures { IfOk result (λ marks. (q : List ℕ) → contains (slice_cmp nat_cmp) marks q
         ≡ list_any (is_marked q) file.now) }
 {
@@ -196,13 +196,13 @@ pub(crate) struct Walk<'a> {
 
 impl<'a> Walk<'a> {
     // The identity that an item names, where it is its own.
-    fn own(&self, item: &'a HeldItem) -> Option<Uuid>
+    fn own(&self, item: &'a HeldItem<'_>) -> Option<Uuid>
         ensures { (items : List Item) (file before : List HeldItem) → IsWalk items file before self.now
             → MatchOption result (is_own items before item.now ≡ false)
             (λ id. (is_own items before item.now ≡ true) × (item.now.identity ≡ Some id)) }
     {
         let identity = item.identity?;
-        let mark = Key::of_mark(identity, &item.content);
+        let mark = Key::of_mark(identity, item.content.get());
         if self.marks.contains(&mark) && !self.seen.contains(&mark) {
             Some(identity)
         } else {
@@ -211,7 +211,7 @@ impl<'a> Walk<'a> {
     }
 
     // The name of the next item.
-    fn next(&mut self, item: &'a HeldItem) -> Result<Name, OutOfMemory>
+    fn next(&mut self, item: &'a HeldItem<'_>) -> Result<Name, OutOfMemory>
         requires { (items : List Item) × (file : List HeldItem) × (before : List HeldItem)
             × IsWalk items file before self.old × (length before < 2 ^ 64 - 1) }
         ensures name { IfOk result (λ name. (items : List Item) (file before : List HeldItem)
@@ -224,8 +224,9 @@ impl<'a> Walk<'a> {
         if let Some(identity) = own {
             return Ok(Name::Old(identity));
         }
-        let place = count_up(&mut self.counts, &item.content)?;
-        Ok(self.spare.name(&item.content, place))
+        let content = item.content.get();
+        let place = count_up(&mut self.counts, content)?;
+        Ok(self.spare.name(content, place))
     }
 }
 
@@ -233,7 +234,7 @@ impl<'a> Walk<'a> {
 fn walk_of<'a>(
     alloc: Global,
     items: &'a [Item],
-    file: &'a [HeldItem],
+    file: &'a [HeldItem<'_>],
 ) -> Result<Walk<'a>, OutOfMemory>
     ensures { IfOk result (λ walk. IsWalk items.now file.now [] walk) }
 {
@@ -263,20 +264,18 @@ fn known_as(
     alloc: Global,
     package: Uuid,
     ticket: u64,
-    item: &HeldItem,
+    item: &HeldItem<'_>,
     name: Name,
 ) -> Result<Named, OutOfMemory>
     ensures { IfOk result (λ known. known ≡ known_as «package» ticket item.now name) }
 {
+    let content = item.content.get();
     let (identity, is_new) = match name {
         Name::Old(identity) => (identity, false),
-        Name::New(copy) => (
-            new_identity(alloc, package, ticket, copy, &item.content)?,
-            true,
-        ),
+        Name::New(copy) => (new_identity(alloc, package, ticket, copy, content)?, true),
     };
     Ok(Named {
-        kind: item.content.kind(),
+        kind: content.kind(),
         number: item.number,
         identity,
         is_new,
@@ -294,7 +293,7 @@ pub fn names(
     package: Uuid,
     ticket: u64,
     items: &[Item],
-    file: &[HeldItem],
+    file: &[HeldItem<'_>],
 ) -> Result<Vec<Named>, OutOfMemory>
     ensures { IfOk result (λ names. names.items ≡ names_of «package» ticket items.now file.now) }
 {

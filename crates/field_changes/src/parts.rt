@@ -136,14 +136,14 @@ pub fn gone_items(alloc: Global, names: &[Named], items: &[Item]) -> Result<Vec<
 }
 
 // Puts an item of the file behind the others, where its name is new.
-fn push_new(items: &mut Vec<Item>, name: &Named, item: HeldItem) -> Result<(), OutOfMemory>
-    ensures { IfOk result (λ _. items.new.items ≡ items.old.items ++ new_item name.now item) }
+fn push_new(items: &mut Vec<Item>, name: &Named, item: HeldItem<'_>) -> Result<(), OutOfMemory>
+    ensures { IfOk result (λ _. items.new.items ≡ items.old.items ++ new_item name.now item.entry) }
 {
     if name.is_new {
         let HeldItem { content, .. } = item;
         items.push(Item {
             identity: name.identity,
-            content,
+            content: content.into_content()?,
         })?;
     }
     Ok(())
@@ -157,9 +157,9 @@ fn push_new(items: &mut Vec<Item>, name: &Named, item: HeldItem) -> Result<(), O
 pub fn new_items(
     alloc: Global,
     names: &[Named],
-    file: Vec<HeldItem>,
+    file: Vec<HeldItem<'_>>,
 ) -> Result<Vec<Item>, OutOfMemory>
-    ensures { IfOk result (λ items. items.items ≡ new_items names.now file.items) }
+    ensures { IfOk result (λ items. items.items ≡ new_items names.now file.entry.items) }
 {
     let mut items = Vec::new(alloc);
     let mut left = file.into_iter();

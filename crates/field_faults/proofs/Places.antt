@@ -55,6 +55,7 @@ use Rattle.sheet_types.specs.declared.frame.Frame.{Frame}
 use Rattle.sheet_types.proofs.Basics.{or-false}
 use Rattle.field_changes.specs.Keys.{sign}
 use Rattle.field_changes.specs.declared.held.HeldItem.{HeldItem}
+use Rattle.field_changes.proofs.Contents.{same_number}
 use Rattle.field_changes.proofs.Sets.{any_snoc, one_more}
 use Rattle.field_faults.specs.Heads.{is_same}
 use Rattle.field_faults.specs.Lines.{
@@ -80,13 +81,6 @@ both_ways : (a b : Bool) → (a ≡ true → b ≡ true) → (b ≡ true → a �
 both_ways true b to from = sym (to refl)
 both_ways false true to from = from refl
 both_ways false false to from = refl
-
--- the sign of a number and how far it is from 0 are the number
-same_number : (y z : ℤ) → sign y ≡ sign z → unsigned_abs y ≡ unsigned_abs z → y ≡ z
-same_number (pos m) (pos n) s a = ap pos a
-same_number (pos m) (negsuc n) s a = cc
-same_number (negsuc m) (pos n) s a = cc
-same_number (negsuc m) (negsuc n) s a = let e : m ≡ n = omega (arith, a) in ap negsuc e
 
 from_same : (z a : ℤ) → is_same z a ≡ true → z ≡ a
 from_same z a h =

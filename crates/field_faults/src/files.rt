@@ -2,7 +2,7 @@
 ghost use Rattle.std.specs.Prelude.{◌≡◌, ◌<◌, ◌↔◌, ◌++◌, [], ◌∷◌, map, bytes_eq, count_by};
 ghost use Rattle.std.specs.Prelude.{length, IfOk, IfErr};
 ghost use Rattle.std.specs.Prelude.{IfSome, IfNone, IsTrue, IsPermutation};
-ghost use Rattle.std.specs.List.{filter_map, IsDistinct};
+ghost use Rattle.std.specs.List.{cons_option, filter_map, IsDistinct};
 ghost use Rattle.sheet_types.specs.Ordered.{is_before, IsArranged};
 ghost use Rattle.field_changes.specs.Keys.{number_key, sign};
 ghost use Rattle.field_changes.specs.declared.held.Held.{Held};
@@ -20,14 +20,14 @@ use std::alloc::Global;
 use uuid::Uuid;
 
 /// Whether an entry is an end.
-fn is_end(entry: &Listed) -> bool
+fn is_end(entry: &Listed<'_>) -> bool
     ensures { result ≡ is_end entry.now }
 {
     matches!(entry, Listed::End(_))
 }
 
 /// Whether an entry is an end that counts so many.
-fn ends_after(count: u64, entry: &Listed) -> bool
+fn ends_after(count: u64, entry: &Listed<'_>) -> bool
     ensures { result ≡ ends_after count entry.now }
 {
     match entry {
@@ -37,14 +37,14 @@ fn ends_after(count: u64, entry: &Listed) -> bool
 }
 
 /// How many entries are an end.
-fn ends_in(entries: &[Listed]) -> usize
+fn ends_in(entries: &[Listed<'_>]) -> usize
     ensures { result ≡ count_by is_end entries.now }
 {
     entries.iter().filter(|entry| is_end(entry)).count()
 }
 
 /// Whether no entry but the last is an end, and that counts those before it.
-fn closes(entries: &[Listed]) -> bool
+fn closes(entries: &[Listed<'_>]) -> bool
     ensures { result ≡ closes entries.now }
 {
     let Some(last) = entries.last() else {
@@ -54,7 +54,7 @@ fn closes(entries: &[Listed]) -> bool
 }
 
 /// The export that an entry names.
-fn export_in(entry: &Listed) -> Option<Export>
+fn export_in(entry: &Listed<'_>) -> Option<Export>
     ensures { result ≡ export_in entry.now }
 {
     match entry {
@@ -64,7 +64,7 @@ fn export_in(entry: &Listed) -> Option<Export>
 }
 
 /// The system that an entry names.
-fn system_in(entry: &Listed) -> Option<i64>
+fn system_in(entry: &Listed<'_>) -> Option<i64>
     ensures { result ≡ system_in entry.now }
 {
     match entry {
@@ -74,7 +74,7 @@ fn system_in(entry: &Listed) -> Option<i64>
 }
 
 /// The frame that an entry names.
-fn frame_in(entry: &Listed) -> Option<Frame>
+fn frame_in(entry: &Listed<'_>) -> Option<Frame>
     ensures { result ≡ frame_in entry.now }
 {
     match entry {
@@ -84,7 +84,7 @@ fn frame_in(entry: &Listed) -> Option<Frame>
 }
 
 /// The link that an entry names.
-fn link_in(entry: &Listed) -> Option<HeldLink>
+fn link_in(entry: &Listed<'_>) -> Option<HeldLink>
     ensures { result ≡ link_in entry.now }
 {
     match entry {
@@ -94,13 +94,23 @@ fn link_in(entry: &Listed) -> Option<HeldLink>
 }
 
 /// The item that an entry names.
-fn item_in(entry: Listed) -> Option<HeldItem>
-    ensures { result ≡ item_in entry }
+fn item_in<'a>(entry: Listed<'a>) -> Option<HeldItem<'a>>
+    ensures { result ≡ item_in entry.entry }
 {
     match entry {
         Listed::Item(item) => Some(item),
         _ => None,
     }
+}
+
+/// Puts what was found behind the others, if anything was.
+fn push_some<T: Drop>(found: &mut Vec<T>, one: Option<T>) -> Result<(), OutOfMemory>
+    ensures { IfOk result (λ _. found.new.items ≡ found.old.items ++ cons_option one []) }
+{
+    if let Some(one) = one {
+        found.push(one)?;
+    }
+    Ok(())
 }
 
 /// The one of a list that has one at most; `None` where it has more.
@@ -115,19 +125,18 @@ fn only<T: Copy>(found: &[T]) -> Option<Option<T>>
 }
 
 /// The exports that are named.
-fn exports_of(alloc: Global, entries: &[Listed]) -> Result<Vec<Export>, OutOfMemory>
+fn exports_of(alloc: Global, entries: &[Listed<'_>]) -> Result<Vec<Export>, OutOfMemory>
     ensures { IfOk result (λ found. found.items ≡ filter_map export_in entries.now) }
 {
-    Ok(
-        entries
-            .iter()
-            .filter_map(|entry| export_in(entry))
-            .collect(alloc)?,
-    )
+    let mut found = Vec::new(alloc);
+    for entry in entries {
+        push_some(&mut found, export_in(entry))?;
+    }
+    Ok(found)
 }
 
 /// The export that a file was, if it is told once at most.
-fn export_of(alloc: Global, entries: &[Listed]) -> Result<Option<Option<Export>>, OutOfMemory>
+fn export_of(alloc: Global, entries: &[Listed<'_>]) -> Result<Option<Option<Export>>, OutOfMemory>
     ensures some { IfOk result (λ found. IfSome found (λ one. IsOnly (filter_map export_in entries.now) one)) }
     ensures none { IfOk result (λ found. IfNone found (1 < length (filter_map export_in entries.now))) }
 {
@@ -136,19 +145,18 @@ fn export_of(alloc: Global, entries: &[Listed]) -> Result<Option<Option<Export>>
 }
 
 /// The systems that are named.
-fn systems_of(alloc: Global, entries: &[Listed]) -> Result<Vec<i64>, OutOfMemory>
+fn systems_of(alloc: Global, entries: &[Listed<'_>]) -> Result<Vec<i64>, OutOfMemory>
     ensures { IfOk result (λ found. found.items ≡ filter_map system_in entries.now) }
 {
-    Ok(
-        entries
-            .iter()
-            .filter_map(|entry| system_in(entry))
-            .collect(alloc)?,
-    )
+    let mut found = Vec::new(alloc);
+    for entry in entries {
+        push_some(&mut found, system_in(entry))?;
+    }
+    Ok(found)
 }
 
 /// The system of its points, if it is told once at most.
-fn system_of(alloc: Global, entries: &[Listed]) -> Result<Option<Option<i64>>, OutOfMemory>
+fn system_of(alloc: Global, entries: &[Listed<'_>]) -> Result<Option<Option<i64>>, OutOfMemory>
     ensures some { IfOk result (λ found. IfSome found (λ one. IsOnly (filter_map system_in entries.now) one)) }
     ensures none { IfOk result (λ found. IfNone found (1 < length (filter_map system_in entries.now))) }
 {
@@ -157,19 +165,18 @@ fn system_of(alloc: Global, entries: &[Listed]) -> Result<Option<Option<i64>>, O
 }
 
 /// The frames that are named.
-fn frames_of(alloc: Global, entries: &[Listed]) -> Result<Vec<Frame>, OutOfMemory>
+fn frames_of(alloc: Global, entries: &[Listed<'_>]) -> Result<Vec<Frame>, OutOfMemory>
     ensures { IfOk result (λ found. found.items ≡ filter_map frame_in entries.now) }
 {
-    Ok(
-        entries
-            .iter()
-            .filter_map(|entry| frame_in(entry))
-            .collect(alloc)?,
-    )
+    let mut found = Vec::new(alloc);
+    for entry in entries {
+        push_some(&mut found, frame_in(entry))?;
+    }
+    Ok(found)
 }
 
 /// The frame of its tiles, if it is told once at most.
-fn frame_of(alloc: Global, entries: &[Listed]) -> Result<Option<Option<Frame>>, OutOfMemory>
+fn frame_of(alloc: Global, entries: &[Listed<'_>]) -> Result<Option<Option<Frame>>, OutOfMemory>
     ensures some { IfOk result (λ found. IfSome found (λ one. IsOnly (filter_map frame_in entries.now) one)) }
     ensures none { IfOk result (λ found. IfNone found (1 < length (filter_map frame_in entries.now))) }
 {
@@ -178,27 +185,25 @@ fn frame_of(alloc: Global, entries: &[Listed]) -> Result<Option<Option<Frame>>, 
 }
 
 /// The links.
-fn links_of(alloc: Global, entries: &[Listed]) -> Result<Vec<HeldLink>, OutOfMemory>
+fn links_of(alloc: Global, entries: &[Listed<'_>]) -> Result<Vec<HeldLink>, OutOfMemory>
     ensures { IfOk result (λ links. links.items ≡ filter_map link_in entries.now) }
 {
-    Ok(
-        entries
-            .iter()
-            .filter_map(|entry| link_in(entry))
-            .collect(alloc)?,
-    )
+    let mut found = Vec::new(alloc);
+    for entry in entries {
+        push_some(&mut found, link_in(entry))?;
+    }
+    Ok(found)
 }
 
 /// The items.
-fn items_of(alloc: Global, entries: Vec<Listed>) -> Result<Vec<HeldItem>, OutOfMemory>
-    ensures { IfOk result (λ items. items.items ≡ filter_map item_in entries.items) }
+fn items_of<'a>(alloc: Global, entries: Vec<Listed<'a>>) -> Result<Vec<HeldItem<'a>>, OutOfMemory>
+    ensures { IfOk result (λ items. items.items ≡ filter_map item_in entries.entry.items) }
 {
-    Ok(
-        entries
-            .into_iter()
-            .filter_map(|entry| item_in(entry))
-            .collect(alloc)?,
-    )
+    let mut found = Vec::new(alloc);
+    for entry in entries {
+        push_some(&mut found, item_in(entry))?;
+    }
+    Ok(found)
 }
 
 /// A record that could not be listed, on its own.
@@ -213,7 +218,7 @@ fn copy_of(bad: &BadRecord) -> Result<BadRecord, OutOfMemory>
 }
 
 /// Puts an entry behind the others, where it is a record that could not be listed.
-fn push_bad(found: &mut Vec<BadRecord>, entry: &Listed) -> Result<(), OutOfMemory>
+fn push_bad(found: &mut Vec<BadRecord>, entry: &Listed<'_>) -> Result<(), OutOfMemory>
     ensures { IfOk result (λ _. found.new.items ≡ found.old.items ++ filter_map bad_in (entry.now ∷ [])) }
 {
     if let Listed::Bad(bad) = entry {
@@ -223,7 +228,7 @@ fn push_bad(found: &mut Vec<BadRecord>, entry: &Listed) -> Result<(), OutOfMemor
 }
 
 /// The records that could not be listed.
-fn bad_of(alloc: Global, entries: &[Listed]) -> Result<Vec<BadRecord>, OutOfMemory>
+fn bad_of(alloc: Global, entries: &[Listed<'_>]) -> Result<Vec<BadRecord>, OutOfMemory>
     ensures { IfOk result (λ bad. bad.items ≡ filter_map bad_in entries.now) }
 {
     let mut found = Vec::new(alloc);
@@ -234,7 +239,7 @@ fn bad_of(alloc: Global, entries: &[Listed]) -> Result<Vec<BadRecord>, OutOfMemo
 }
 
 /// An item, as if it had a name already.
-fn plain(item: &HeldItem) -> Named
+fn plain(item: &HeldItem<'_>) -> Named
     ensures { result ≡ plain item.now }
 {
     Named {
@@ -246,14 +251,18 @@ fn plain(item: &HeldItem) -> Named
 }
 
 /// The same of items.
-fn plain_names(alloc: Global, items: &[HeldItem]) -> Result<Vec<Named>, OutOfMemory>
+fn plain_names(alloc: Global, items: &[HeldItem<'_>]) -> Result<Vec<Named>, OutOfMemory>
     ensures { IfOk result (λ names. names.items ≡ map plain items.now) }
 {
-    Ok(items.iter().map(|item| plain(item)).collect(alloc)?)
+    let mut names = Vec::new(alloc);
+    for item in items {
+        names.push(plain(item))?;
+    }
+    Ok(names)
 }
 
 /// Whether each link leads from an item to another.
-fn lead(alloc: Global, items: &[HeldItem], links: &[HeldLink]) -> Result<bool, OutOfMemory>
+fn lead(alloc: Global, items: &[HeldItem<'_>], links: &[HeldLink]) -> Result<bool, OutOfMemory>
     ensures { IfOk result (λ all. IsTrue all ↔ Lead items.now links.now) }
 {
     let names = plain_names(alloc, items)?;
@@ -267,7 +276,7 @@ fn lead(alloc: Global, items: &[HeldItem], links: &[HeldLink]) -> Result<bool, O
 fn lead_unless_bad(
     alloc: Global,
     bad: &[BadRecord],
-    items: &[HeldItem],
+    items: &[HeldItem<'_>],
     links: &[HeldLink],
 ) -> Result<bool, OutOfMemory>
     ensures { IfOk result (λ all. IsTrue all ↔ LeadUnlessBad bad.now items.now links.now) }
@@ -287,7 +296,7 @@ fn sign(number: i64) -> u64
 }
 
 /// The kind and the number of an item, as a key.
-fn key_of(item: &HeldItem) -> [u64; 3]
+fn key_of(item: &HeldItem<'_>) -> [u64; 3]
     ensures { result ≡ held_key item.now }
 {
     [
@@ -298,17 +307,17 @@ fn key_of(item: &HeldItem) -> [u64; 3]
 }
 
 /// Whether an item stands before another.
-fn stands_before(item: &HeldItem, next: &HeldItem) -> bool
+fn stands_before(item: &HeldItem<'_>, next: &HeldItem<'_>) -> bool
     ensures { result ≡ is_before (held_key item.now) (held_key next.now) }
 {
     key_of(item).cmp(&key_of(next)).is_lt()
 }
 
 /// The items by kind and number; `None` where two have one number.
-fn in_order(mut items: Vec<HeldItem>) -> Option<Vec<HeldItem>>
-    ensures same { IfSome result (λ sorted. IsPermutation items.items sorted.items) }
+fn in_order<'a>(mut items: Vec<HeldItem<'a>>) -> Option<Vec<HeldItem<'a>>>
+    ensures same { IfSome result (λ sorted. IsPermutation items.entry.items sorted.items) }
     ensures order { IfSome result (λ sorted. IsArranged held_key sorted.items) }
-    ensures twice { IfNone result (¬ IsDistinct bytes_eq (map held_key items.items)) }
+    ensures twice { IfNone result (¬ IsDistinct bytes_eq (map held_key items.entry.items)) }
 {
     items.sort_unstable_by_key(|item| {
         (
@@ -329,9 +338,9 @@ fn in_order(mut items: Vec<HeldItem>) -> Option<Vec<HeldItem>>
 /// # Errors
 ///
 /// Want of memory.
-pub fn held_of(alloc: Global, entries: Vec<Listed>) -> Result<Option<Held>, OutOfMemory>
-    ensures some { IfOk result (λ found. IfSome found (λ h. IsHeld entries.items h)) }
-    ensures none { IfOk result (λ found. IfNone found ((h : Held) → ¬ IsHeld entries.items h)) }
+pub fn held_of<'a>(alloc: Global, entries: Vec<Listed<'a>>) -> Result<Option<Held<'a>>, OutOfMemory>
+    ensures some { IfOk result (λ found. IfSome found (λ h. IsHeld entries.entry.items h)) }
+    ensures none { IfOk result (λ found. IfNone found ((h : Held) → ¬ IsHeld entries.entry.items h)) }
 {
     if !closes(entries.as_slice()) {
         return Ok(None);

@@ -55,7 +55,7 @@ fn is_stale(ticket: u64, export: Option<Export>) -> bool
 }
 
 // Whether an item of this kind is there.
-fn has_kind(kind: MovedKind, items: &[HeldItem]) -> bool
+fn has_kind(kind: MovedKind, items: &[HeldItem<'_>]) -> bool
     ensures { result ≡ has_kind kind items.now }
 {
     items
@@ -190,7 +190,7 @@ pub fn head_fault(
     ticket: u64,
     frame: &Frame,
     more: bool,
-    held: &Held,
+    held: &Held<'_>,
 ) -> Option<HeadFault>
     requires { IsTrue (is_good_frame frame.now) }
     ensures { result ≡ head_fault «package» ticket frame.now more held.now }

@@ -109,7 +109,7 @@ fn note_key(places: &mut BTreeSet<[u64; 6]>, key: [u64; 6], fits: bool) -> Resul
 fn note_place(
     places: &mut BTreeSet<[u64; 6]>,
     frame: &Frame,
-    item: &HeldItem,
+    item: &HeldItem<'_>,
 ) -> Result<(), OutOfMemory>
     requires { IsTrue (is_good_frame frame.now) }
     ensures { IfOk result (λ _. (zoom column row : ℤ)
@@ -117,14 +117,15 @@ fn note_place(
         ≡ (contains (slice_cmp nat_cmp) places.old (place_key zoom column row)
         || is_good_at frame.now zoom column row item.now)) }
 {
-    match &item.content {
+    let content = item.content.get();
+    match content {
         Content::Tile {
             zoom,
             column,
             row,
             ..
         } => {
-            let fits = reason_of(frame, &item.content).is_none();
+            let fits = reason_of(frame, content).is_none();
             note_key(places, place_key(*zoom, *column, *row), fits)?;
             Ok(())
         }
@@ -325,7 +326,7 @@ fn at_number(ids: &[Uuid], number: i64) -> Option<Uuid>
 }
 
 /// Whether an item names one of the package, and stands under the number of another.
-fn is_renumbered(ids: &[Uuid], known: &BTreeSet<Uuid>, item: &HeldItem) -> bool
+fn is_renumbered(ids: &[Uuid], known: &BTreeSet<Uuid>, item: &HeldItem<'_>) -> bool
     ensures { (items : List ModelItem) → ids.now ≡ ids_of (kind_of item.now.content) items
         → IsKnownIn items known.now
         → result ≡ is_renumbered items item.now }
@@ -343,7 +344,12 @@ fn is_renumbered(ids: &[Uuid], known: &BTreeSet<Uuid>, item: &HeldItem) -> bool
 }
 
 /// The same of an item of an export.
-fn is_renumbered_in(exported: bool, ids: &[Uuid], known: &BTreeSet<Uuid>, item: &HeldItem) -> bool
+fn is_renumbered_in(
+    exported: bool,
+    ids: &[Uuid],
+    known: &BTreeSet<Uuid>,
+    item: &HeldItem<'_>,
+) -> bool
     ensures { (items : List ModelItem) → ids.now ≡ ids_of (kind_of item.now.content) items
         → IsKnownIn items known.now
         → result ≡ (exported && is_renumbered items item.now) }
@@ -357,14 +363,14 @@ fn reason_among(
     numbered: &Numbered<'_>,
     exported: bool,
     places: &BTreeSet<[u64; 6]>,
-    item: &HeldItem,
+    item: &HeldItem<'_>,
 ) -> Option<Reason>
     requires { AreNumbered judge.now.items.now judge.now.more numbered.now }
     ensures { (before : List ModelHeld) → HasPlaces judge.now.frame.now before places.now
         → result ≡ reason_among judge.now.frame.now judge.now.items.now judge.now.more exported
         before item.now item.now.content }
 {
-    match &item.content {
+    match item.content.get() {
         Content::Tile {
             zoom,
             column,
@@ -393,14 +399,14 @@ fn reason_in(
     numbered: &Numbered<'_>,
     exported: bool,
     places: &BTreeSet<[u64; 6]>,
-    item: &HeldItem,
+    item: &HeldItem<'_>,
 ) -> Option<Reason>
     requires good { IsTrue (is_good_frame judge.now.frame.now) }
     requires numbers { AreNumbered judge.now.items.now judge.now.more numbered.now }
     ensures { (before : List ModelHeld) → HasPlaces judge.now.frame.now before places.now
         → result ≡ reason_in judge.now.frame.now judge.now.items.now judge.now.more exported before item.now }
 {
-    match reason_of(judge.frame, &item.content) {
+    match reason_of(judge.frame, item.content.get()) {
         Some(reason) => Some(reason),
         None => reason_among(judge, numbered, exported, places, item),
     }
@@ -425,7 +431,11 @@ fn bad_line(alloc: Global, bad: &BadRecord) -> Result<String, OutOfMemory>
 }
 
 /// The line of an item, if it has one.
-fn line_for(alloc: Global, item: &HeldItem, reason: Option<Reason>) -> Result<String, OutOfMemory>
+fn line_for(
+    alloc: Global,
+    item: &HeldItem<'_>,
+    reason: Option<Reason>,
+) -> Result<String, OutOfMemory>
     ensures { IfOk result (λ line. string_bytes line ≡ line_for item.now reason) }
 {
     let Some(reason) = reason else {
@@ -453,7 +463,7 @@ fn add_item_lines(
     judge: &Judge<'_>,
     numbered: &Numbered<'_>,
     exported: bool,
-    items: &[HeldItem],
+    items: &[HeldItem<'_>],
     text: &mut String,
 ) -> Result<(), OutOfMemory>
     requires good { IsTrue (is_good_frame judge.now.frame.now) }
@@ -484,7 +494,7 @@ fn was_exported(export: &Option<Export>) -> bool
 /// # Errors
 ///
 /// Want of memory.
-pub fn fault_lines(alloc: Global, judge: &Judge<'_>, held: &Held) -> Result<String, OutOfMemory>
+pub fn fault_lines(alloc: Global, judge: &Judge<'_>, held: &Held<'_>) -> Result<String, OutOfMemory>
     requires { IsTrue (is_good_frame judge.now.frame.now) }
     ensures { IfOk result (λ text. string_bytes text ≡ fault_lines judge.now.frame.now judge.now.items.now
         judge.now.more held.now) }

@@ -115,7 +115,7 @@ use Rattle.field_run_laws.proofs.Keys.{are_distinct}
 use Rattle.field_run_laws.proofs.Lists.{of_filter}
 use Rattle.field_laws.specs.Changing.{in_items, in_file}
 use Rattle.field_laws.specs.Checks.{CanTake, has_fit_place, is_fit, tile_places}
-use Rattle.field_laws.proofs.Contents.{same_key}
+use Rattle.field_changes.proofs.Contents.{same_key}
 use Rattle.field_laws.proofs.Least.{new_differ}
 use Rattle.field_laws.proofs.Makes.{all_moved}
 use Rattle.field_home_laws.specs.Laws.{ChangesOf, IsFree, FitFileIsTaken}

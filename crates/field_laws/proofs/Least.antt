@@ -35,7 +35,7 @@ use Rattle.field_changes.specs.declared.naming.Named.{Named}
 use Rattle.field_run_laws.proofs.Lists.{of_filter, in_arranged, into_arranged}
 use Rattle.field_laws.specs.Changing.{OnlyWhatDiffers}
 use Rattle.field_laws.specs.Laws.{HoldsUnder}
-use Rattle.field_laws.proofs.Contents.{same_front, same_key}
+use Rattle.field_changes.proofs.Contents.{same_front, same_key}
 use Rattle.field_laws.proofs.Makes.{old_stands}
 use Rattle.field_laws.proofs.Names.{old_names}
 use Rattle.field_laws.proofs.Naming as naming

@@ -1,4 +1,3 @@
-pub mod Contents
 pub mod Names
 pub mod Naming
 pub mod Nothing

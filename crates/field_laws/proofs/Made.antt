@@ -35,7 +35,7 @@ use Rattle.field_run_laws.specs.Lists.{items_through, links_through}
 use Rattle.field_run_laws.proofs.Lists.{of_filter, folded_same, items_folded, links_folded, items_both, links_both}
 use Rattle.field_run_laws.proofs.Lists.{folded_without, all_put}
 use Rattle.field_laws.specs.Making.{named_items, each_once}
-use Rattle.field_laws.proofs.Contents.{same_front}
+use Rattle.field_changes.proofs.Contents.{same_front}
 
 -- ---- the four parts in a closed form
 

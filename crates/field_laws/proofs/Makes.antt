@@ -46,7 +46,7 @@ use Rattle.field_run_laws.proofs.Lists.{moved, of_filter, one_list, all_put, in_
 use Rattle.field_laws.specs.Changing.{Changes, names_in, ChangesMake, MoreAdds}
 use Rattle.field_laws.specs.Laws.{is_item, HoldsUnder}
 use Rattle.field_laws.specs.Making.{named_items, each_once, items_left, links_left}
-use Rattle.field_laws.proofs.Contents.{same_key}
+use Rattle.field_changes.proofs.Contents.{same_key}
 use Rattle.field_laws.proofs.Made.{items_closed, links_closed, zip_at, paired, new_named, each_named, named_count}
 use Rattle.field_laws.proofs.Made.{each_of_once, once_for_each, once_count, JoinsUuids, same_link, LinkNamed}
 use Rattle.field_laws.proofs.Made.{links_named}

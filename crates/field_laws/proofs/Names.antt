@@ -19,7 +19,7 @@ use Rattle.field_changes.specs.declared.held.HeldItem.{HeldItem}
 use Rattle.field_changes.specs.declared.naming.Name.{Name}
 use Rattle.field_changes.specs.declared.naming.Name.TheVariants.{Old, New}
 use Rattle.field_laws.specs.Laws.{is_item, HoldsUnder}
-use Rattle.field_laws.proofs.Contents.{same_front}
+use Rattle.field_changes.proofs.Contents.{same_front}
 
 or_true : (b : Bool) → (b || true) ≡ true
 or_true true = refl

@@ -29,7 +29,7 @@ use Rattle.field_changes.specs.declared.naming.Name.TheVariants.{Old, New}
 use Rattle.field_changes.specs.declared.naming.Named.{Named}
 use Rattle.field_run_laws.proofs.Lists.{of_filter}
 use Rattle.field_laws.specs.Changing.{OldNamesDiffer}
-use Rattle.field_laws.proofs.Contents.{same_front, same_key}
+use Rattle.field_changes.proofs.Contents.{same_front, same_key}
 use Rattle.field_laws.proofs.Names.{both, shared}
 
 -- ---- where a name comes from

@@ -34,7 +34,7 @@ use Rattle.field_changes.specs.declared.naming.Name.TheVariants.{Old}
 use Rattle.field_changes.specs.declared.naming.Named.{Named}
 use Rattle.field_run_laws.proofs.Lists.{moved}
 use Rattle.field_laws.specs.Changing.{as_listed, listed_name, ListsItems, NothingToDo}
-use Rattle.field_laws.proofs.Contents.{same_front}
+use Rattle.field_changes.proofs.Contents.{same_front}
 
 -- nothing passes a test that each fails
 none_left : {X : Type 0} (t : X → Bool) (xs : List X) → AllByRecursion (λ x. t x ≡ false) xs

@@ -16,6 +16,7 @@ use crate::columns::{CODE, COLUMN, DATA, IDENTITY, KIND, NUMBER, OTHER, ROW, TEX
 use crate::fields::{frame_at, optional_number_at, optional_uuid_at};
 use csv::StringRecord;
 use field_changes::held::{BadRecord, Export, HeldItem, HeldLink};
+use field_changes::known::Known;
 use request_csv::fields::{are_empty, hex_at, number_at, text_at, uuid_at};
 use sheet_types::collections::Bytes;
 use sheet_types::command::{Content, Mapping};
@@ -25,7 +26,7 @@ use std::alloc::Global;
 
 /// What a record of a list says.
 #[derive(Drop)]
-pub enum Listed {
+pub enum Listed<'a> {
     /// The export that the file was.
     Exported(Export),
     /// The number of the reference system of its points.
@@ -33,7 +34,7 @@ pub enum Listed {
     /// The frame of its tiles.
     Framed(Frame),
     /// One of its items.
-    Item(HeldItem),
+    Item(HeldItem<'a>),
     /// One of its links.
     Link(HeldLink),
     /// A record of the file that could not be listed.
@@ -59,7 +60,7 @@ const NOT_OF_LINK: [usize; 9] = [3, 4, 5, 6, 7, 8, 9, 10, 11];
 const NOT_OF_BAD: [usize; 9] = [2, 3, 4, 5, 6, 7, 8, 9, 11];
 
 // The export that a record with the word `package` names.
-fn export_of(row: &StringRecord) -> Option<Listed>
+fn export_of<'a>(row: &StringRecord) -> Option<Listed<'a>>
     requires word { IsTextAt (fields_of row.now) 0 (codes "package") }
     ensures some { IfSome result (λ entry. IsListed (fields_of row.now) entry) }
     ensures none { IfNone result ((export : Export) → ¬ IsListed (fields_of row.now) (listed.Exported export)) }
@@ -73,7 +74,7 @@ fn export_of(row: &StringRecord) -> Option<Listed>
 }
 
 // The system that a record with the word `system` names.
-fn system_of(row: &StringRecord) -> Option<Listed>
+fn system_of<'a>(row: &StringRecord) -> Option<Listed<'a>>
     requires word { IsTextAt (fields_of row.now) 0 (codes "system") }
     ensures some { IfSome result (λ entry. IsListed (fields_of row.now) entry) }
     ensures none { IfNone result ((number : ℤ) → ¬ IsListed (fields_of row.now) (listed.System number)) }
@@ -86,7 +87,7 @@ fn system_of(row: &StringRecord) -> Option<Listed>
 }
 
 // The frame that a record with the word `frame` names.
-fn frame_of(row: &StringRecord) -> Option<Listed>
+fn frame_of<'a>(row: &StringRecord) -> Option<Listed<'a>>
     requires word { IsTextAt (fields_of row.now) 0 (codes "frame") }
     ensures some { IfSome result (λ entry. IsListed (fields_of row.now) entry) }
     ensures none { IfNone result ((frame : Frame) → ¬ IsListed (fields_of row.now) (listed.Framed frame)) }
@@ -98,8 +99,12 @@ fn frame_of(row: &StringRecord) -> Option<Listed>
     Some(Listed::Framed(frame))
 }
 
-// The tile of a record with the word `tile`.
-fn tile_of(alloc: Global, row: &StringRecord) -> Result<Option<Listed>, OutOfMemory>
+// The tile of a record with the word `tile`. As of the others, a content that is known is shared.
+fn tile_of<'a>(
+    alloc: Global,
+    known: &Known<'a>,
+    row: &StringRecord,
+) -> Result<Option<Listed<'a>>, OutOfMemory>
     requires word { IsTextAt (fields_of row.now) 0 (kind_word TileItem) }
     ensures some { IfOk result (λ found. IfSome found (λ entry. IsListed (fields_of row.now) entry)) }
     ensures none { IfOk result (λ found. IfNone found ((number zoom column line : ℤ) (id : Option (List ℕ))
@@ -133,12 +138,16 @@ fn tile_of(alloc: Global, row: &StringRecord) -> Result<Option<Listed>, OutOfMem
     Ok(Some(Listed::Item(HeldItem {
         number,
         identity: None,
-        content,
+        content: known.share(content),
     })))
 }
 
 // The medium of a record with the word `media`.
-fn media_of(alloc: Global, row: &StringRecord) -> Result<Option<Listed>, OutOfMemory>
+fn media_of<'a>(
+    alloc: Global,
+    known: &Known<'a>,
+    row: &StringRecord,
+) -> Result<Option<Listed<'a>>, OutOfMemory>
     requires word { IsTextAt (fields_of row.now) 0 (kind_word MediaItem) }
     ensures some { IfOk result (λ found. IfSome found (λ entry. IsListed (fields_of row.now) entry)) }
     ensures none { IfOk result (λ found. IfNone found ((number : ℤ) (id : Option (List ℕ))
@@ -167,12 +176,16 @@ fn media_of(alloc: Global, row: &StringRecord) -> Result<Option<Listed>, OutOfMe
     Ok(Some(Listed::Item(HeldItem {
         number,
         identity,
-        content,
+        content: known.share(content),
     })))
 }
 
 // The attributes row of a record with the word `row`.
-fn row_of(alloc: Global, row: &StringRecord) -> Result<Option<Listed>, OutOfMemory>
+fn row_of<'a>(
+    alloc: Global,
+    known: &Known<'a>,
+    row: &StringRecord,
+) -> Result<Option<Listed<'a>>, OutOfMemory>
     requires word { IsTextAt (fields_of row.now) 0 (kind_word RowItem) }
     ensures some { IfOk result (λ found. IfSome found (λ entry. IsListed (fields_of row.now) entry)) }
     ensures none { IfOk result (λ found. IfNone found ((number x y code : ℤ) (id : Option (List ℕ))
@@ -205,12 +218,12 @@ fn row_of(alloc: Global, row: &StringRecord) -> Result<Option<Listed>, OutOfMemo
     Ok(Some(Listed::Item(HeldItem {
         number,
         identity,
-        content,
+        content: known.share(content),
     })))
 }
 
 // The link of a record with the word of a mapping.
-fn link_of(row: &StringRecord, mapping: Mapping) -> Option<Listed>
+fn link_of<'a>(row: &StringRecord, mapping: Mapping) -> Option<Listed<'a>>
     requires word { IsTextAt (fields_of row.now) 0 (mapping_word mapping) }
     ensures some { IfSome result (λ entry. IsListed (fields_of row.now) entry) }
     ensures none { IfNone result ((base other : ℤ) → ¬ IsListed (fields_of row.now)
@@ -229,7 +242,7 @@ fn link_of(row: &StringRecord, mapping: Mapping) -> Option<Listed>
 }
 
 // What a record with the word `bad` says.
-fn bad_of(alloc: Global, row: &StringRecord) -> Result<Option<Listed>, OutOfMemory>
+fn bad_of<'a>(alloc: Global, row: &StringRecord) -> Result<Option<Listed<'a>>, OutOfMemory>
     requires word { IsTextAt (fields_of row.now) 0 (codes "bad") }
     ensures some { IfOk result (λ found. IfSome found (λ entry. IsListed (fields_of row.now) entry)) }
     ensures none { IfOk result (λ found. IfNone found ((bad : BadRecord)
@@ -248,7 +261,7 @@ fn bad_of(alloc: Global, row: &StringRecord) -> Result<Option<Listed>, OutOfMemo
 }
 
 // The count of a record with the word `end`.
-fn end_of(row: &StringRecord) -> Option<Listed>
+fn end_of<'a>(row: &StringRecord) -> Option<Listed<'a>>
     requires word { IsTextAt (fields_of row.now) 0 (codes "end") }
     ensures some { IfSome result (λ entry. IsListed (fields_of row.now) entry) }
     ensures none { IfNone result ((count : ℤ) → ¬ IsListed (fields_of row.now) (listed.End count)) }
@@ -261,7 +274,11 @@ fn end_of(row: &StringRecord) -> Option<Listed>
 }
 
 /// The entry that a record is, by its word.
-pub(crate) fn entry_of(alloc: Global, row: &StringRecord) -> Result<Option<Listed>, OutOfMemory>
+pub(crate) fn entry_of<'a>(
+    alloc: Global,
+    known: &Known<'a>,
+    row: &StringRecord,
+) -> Result<Option<Listed<'a>>, OutOfMemory>
     ensures some { IfOk result (λ found. IfSome found (λ entry. IsListed (fields_of row.now) entry)) }
     ensures none { IfOk result (λ found. IfNone found ((entry : Listed) → ¬ IsListed (fields_of row.now) entry)) }
 {
@@ -272,9 +289,9 @@ pub(crate) fn entry_of(alloc: Global, row: &StringRecord) -> Result<Option<Liste
         "package" => Ok(export_of(row)),
         "system" => Ok(system_of(row)),
         "frame" => Ok(frame_of(row)),
-        "tile" => tile_of(alloc, row),
-        "media" => media_of(alloc, row),
-        "row" => row_of(alloc, row),
+        "tile" => tile_of(alloc, known, row),
+        "media" => media_of(alloc, known, row),
+        "row" => row_of(alloc, known, row),
         "tiles_media" => Ok(link_of(row, Mapping::TilesMedia)),
         "rows_media" => Ok(link_of(row, Mapping::RowsMedia)),
         "rows_tiles" => Ok(link_of(row, Mapping::RowsTiles)),

@@ -10,6 +10,7 @@ ghost use Rattle.field_lists.specs.declared.lists.ListFault.TheVariants as fault
 use crate::columns::COUNT;
 use crate::entries::{Listed, entry_of};
 use csv::{ByteRecord, ReaderBuilder, StringRecord};
+use field_changes::known::Known;
 use request_csv::fields::has_text;
 use request_csv::sources::ListSource;
 use sheet_types::error::OutOfMemory;
@@ -66,7 +67,12 @@ fn is_header(row: &StringRecord) -> bool
 }
 
 /// The entry that a record after the header is; `number` is its place, counted from 1.
-fn entry_in(alloc: Global, number: u64, row: ByteRecord) -> Result<Listed, ListFault>
+fn entry_in<'a>(
+    alloc: Global,
+    known: &Known<'a>,
+    number: u64,
+    row: ByteRecord,
+) -> Result<Listed<'a>, ListFault>
     ensures asks { IfOk result (λ entry. Lists (fields_of row) entry) }
     ensures fault { IfErr result (λ met. (met ≡ fault.Memory) ⊎ IsFaultFrom number (fields_of row ∷ []) met) }
 {
@@ -78,7 +84,7 @@ fn entry_in(alloc: Global, number: u64, row: ByteRecord) -> Result<Listed, ListF
     if text.len() != COUNT {
         return Err(ListFault::Read);
     }
-    match entry_of(alloc, &text)? {
+    match entry_of(alloc, known, &text)? {
         Some(entry) => Ok(entry),
         None => Err(ListFault::Record(number)),
     }
@@ -102,14 +108,19 @@ fn check_header(row: ByteRecord) -> Result<(), ListFault>
 }
 
 /// Reads an entry more.
-fn add_entry(alloc: Global, entries: &mut Vec<Listed>, row: ByteRecord) -> Result<(), ListFault>
+fn add_entry<'a>(
+    alloc: Global,
+    known: &Known<'a>,
+    entries: &mut Vec<Listed<'a>>,
+    row: ByteRecord,
+) -> Result<(), ListFault>
     ensures more { IfOk result (λ _. (rows : List (List (List ℕ))) → AreList rows entries.old.items
         → AreList (rows ++ fields_of row ∷ []) entries.new.items) }
     ensures fault { IfErr result (λ met. (met ≡ fault.Memory) ⊎ ((rows : List (List (List ℕ)))
         → AreList rows entries.old.items → IsFaultOf (rows ++ fields_of row ∷ []) met)) }
 {
     let number = entries.len() as u64 + 1;
-    let entry = entry_in(alloc, number, row)?;
+    let entry = entry_in(alloc, known, number, row)?;
     if entries.push(entry).is_err() {
         return Err(ListFault::Memory);
     }
@@ -117,10 +128,11 @@ fn add_entry(alloc: Global, entries: &mut Vec<Listed>, row: ByteRecord) -> Resul
 }
 
 /// Reads a record more: the header, where it was not read yet, or else an entry.
-fn add_record(
+fn add_record<'a>(
     alloc: Global,
+    known: &Known<'a>,
     has_header: bool,
-    entries: &mut Vec<Listed>,
+    entries: &mut Vec<Listed<'a>>,
     row: ByteRecord,
 ) -> Result<(), ListFault>
     ensures more { IfOk result (λ _. (rows : List (List (List ℕ))) → AreBegun has_header rows entries.old.items
@@ -129,7 +141,7 @@ fn add_record(
         → AreBegun has_header rows entries.old.items → IsFaultOf (rows ++ fields_of row ∷ []) met)) }
 {
     if has_header {
-        add_entry(alloc, entries, row)
+        add_entry(alloc, known, entries, row)
     } else {
         check_header(row)
     }
@@ -146,11 +158,13 @@ fn reader_fault<R: ListSource>(is_of_reader: bool) -> ListFault
     }
 }
 
-/// Whether there is a header, and the entries after it. One record is in memory at a time.
-fn read_records<R: ListSource + Drop>(
+/// Whether there is a header, and the entries after it. One record is in memory at a time, and no
+/// content of an entry that is known.
+fn read_records<'a, R: ListSource + Drop>(
     alloc: Global,
+    known: &Known<'a>,
     reader: R,
-) -> Result<(bool, Vec<Listed>), ListFault>
+) -> Result<(bool, Vec<Listed<'a>>), ListFault>
     ensures list { IfOk result (λ read. IfSome (R.remaining reader) (λ text. (rows : List (List (List ℕ)))
         × AreAllRecords text rows × AreBegun read.0 rows read.1.items)) }
     ensures fault { IfErr result (λ met. IsOfReader R.never_fails met
@@ -166,7 +180,7 @@ fn read_records<R: ListSource + Drop>(
     for row in source.into_byte_records() {
         match row {
             Ok(row) => {
-                add_record(alloc, has_header, &mut entries, row)?;
+                add_record(alloc, known, has_header, &mut entries, row)?;
                 has_header = true;
             }
             Err(fault) => return Err(reader_fault::<R>(fault.is_io_error())),
@@ -179,18 +193,19 @@ fn read_records<R: ListSource + Drop>(
 /// entry. A byte order mark at the start and blank lines are passed over; CR, LF and CR LF end
 /// records (RFC 4180, section 2, and beyond it as `csv` reads). A reader that fails is Read, unless
 /// a record before it is a fault. Of a text in memory Read is told of nothing but a record that
-/// cannot be read.
-pub fn read_entries<R: ListSource + Drop>(
+/// cannot be read. An item whose content is known holds that one, and has none of its own.
+pub fn read_entries<'a, R: ListSource + Drop>(
     alloc: Global,
     reader: R,
-) -> Result<Vec<Listed>, ListFault>
+    known: &Known<'a>,
+) -> Result<Vec<Listed<'a>>, ListFault>
     ensures list { IfOk result (λ entries. IfSome (R.remaining reader) (λ text. IsList text entries.items)) }
     ensures fault { IfErr result (λ met. (met ≡ fault.Read) ⊎ (met ≡ fault.Memory)
         ⊎ IfSome (R.remaining reader) (λ text. MeetsFirst text met)) }
     ensures cause { R.never_fails → IfErr result (λ met. (met ≡ fault.Memory)
         ⊎ IfSome (R.remaining reader) (λ text. MeetsFirst text met)) }
 {
-    let (has_header, entries) = read_records(alloc, reader)?;
+    let (has_header, entries) = read_records(alloc, known, reader)?;
     if has_header {
         Ok(entries)
     } else {

@@ -2,6 +2,7 @@
 use field_changes::changes::{Holdings, changes};
 use field_changes::held::{HeldItem, HeldLink};
 use field_changes::ids::Asker;
+use field_changes::known::Known;
 use sheet_types::collections::{Bytes, Text};
 use sheet_types::command::{Content, Item, Mapping, Relation};
 use sheet_types::lines::line;
@@ -14,6 +15,8 @@ const PACKAGE: &str = "a0000000-0000-4000-8000-000000000000";
 const TILE: &str = "00000000-0000-4000-8000-000000000001";
 
 const ROW: &str = "00000000-0000-4000-8000-000000000002";
+
+const OTHER: &str = "00000000-0000-4000-8000-000000000003";
 
 /// The identity and the line of each request, by Python's `hashlib`.
 const ASKED: [&str; 6] = [
@@ -58,16 +61,17 @@ fn a_replaced_tile_and_an_edited_label_come_home(rt: HostRuntime) -> Result<(), 
         content: row(alloc, "one")?,
     })?;
     let links = [Relation::new(Mapping::RowsTiles, row_id, tile_id)];
+    let known = Known::of(alloc, items.as_slice())?;
     let mut file = Vec::new(alloc);
     file.push(HeldItem {
         number: 2,
         identity: None,
-        content: tile(alloc, 0x42)?,
+        content: known.share(tile(alloc, 0x42)?),
     })?;
     file.push(HeldItem {
         number: 1,
         identity: Some(row_id),
-        content: row(alloc, "one, \"east\"")?,
+        content: known.share(row(alloc, "one, \"east\"")?),
     })?;
     let held = [HeldLink {
         mapping: Mapping::RowsTiles,
@@ -94,5 +98,40 @@ fn a_replaced_tile_and_an_edited_label_come_home(rt: HostRuntime) -> Result<(), 
     for (told, wanted) in asked.iter().zip(&ASKED) {
         assert_eq!(rt; told.as_str(), *wanted);
     }
+    Ok(())
+}
+
+#[test]
+fn what_the_package_holds_asks_for_nothing(rt: HostRuntime) -> Result<(), Fail> {
+    let alloc = rt.alloc();
+    let mut items = Vec::new(alloc);
+    for (id, label) in [(TILE, "one"), (ROW, "two"), (OTHER, "two")] {
+        items.push(Item {
+            identity: Uuid::parse_str(id)?,
+            content: row(alloc, label)?,
+        })?;
+    }
+    let known = Known::of(alloc, items.as_slice())?;
+    let mut file = Vec::new(alloc);
+    for (number, label) in [(1, "two"), (2, "one"), (3, "two"), (4, "three")] {
+        let content = known.share(row(alloc, label)?);
+        assert_eq!(rt; content.get().size(), label.len());
+        file.push(HeldItem {
+            number,
+            identity: None,
+            content,
+        })?;
+    }
+    let asker = Asker {
+        package: Uuid::parse_str(PACKAGE)?,
+        ticket: 3,
+        at: "2026-03-02T07:30:00.000Z",
+    };
+    let holdings = Holdings {
+        items: items.as_slice(),
+        links: &[],
+    };
+    let requests = changes(alloc, &asker, &holdings, false, file, &[])?;
+    assert_eq!(rt; requests.len(), 1);
     Ok(())
 }

@@ -12,6 +12,7 @@ use Rattle.field_changes.proofs.naming.note_mark.Goals as goal
 pub returns-in_ok-insert : goal.returns-in_ok-insert
 returns-in_ok-insert c = λ q.
     put_in c.args.marks.now c.insert.new.self c.of_mark.result c.in_ok-insert.ensures.updates q
-    ∙ ap (λ k. contains (slice_cmp nat_cmp) c.args.marks.now q || bytes_eq k q) c.of_mark.ensures
+    ∙ ap (λ k. contains (slice_cmp nat_cmp) c.args.marks.now q || bytes_eq k q)
+    (c.of_mark.ensures ∙ ap (key_of 0 c.in-Some.identity) c.get.ensures)
     ∙ ap (λ o. contains (slice_cmp nat_cmp) c.args.marks.now q || option_map_or (λ m. bytes_eq m q)
     (option_map (λ id. key_of 0 id c.args.item.now.content) o) false) (sym c.in-Some.is)

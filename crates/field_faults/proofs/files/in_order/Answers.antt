@@ -18,8 +18,8 @@ returns-then-is_sorted_by-clause-order c =
     (answers_always _ _ _ (λ f a r g h. search rules)) in
     subst (IsArranged held_key) c.deref.ensures.value (arranged_answer held_key c.deref.result.now true answer)
 
-pub returns-else-is_sorted_by-clause-twice : goal.returns-else-is_sorted_by-clause-twice
-returns-else-is_sorted_by-clause-twice c = λ apart.
+pub returns-clause-twice : goal.returns-clause-twice
+returns-clause-twice c = λ apart.
     let kind : HeldItem → ℕ = λ i. kind_number (kind_of i.content) in
     let key : HeldItem → ℕ × ℕ × ℕ = λ i. (
       kind_number (kind_of i.content),

@@ -22,7 +22,7 @@ returns-in-Tile c = λ before has.
     (c.is_taken_with-taken.ensures judge.items.now c.requires.tiles)) in
     c.tile_reason.ensures
     ∙ of_tile judge.frame.now judge.items.now judge.more c.args.exported before c.args.item.now c.in-Tile.zoom
-    c.in-Tile.column c.in-Tile.row c.in-Tile.bytes c.in-Tile.is c.contains-twice.result
+    c.in-Tile.column c.in-Tile.row c.in-Tile.bytes (sym c.get.ensures ∙ c.in-Tile.is) c.contains-twice.result
     c.is_taken_with-taken.result
     (c.contains-twice.ensures ∙ ap (contains (slice_cmp nat_cmp) c.args.places.now) key
     ∙ has c.in-Tile.zoom c.in-Tile.column c.in-Tile.row) with
@@ -33,9 +33,10 @@ returns-in-Media c = λ before has.
     let numbers = c.requires in
     let ids : c.as_slice-ids.result.now ≡ ids_of (kind_of c.args.item.now.content) judge.items.now =
     c.as_slice-ids.ensures.value ∙ numbers.media ∙ ap (λ k. ids_of (kind_of k) judge.items.now)
-    (sym c.in-Media.is) in
+    (sym c.in-Media.is ∙ c.get.ensures) in
     c.number_reason.ensures
-    ∙ of_number judge.frame.now judge.items.now judge.more c.args.exported before c.args.item.now _ c.in-Media.is
+    ∙ of_number judge.frame.now judge.items.now judge.more c.args.exported before c.args.item.now _
+    (sym c.get.ensures ∙ c.in-Media.is)
     c.is_renumbered_in.result
     (c.is_renumbered_in.ensures judge.items.now ids numbers.known) refl
 
@@ -45,8 +46,9 @@ returns-in-Row c = λ before has.
     let numbers = c.requires in
     let ids : c.as_slice-ids-in-Row.result.now ≡ ids_of (kind_of c.args.item.now.content) judge.items.now =
     c.as_slice-ids-in-Row.ensures.value ∙ numbers.rows ∙ ap (λ k. ids_of (kind_of k) judge.items.now)
-    (sym c.in-Row.is) in
+    (sym c.in-Row.is ∙ c.get.ensures) in
     c.number_reason-in-Row.ensures
-    ∙ of_number judge.frame.now judge.items.now judge.more c.args.exported before c.args.item.now _ c.in-Row.is
+    ∙ of_number judge.frame.now judge.items.now judge.more c.args.exported before c.args.item.now _
+    (sym c.get.ensures ∙ c.in-Row.is)
     c.is_renumbered_in-in-Row.result
     (c.is_renumbered_in-in-Row.ensures judge.items.now ids numbers.known) refl
