@@ -6,6 +6,7 @@ use Rattle.std.specs.Prelude.{◌∷◌, map, filter, find, length, refl, Option
 use Rattle.std.specs.Prelude.{count_by, Contains}
 use Rattle.std.proofs.Common.{sym, ap, subst, ◌∙◌, arith, inl, inr}
 use Rattle.std.proofs.lemmas.Bool.{true≢false, true_from_ne_false}
+use Rattle.std.proofs.lemmas.List.{length-map}
 use Rattle.std.proofs.lemmas.Option.{slice_get_within}
 use Rattle.std.specs.List.{list_any, AllZip, AllByRecursion}
 use Rattle.std.specs.Option.{option_map_or, SomeIff}
@@ -240,9 +241,9 @@ module _ (ps : List Pair) (checked : AreChecked (sights_of ps) (formed_of ps) (t
         not_less a b f = grind (arith, f)
 
     module _ (ledger : List Receipt) (account : IsInAccount ledger world) (kept : List (Option Kept))
-        (are : AreKept ledger (sights_of ps) (flags_of (sights_of ps)) sums kept) where
+        (are : AreKept ledger (map (λ s. s.head) (sights_of ps)) (flags_of (sights_of ps)) sums kept) where
       one_kept : (p : Pair) → In p ps → (o : Option Sums) → TellsSums p.seen.held o → (k : Option Kept)
-          → IsKeptAt ledger p.seen.sight (is_live_store (sights_of ps) p.seen.sight) o k
+          → IsKeptAt ledger p.seen.sight.head (is_live_store (sights_of ps) p.seen.sight) o k
           → IsKeptOf (views_of ps) world k p.view
       one_kept p i o tells None is = not_live (is_live_view (views_of ps) p.view) (λ live.
           let h : (h : Head) × (p.view.head ≡ Some h) = live_headed (views_of ps) p.view live in
@@ -269,7 +270,8 @@ module _ (ps : List Pair) (checked : AreChecked (sights_of ps) (formed_of ps) (t
 
       all_kept : AllZip (IsKeptOf (views_of ps) world) kept (views_of ps)
       all_kept = zip_by_places (IsKeptOf (views_of ps) world) kept (views_of ps)
-          (are.long ∙ length_mapped (λ p. p.seen.sight) (λ p. p.view) ps) (λ k x v at_x at_v.
+          (are.long ∙ length-map (sights_of ps) (λ s. s.head)
+          ∙ length_mapped (λ p. p.seen.sight) (λ p. p.view) ps) (λ k x v at_x at_v.
           let p : (p : Pair) × (slice_get ps k ≡ Some p) × (p.view ≡ v) =
           mapped_from (λ p. p.view) ps k v at_v in
           let o : (o : Option Sums) × (slice_get sums k ≡ Some o) × TellsSums p.0.seen.held o =
@@ -278,7 +280,8 @@ module _ (ps : List Pair) (checked : AreChecked (sights_of ps) (formed_of ps) (t
           let sight_at : slice_get (sights_of ps) k ≡ Some p.0.seen.sight =
           mapped_at (λ q. q.seen.sight) ps k p.0 p.1 in
           subst (IsKeptOf (views_of ps) world x) p.2 (one_kept p.0 (at_place ps k p.0 p.1) o.0 o.2 x
-          (are.each k p.0.seen.sight (is_live_store (sights_of ps) p.0.seen.sight) o.0 x sight_at
+          (are.each k p.0.seen.sight.head (is_live_store (sights_of ps) p.0.seen.sight) o.0 x
+          (mapped_at (λ s. s.head) (sights_of ps) k p.0.seen.sight sight_at)
           (mapped_at (is_live_store (sights_of ps)) (sights_of ps) k p.0.seen.sight sight_at) o.1 at_x)))
 
       stands : StoresStandFor (views_of ps) world

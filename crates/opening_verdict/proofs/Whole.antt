@@ -84,10 +84,10 @@ module _ (seen : List StoreSeen) (views : List StoreSight) (are : AreSeenAs seen
 
       pub verdict_so : (ledger : List Receipt) (kept : List (Option Kept)) (verdict : Verdict)
           → ((w : World) → IsWorldOf (arranged sight_key (taken live hs)) w → IsInAccount ledger w)
-          → AreKept ledger ss live sums kept
+          → AreKept ledger (map (λ s. s.head) ss) live sums kept
           → verdict.kept.items ≡ kept → verdict.count ≡ length ledger → IsVerdictOf verdict views
       verdict_so ledger kept verdict account are_kept same count =
           subst (IsVerdictOf verdict) v_same (verdict_of ps checked sums told_so ledger
           (account (world ps checked) is_theirs) kept
-          (subst (λ l. AreKept ledger (sights_of ps) l sums kept) live_same
-          (subst (λ x. AreKept ledger x live sums kept) s_same are_kept)) verdict same count)
+          (subst (λ l. AreKept ledger (map (λ s. s.head) (sights_of ps)) l sums kept) live_same
+          (subst (λ x. AreKept ledger (map (λ s. s.head) x) live sums kept) s_same are_kept)) verdict same count)

@@ -1,5 +1,4 @@
--- What is kept of stores, told by what they say of themselves, by which are live and by how much each holds, place by
--- place. Profile.
+-- What is kept of stores, told by their heads, by which are live and by how much each holds, place by place. Profile.
 use Rattle.std.specs.Prelude.{◌≡◌, ◌⊎◌, ◌<◌, ◌^◌, ℕ, Bool, true, List, length, Option, Some}
 use Rattle.std.specs.Prelude.{None, MatchOption}
 use Rattle.std.specs.Prelude.{slice_get}
@@ -11,7 +10,6 @@ use Rattle.sheet_types.specs.declared.receipt.Receipt.{Receipt}
 use Rattle.sheet_types.specs.declared.receipt.Sums.{Sums}
 use Rattle.sheet_balance.specs.Sights.{IsSightOf}
 use Rattle.sheet_balance.specs.declared.sights.Sight.{Sight as PackageSight}
-use Rattle.opening_faults.specs.declared.sights.Sight.{Sight}
 use Rattle.opening_faults.specs.declared.sights.StoreHead.{StoreHead}
 use Rattle.opening_faults.specs.declared.faults.RecoverFault.{RecoverFault}
 use Rattle.opening_faults.specs.declared.faults.RecoverFault.TheVariants.{OutOfMemory, StoreFault}
@@ -29,17 +27,17 @@ pub record IsKeptBy (ledger : List Receipt) (h : StoreHead) (sums : Option Sums)
   pub ticket_is : k.ticket ≡ last_naming h.uuid ledger
 
 -- what is kept of a store: nothing where it is not live
-abbrev pub IsKeptAt : List Receipt → Sight → Bool → Option Sums → Option Kept → Type 0
-IsKeptAt ledger s live sums kept = MatchOption kept (live ≡ true → s.head ≡ None)
-    (λ k. (live ≡ true) × (s.head ≡ Some k.head) × IsKeptBy ledger k.head sums k)
+abbrev pub IsKeptAt : List Receipt → Option StoreHead → Bool → Option Sums → Option Kept → Type 0
+IsKeptAt ledger head live sums kept = MatchOption kept (live ≡ true → head ≡ None)
+    (λ k. (live ≡ true) × (head ≡ Some k.head) × IsKeptBy ledger k.head sums k)
 
 -- of each
-pub record AreKept (ledger : List Receipt) (sights : List Sight) (live : List Bool) (sums : List (Option Sums))
-    (kept : List (Option Kept)) : Type 0 where
-  pub long : length kept ≡ length sights
-  pub each : (i : ℕ) (s : Sight) (b : Bool) (o : Option Sums) (k : Option Kept) → slice_get sights i ≡ Some s
-      → slice_get live i ≡ Some b → slice_get sums i ≡ Some o → slice_get kept i ≡ Some k
-      → IsKeptAt ledger s b o k
+pub record AreKept (ledger : List Receipt) (heads : List (Option StoreHead)) (live : List Bool)
+    (sums : List (Option Sums)) (kept : List (Option Kept)) : Type 0 where
+  pub long : length kept ≡ length heads
+  pub each : (i : ℕ) (h : Option StoreHead) (b : Bool) (o : Option Sums) (k : Option Kept)
+      → slice_get heads i ≡ Some h → slice_get live i ≡ Some b → slice_get sums i ≡ Some o
+      → slice_get kept i ≡ Some k → IsKeptAt ledger h b o k
 
 -- some store is live, and its package has no sums
 abbrev pub IsSomeUnkept : List Bool → List (Option Sums) → Type 0

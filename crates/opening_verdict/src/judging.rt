@@ -6,7 +6,7 @@ ghost use Rattle.opening_verdict.specs.Views.{AreSeenAs, IsFaultOf, IsVerdictOf}
 use crate::accounting::ledger_in_account;
 use crate::checking::check;
 use crate::seen::{Parts, StoreSeen, parts_of};
-use crate::tallying::{all_kept, all_sums};
+use crate::tallying::{all_heads, all_kept, all_sums};
 use crate::verdict::Verdict;
 use opening_faults::faults::RecoverFault;
 use std::alloc::Global;
@@ -30,9 +30,10 @@ pub fn judge_all(alloc: Global, seen: Vec<StoreSeen>) -> Result<Verdict, Recover
         held,
     } = parts_of(alloc, seen)?;
     let live = check(alloc, &sights, &formed, &tied)?;
+    let heads = all_heads(alloc, sights)?;
     let sums = all_sums(alloc, &held)?;
     let ledger = ledger_in_account(alloc, held, &live)?;
-    let kept = all_kept(alloc, &sights, &live, &sums, &ledger)?;
+    let kept = all_kept(alloc, &heads, &live, &sums, &ledger)?;
     let count = ledger.len() as u64;
     Ok(Verdict { kept, count })
 }

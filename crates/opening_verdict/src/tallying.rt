@@ -1,5 +1,5 @@
 //! What a world keeps of each live package.
-ghost use Rattle.std.specs.Prelude.{◌≡◌, true, List, None, length, IfOk, IfErr};
+ghost use Rattle.std.specs.Prelude.{◌≡◌, true, List, None, length, map, IfOk, IfErr};
 ghost use Rattle.std.specs.List.{AllZip};
 ghost use Rattle.opening_faults.specs.declared.faults.RecoverFault.TheVariants.{StoreFault};
 ghost use Rattle.sheet_types.specs.declared.receipt.Receipt.{Receipt as ModelReceipt};
@@ -17,6 +17,20 @@ use sheet_types::receipt::{Receipt, Sums};
 use std::alloc::{AllocError, Global};
 use std::collections::BTreeMap;
 use uuid::Uuid;
+
+/// Whose each store is, in turn. What else the stores say of themselves is let go.
+///
+/// # Errors
+///
+/// Want of memory.
+pub(crate) fn all_heads(
+    alloc: Global,
+    sights: Vec<Sight>,
+) -> Result<Vec<Option<StoreHead>>, AllocError>
+    ensures { IfOk result (λ heads. heads.items ≡ map (λ s. s.head) sights.items) }
+{
+    sights.iter().map(|sight: &Sight| sight.head).collect(alloc)
+}
 
 /// How much each package holds, in turn.
 ///
@@ -55,16 +69,16 @@ fn kept_of(
 
 // What is kept of a store: of a live one its package.
 fn kept_at(
-    sight: &Sight,
+    head: Option<StoreHead>,
     live: bool,
     sums: Option<Sums>,
     last: &BTreeMap<Uuid, u64>,
 ) -> Result<Option<Kept>, RecoverFault>
     ensures kept { IfOk result (λ kept. (ledger : List ModelReceipt) → TellsLast last.now ledger
-        → IsKeptAt ledger sight.now live sums kept) }
+        → IsKeptAt ledger head live sums kept) }
     ensures fault { IfErr result (λ fault. (fault ≡ StoreFault) × (live ≡ true) × (sums ≡ None)) }
 {
-    match (live, sight.head) {
+    match (live, head) {
         (true, Some(head)) => Ok(Some(kept_of(head, sums, last)?)),
         _ => Ok(None),
     }
@@ -77,20 +91,20 @@ fn kept_at(
 /// `StoreFault` where a live package holds 2^64 bytes or more, and want of memory.
 pub(crate) fn all_kept(
     alloc: Global,
-    sights: &[Sight],
+    heads: &[Option<StoreHead>],
     live: &[bool],
     sums: &[Option<Sums>],
     ledger: &[Receipt],
 ) -> Result<Vec<Option<Kept>>, RecoverFault>
-    requires live { length live.now ≡ length sights.now }
-    requires sums { length sums.now ≡ length sights.now }
-    ensures kept { IfOk result (λ kept. AreKept ledger.now sights.now live.now sums.now kept.items) }
+    requires live { length live.now ≡ length heads.now }
+    requires sums { length sums.now ≡ length heads.now }
+    ensures kept { IfOk result (λ kept. AreKept ledger.now heads.now live.now sums.now kept.items) }
     ensures fault { IfErr result (λ fault. IsWantOr (IsSomeUnkept live.now sums.now) fault) }
 {
     let last = last_receipts(alloc, ledger)?;
     let mut all = Vec::new(alloc);
-    for place in 0..sights.len() {
-        let kept = kept_at(&sights[place], live[place], sums[place], &last)?;
+    for place in 0..heads.len() {
+        let kept = kept_at(heads[place], live[place], sums[place], &last)?;
         all.push(kept)?;
     }
     Ok(all)

@@ -31,7 +31,7 @@ fn things_of(alloc: Global, seq: i64, rows: &[MovedRow]) -> Result<Option<MovedL
     ensures some { IfOk result (λ found. IfSome found (AreThingsOf seq rows.now)) }
     ensures none { IfOk result (λ found. IfNone found (StandFrom seq 0 rows.now → ⊥)) }
 {
-    let mut things = Vec::new(alloc);
+    let mut things = Vec::with_capacity(alloc, rows.len())?;
     for place in 0..rows.len() {
         let row = &rows[place];
         if !stands_at(row, seq, place) {
@@ -91,7 +91,7 @@ pub(crate) fn receipts_of(
         entered.items)) }
     ensures none { IfOk result (λ found. IfNone found (AreReceiptsInRange (into_iter_items rows) moved.now → ⊥)) }
 {
-    let mut entered = Vec::new(alloc);
+    let mut entered = Vec::with_capacity(alloc, rows.len())?;
     let mut rest = moved;
     for row in rows {
         let (own, others) = rest.split_at(end_of_number(rest, row.seq));

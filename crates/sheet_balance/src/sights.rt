@@ -1,5 +1,5 @@
 //! What the judge sees of a package.
-ghost use Rattle.std.specs.Prelude.{◌≡◌, ◌++◌, flat_map, Some, IfOk};
+ghost use Rattle.std.specs.Prelude.{◌≡◌, ◌++◌, ◌≤◌, flat_map, length, sum_by, Some, IfOk};
 ghost use Rattle.sheet_types.specs.Balance.{archive_of};
 ghost use Rattle.sheet_types.specs.Ordered.{arranged};
 ghost use Rattle.sheet_types.specs.World.{World, receipts_of, receipt_key};
@@ -39,11 +39,22 @@ pub fn ledger_of(alloc: Global, sights: &[Sight]) -> Result<Vec<Receipt>, OutOfM
     Ok(in_order(all_receipts(alloc, sights)?)?)
 }
 
+// How many receipts all packages have; never more than there are.
+fn receipt_count(sights: &[Sight]) -> usize
+    ensures { result ≤ sum_by (λ s. length s.receipts.items) sights.now }
+{
+    let mut count: usize = 0;
+    for sight in sights {
+        count = count.saturating_add(sight.receipts.len());
+    }
+    count
+}
+
 // The receipts of all packages in turn.
 fn all_receipts(alloc: Global, sights: &[Sight]) -> Result<Vec<Receipt>, OutOfMemory>
     ensures { IfOk result (λ all. all.items ≡ flat_map (λ s. s.receipts.items) sights.now) }
 {
-    let mut all = Vec::new(alloc);
+    let mut all = Vec::with_capacity(alloc, receipt_count(sights))?;
     for sight in sights {
         push_all(&mut all, sight.receipts.as_slice())?;
     }

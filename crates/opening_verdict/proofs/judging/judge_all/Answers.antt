@@ -38,6 +38,7 @@ all_kept-requires-clause-sums c =
     ap length c.deref-8.ensures.value ∙ AllZip-long TellsSums _ c.in_ok-sums.sums.items told
     ∙ ap length parts.held ∙ length-map c.args.seen.items (λ x. x.held)
     ∙ sym (length-map c.args.seen.items (λ x. x.sight)) ∙ sym (ap length parts.sights)
+    ∙ sym (length-map _ (λ s. s.head)) ∙ sym (ap length c.in_ok-heads.ensures)
     ∙ sym (ap length c.deref-6.ensures.value)
 
 pub returns-in_err-kept-clause-fault : goal.returns-in_err-kept-clause-fault
@@ -62,8 +63,11 @@ returns-clause-stands c = λ views are.
     let live = rw (c.deref.ensures.value) at c.in_ok-live.ensures.live in
     let told = rw (c.deref-4.ensures.value) at c.in_ok-sums.ensures in
     let account = rw (c.deref-5.ensures.value) at c.in_ok-ledger.ensures.ledger in
-    let kept = rw (c.deref-6.ensures.value, c.deref-7.ensures.value, c.deref-8.ensures.value) at
-    c.in_ok-kept.ensures.kept in
+    let kept = rw (c.in_ok-heads.ensures) at (rw (
+      c.deref-6.ensures.value,
+      c.deref-7.ensures.value,
+      c.deref-8.ensures.value,
+    ) at c.in_ok-kept.ensures.kept) in
     let long : vec_len c.in_ok-ledger.ledger ≡ length c.in_ok-ledger.ledger.items =
     omega (arith, c.in_ok-ledger.ledger.ok.0) in
     verdict_so c.args.seen.items views are _ _ _ _ parts.sights parts.formed parts.tied parts.held checked _ live _

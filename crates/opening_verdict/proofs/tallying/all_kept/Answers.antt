@@ -32,11 +32,11 @@ loop-place-preserved c =
     let i = c.loop-place.place in
     let lt_b : i < length c.args.live.now = omega (arith, c.loop-place-test.true, c.requires.live) in
     let lt_o : i < length c.args.sums.now = omega (arith, c.loop-place-test.true, c.requires.sums) in
-    subst (IsKeeping c.args.ledger.now c.args.sights.now c.args.live.now c.args.sums.now (i + 1))
+    subst (IsKeeping c.args.ledger.now c.args.heads.now c.args.live.now c.args.sums.now (i + 1))
     (sym (chosen _ _ _ _ c.push.ensures.items (ap is_ok c.in_ok-push.was)))
-    (keeps_on c.args.ledger.now c.args.sights.now c.args.live.now c.args.sums.now i c.loop-place.all.items
-    c.index-sights-place.result (get_or c.args.live.now i false) (get_or c.args.sums.now i None) c.in_ok-kept.kept
-    (slice_get-get_or c.args.sights.now i c.index-sights-place.result c.loop-place-test.true
-    ∙ ap Some (sym c.index-sights-place.is)) (slice_get-get_or c.args.live.now i false lt_b)
+    (keeps_on c.args.ledger.now c.args.heads.now c.args.live.now c.args.sums.now i c.loop-place.all.items
+    c.index-heads-place.result (get_or c.args.live.now i false) (get_or c.args.sums.now i None) c.in_ok-kept.kept
+    (slice_get-get_or c.args.heads.now i c.index-heads-place.result c.loop-place-test.true
+    ∙ ap Some (sym c.index-heads-place.is)) (slice_get-get_or c.args.live.now i false lt_b)
     (slice_get-get_or c.args.sums.now i None lt_o)
     c.loop-place.invariant (c.in_ok-kept.ensures.kept c.args.ledger.now c.in_ok-last.ensures))
