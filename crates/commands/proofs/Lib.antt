@@ -1,5 +1,6 @@
 mod Makings
 pub mod WhatIsTold
+mod AskedOnce
 mod LineFacts
 mod StreamFacts
 mod TakenOut

@@ -86,11 +86,13 @@ module _ {S : Type 0} (g : Ghosts S) where
     pub taken : TakesLine line old.world new.world old.written new.written ending
     pub next_ending : new.ending ≡ ending_then old.ending ending
 
-  -- The reader is at its end or something has stopped, and no more is done; or that the next line is not read is told.
+  -- The reader is at its end or something has stopped, and no more is done; or, where nothing has stopped, that the
+  -- next line is not read is told.
   abbrev pub EndsAt : Stage S → Option (List ℕ) → Ending → Type 0
   EndsAt last after ending =
       (((stops last.ending ≡ true) ⊎ IsAtEnd last.left) × (ending ≡ last.ending) × (after ≡ last.written))
-      ⊎ ((why : Ending) × TellsUnread last.written after why × (ending ≡ ending_then last.ending why))
+      ⊎ ((stops last.ending ≡ false)
+      × ((why : Ending) × TellsUnread last.written after why × (ending ≡ ending_then last.ending why)))
 
   -- From a stage on lines were taken one after the other, each once, until the reader was at its end or it was stopped.
   pub record TakesLines (first : Stage S) (new : Seen S) (after : Option (List ℕ)) (ending : Ending) : Type 0 where

@@ -1,11 +1,15 @@
 -- What the subcommands that change a world make of it, what they print, and how they end. Profile.
-use Rattle.std.specs.Prelude.{◌≡◌, ◌⊎◌, ℕ, List, Option, Result, Ok, Err, IfSome}
+use Rattle.std.specs.Prelude.{◌≡◌, ◌⊎◌, [], ℕ, List, Option, Result, Ok, Err, IfSome, false}
+use Rattle.sqlite.specs.Held.{Held}
 use Rattle.sqlite.specs.Store.{Ghosts}
+use Rattle.sheet_types.specs.World.{new_world}
 use Rattle.sheet_types.specs.declared.command.Request.{Request}
+use Rattle.sheet_types.specs.declared.frame.Frame.{Frame}
 use Rattle.sheet_types.specs.declared.receipt.Receipt.{Receipt}
 use Rattle.sheet_types.specs.declared.refusal.Refusal.{Refusal}
 use Rattle.request_json.specs.Requests.{IsRequestText}
-use Rattle.world.specs.Worlds.{IsStep, LeavesNoTrace, Seen, StandsStill}
+use Rattle.world_members.specs.Members.{AllClean, AllMadeAt, AllOpen}
+use Rattle.world.specs.Worlds.{IsStep, LeavesNoTrace, Seen, StandsFor, StandsStill, held}
 use Rattle.manifest_csv.specs.Imports.{Imports}
 use Rattle.request_imports.specs.Twice.{ImportsTwice}
 use Rattle.request_imports.specs.declared.twice.TwiceFault.{TwiceFault}
@@ -35,12 +39,6 @@ IsUnmade ending =
     (ending ≡ HoldsPackages)
     ⊎ ((fault : OpenFault) × (ending ≡ Unopened fault))
     ⊎ ((failure : Failure) × (ending ≡ Usual (Stopped failure)))
-
--- The line that names the archive is printed; or it was not made, or is not known to last, and nothing was written.
-abbrev pub Inits : {W : Type 0} → List ℕ → W → W → Option (List ℕ) → Option (List ℕ) → Ending
-    → Type 0
-Inits uuid writer writer' before after ending =
-    Prints (archive_line uuid) done before after ending ⊎ (IsUnmade ending × (writer' ≡ writer))
 
 -- ---- apply
 
@@ -81,6 +79,35 @@ serve_ending (Ok x) = done
 serve_ending (Err fault) = failed
 
 module _ {S : Type 0} (g : Ghosts S) where
+  -- ---- init
+
+  -- The world of an archive with nothing in it, made at this moment, in one store, which is open: all that where its
+  -- disk has given back what was written. It can be used, and has no store beside.
+  pub record IsNew (archive at : List ℕ) (f : Frame) (seen : Seen S) : Type 0 where
+    pub usable : seen.has_failed ≡ false
+    pub alone : seen.strays ≡ []
+    pub made : AllClean g seen.members → StandsFor g seen (new_world archive f)
+    pub dated : AllClean g seen.members → AllMadeAt g f at seen.members
+    pub opens : AllClean g seen.members → AllOpen g seen.members
+
+  -- the stores of such a world, all of them
+  abbrev pub AreNewStores : List ℕ → List ℕ → Frame → List (Held S) → Type 0
+  AreNewStores archive at f stores = (seen : Seen S) × IsNew archive at f seen × (stores ≡ held g seen)
+
+  -- it was made, of some stores
+  abbrev pub IsFounded : List ℕ → List ℕ → Frame → Type 0
+  IsFounded archive at f = (stores : List (Held S)) × AreNewStores archive at f stores
+
+  -- The archive was made, and the line that names it is printed; or it was not made, or is not known to last, and
+  -- nothing was written.
+  abbrev pub Inits : {W : Type 0} → List ℕ → List ℕ → Frame → W → W → Option (List ℕ) → Option (List ℕ) → Ending
+      → Type 0
+  Inits archive at f writer writer' before after ending =
+      (IsFounded archive at f × Prints (archive_line archive) done before after ending)
+      ⊎ (IsUnmade ending × (writer' ≡ writer))
+
+  -- ---- apply
+
   -- A request that was carried out, and its reply as a line.
   pub record IsApplied (q : Request) (old new : Seen S) (before after : Option (List ℕ)) (ending : Ending) :
       Type 0 where

@@ -115,8 +115,19 @@ module _ {S : Type 0} (g : Ghosts S) where
     pub tidied : MakesFolderTidy register made
     pub told : TellsTidy made writer writer' before after ending
 
--- The same of a folder that is opened for it, of whose files no clause can speak.
-abbrev pub TidiesFolder : {W : Type 0} → W → W → Option (List ℕ) → Option (List ℕ) → Ending → Type 0
-TidiesFolder writer writer' before after ending =
-    ((fault : OpenFault) × (ending ≡ Unopened fault) × (writer' ≡ writer))
-    ⊎ ((made : Result Tidied Fault) × TellsTidy made writer writer' before after ending)
+  -- The same of a world that ends with it, and of which these stores are left.
+  pub record EndsBeside {W : Type 0} (seen : Seen S) (stores : List (Held S)) (writer writer' : W)
+      (before after : Option (List ℕ)) (ending : Ending) : Type 0 where
+    pub register : Result Register Fault
+    pub looked : LooksInto g IsRegisterOf seen stores register
+    pub made : Result Tidied Fault
+    pub tidied : MakesFolderTidy register made
+    pub told : TellsTidy made writer writer' before after ending
+
+  -- A folder of the file system was not opened, and nothing was written; or its world was, and the folder was made
+  -- tidy.
+  abbrev pub TidiesFolder : {W : Type 0} → W → W → Option (List ℕ) → Option (List ℕ) → Ending → Type 0
+  TidiesFolder writer writer' before after ending =
+      ((fault : OpenFault) × (ending ≡ Unopened fault) × (writer' ≡ writer))
+      ⊎ ((seen : Seen S) × (stores : List (Held S)) × IsFolderWorld g seen
+      × EndsBeside seen stores writer writer' before after ending)

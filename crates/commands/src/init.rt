@@ -1,17 +1,14 @@
 //! A new archive in a folder that holds no packages.
-ghost use Rattle.std.specs.Prelude.{◌≡◌, ℕ, List, IfOk, IfErr, string_bytes};
+ghost use Rattle.std.specs.Prelude.{◌≡◌, ℕ, List, IfOk, IfErr, OnOk, string_bytes};
 ghost use Rattle.sqlite.specs.Held.{state};
 ghost use Rattle.sqlite.specs.State.{HasCleanDisk};
-ghost use Rattle.sheet_types.specs.World.{new_world};
 ghost use Rattle.sheet_types.specs.declared.frame.Frame.{Frame};
 ghost use Rattle.store_sql.specs.Blank.{IsBlank, no_schema};
-ghost use Rattle.world_members.specs.Members.{AllClean};
-ghost use Rattle.world.specs.Worlds.{StandsFor};
 ghost use Rattle.command_words.specs.Arguments.{Asks, IsFirstUnread};
 ghost use Rattle.command_words.specs.declared.statuses.What.{What};
 ghost use Rattle.command_words.specs.declared.statuses.Outcome.TheVariants.{Refused};
 ghost use Rattle.commands.specs.Printing.{archive_line};
-ghost use Rattle.commands.specs.Subcommands.{Inits, IsUnmade};
+ghost use Rattle.commands.specs.Subcommands.{AreNewStores, Inits, IsFounded, IsNew, IsUnmade};
 ghost use Rattle.command_folder.specs.declared.endings.Ending.TheVariants.{Usual};
 
 use command_folder::endings::{DONE, Ending, FAILED, NO_MEMORY, OpenFault};
@@ -19,6 +16,7 @@ use command_words::arguments::{Rehearsal, Words, read_rehearsal};
 use command_words::statuses::{Failure, Outcome};
 use manifest_csv::sending::send;
 use sqlite::{Alter, Connection};
+use sqlite_trees::store::Store;
 use std::alloc::{AllocError, Global};
 use std::io::Write;
 use store_folder::fault::FolderFault;
@@ -36,26 +34,29 @@ fn new_world<S: Alter + Drop>(
     conn: Connection<S>,
 ) -> Result<World<S>, Failure>
     requires { HasCleanDisk (state S.Store conn) → IsBlank no_schema (state S.Store conn).now }
-    ensures { IfOk result (λ world. AllClean S.Store world.members
-        → StandsFor S.Store world (new_world rehearsal.now.archive rehearsal.now.frame)) }
+    ensures { IfOk result (IsNew S.Store rehearsal.now.archive rehearsal.now.at.now rehearsal.now.frame) }
 {
-    let made = World::create(
+    let world = World::create(
         alloc,
         conn,
         rehearsal.archive,
         rehearsal.at,
         &rehearsal.frame,
-    );
-    Ok(made?)
+    )?;
+    // Whoever asks also learns that it has no store beside.
+    world.has_failed();
+    Ok(world)
 }
 
-/// The stores of the same world.
+/// The stores of the same world, all of them.
 fn new_stores<S: Alter + Drop>(
     alloc: Global,
     rehearsal: &Rehearsal<'_>,
     conn: Connection<S>,
 ) -> Result<Vec<Connection<S>>, Failure>
     requires { HasCleanDisk (state S.Store conn) → IsBlank no_schema (state S.Store conn).now }
+    ensures { IfOk result (λ stores. AreNewStores S.Store rehearsal.now.archive rehearsal.now.at.now
+        rehearsal.now.frame stores.items) }
 {
     let world = new_world(alloc, rehearsal, conn)?;
     Ok(world.into_stores())
@@ -70,7 +71,9 @@ fn archive_line(alloc: Global, archive: Uuid) -> Result<String, AllocError>
 
 /// Makes a new archive in a file that is no package's yet, and gives it the archive's name once it is whole.
 fn make_whole(rt: &HostRuntime, rehearsal: &Rehearsal<'_>, folder: &str) -> Result<(), Ending>
-    ensures { IfErr result IsUnmade }
+    ensures founded { OnOk result (IsFounded ⟦<FolderStore as Store>⟧ rehearsal.now.archive rehearsal.now.at.now
+        rehearsal.now.frame) }
+    ensures unmade { IfErr result IsUnmade }
 {
     let conn = match blank_unfinished(rt, folder, rehearsal.archive) {
         Ok(conn) => conn,
@@ -92,7 +95,9 @@ fn make_whole(rt: &HostRuntime, rehearsal: &Rehearsal<'_>, folder: &str) -> Resu
 
 /// Makes the file of a new archive in a folder. Where it cannot be made whole, what was made of it is removed.
 fn make(rt: &HostRuntime, rehearsal: &Rehearsal<'_>, folder: &str) -> Result<(), Ending>
-    ensures { IfErr result IsUnmade }
+    ensures founded { OnOk result (IsFounded ⟦<FolderStore as Store>⟧ rehearsal.now.archive rehearsal.now.at.now
+        rehearsal.now.frame) }
+    ensures unmade { IfErr result IsUnmade }
 {
     let made = make_whole(rt, rehearsal, folder);
     if made.is_err() {
@@ -104,7 +109,9 @@ fn make(rt: &HostRuntime, rehearsal: &Rehearsal<'_>, folder: &str) -> Result<(),
 
 /// Makes the archive in a folder that holds no packages, while no other process works in it.
 fn make_alone(rt: &HostRuntime, rehearsal: &Rehearsal<'_>, folder: &str) -> Result<(), Ending>
-    ensures { IfErr result IsUnmade }
+    ensures founded { OnOk result (IsFounded ⟦<FolderStore as Store>⟧ rehearsal.now.archive rehearsal.now.at.now
+        rehearsal.now.frame) }
+    ensures unmade { IfErr result IsUnmade }
 {
     let _lock = match lock_folder(rt, folder) {
         Ok(lock) => lock,
@@ -131,7 +138,8 @@ fn make_archive<W: Write>(
     folder: &str,
     writer: &mut W,
 ) -> Ending
-    ensures { Inits rehearsal.now.archive writer.old writer.new (W.contents writer.old) (W.contents writer.new) result }
+    ensures { Inits ⟦<FolderStore as Store>⟧ rehearsal.now.archive rehearsal.now.at.now rehearsal.now.frame
+        writer.old writer.new (W.contents writer.old) (W.contents writer.new) result }
 {
     let line = match archive_line(rt.alloc(), rehearsal.archive) {
         Ok(line) => line,
@@ -155,8 +163,8 @@ pub fn init<W: Write>(rt: &HostRuntime, words: &Words<'_>, folder: &str, writer:
     ensures unwritten { (what : What) → IsFirstUnread words.now.archive.now words.now.at.now words.now.frame.now what
         → writer.new ≡ writer.old }
     ensures made { (uuid moment : List ℕ) (frame : Frame) → Asks words.now.archive.now words.now.at.now
-        words.now.frame.now uuid moment frame → Inits uuid writer.old writer.new (W.contents writer.old)
-        (W.contents writer.new) result }
+        words.now.frame.now uuid moment frame → Inits ⟦<FolderStore as Store>⟧ uuid moment frame
+        writer.old writer.new (W.contents writer.old) (W.contents writer.new) result }
 {
     match read_rehearsal(words) {
         Ok(rehearsal) => make_archive(rt, &rehearsal, folder, writer),

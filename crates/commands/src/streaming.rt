@@ -290,6 +290,9 @@ fn apply_rest<S: Alter + Drop, H: Shelf<S>, R: Read, W: Write>(
         }
         ending = ending_then(ending, answer_line(alloc, world, shelf, &line, writer));
     }
+    if is_stop(&ending) {
+        return ending;
+    }
     FAILED
 }
 

@@ -224,7 +224,7 @@ fn tidy_at<Y: Yard, W: Write>(
 /// Takes out of a folder what its register can do without, and writes a line for each file: of loans that came home,
 /// of splits that were stopped, and what stands beside no package.
 pub fn tidy<W: Write>(rt: &HostRuntime, folder: &str, writer: &mut W) -> Ending
-    ensures { TidiesFolder writer.old writer.new
+    ensures { TidiesFolder ⟦<FolderStore as Store>⟧ writer.old writer.new
         (W.contents writer.old) (W.contents writer.new) result }
 {
     let mut yard = FolderYard { rt, folder };

@@ -24,7 +24,10 @@ returns-in-Err g c = record {
   last = stage (g.R.Read.remaining c.lines.reader) c.lines.world (g.W.Write.contents c.lines.writer) c.lines.ending;
   taken = c.lines.invariant.1;
   world = refl;
-  ended = inr (c.tell_unread.result, c.tell_unread.ensures, c.ending_then.ensures);
+  ended = inr (
+    sym c.is_stop.ensures ∙ c.if-is_stop.false,
+    (c.tell_unread.result, c.tell_unread.ensures, c.ending_then.ensures),
+  );
 }
 
 pub returns-then-is_empty : goal.returns-then-is_empty
@@ -48,11 +51,20 @@ lines-preserved g c = (
   }),
 )
 
+pub returns-then-is_stop-2 : goal.returns-then-is_stop-2
+returns-then-is_stop-2 g c = record {
+  lines = c.lines.invariant.0;
+  last = stage (g.R.Read.remaining c.lines.reader) c.lines.world (g.W.Write.contents c.lines.writer) c.lines.ending;
+  taken = c.lines.invariant.1;
+  world = refl;
+  ended = inl (inl (sym c.is_stop-2.ensures ∙ c.if-is_stop-2.true), refl, refl);
+}
+
 pub returns : goal.returns
 returns g c = record {
   lines = c.lines.invariant.0;
   last = stage (g.R.Read.remaining c.lines.reader) c.lines.world (g.W.Write.contents c.lines.writer) c.lines.ending;
   taken = c.lines.invariant.1;
   world = refl;
-  ended = inr (failed, inr (refl, refl), refl);
+  ended = inr (sym c.is_stop-2.ensures ∙ c.if-is_stop-2.false, (failed, inr (refl, refl), refl));
 }
