@@ -1,5 +1,5 @@
 #!/usr/bin/env python3
-"""A crew's round in a real QGIS, and home again; what GDAL writes into an export; what the project beside it opens.
+"""A crew's round in a real QGIS, and home again; what GDAL writes into an export; what the project beside it opens, and what its forms offer.
 
 Usage: /usr/bin/python3 torture/field_qgis.py [--pictures FOLDER] [--sittings COUNT [SEED]]
        SHEETDESK=PROGRAM ..    over another program than the proved one
@@ -19,6 +19,7 @@ import random
 import subprocess
 import sys
 import tempfile
+import time
 
 os.environ.setdefault("QT_QPA_PLATFORM", "offscreen")
 
@@ -26,8 +27,9 @@ from qgis.core import (
     Qgis, QgsApplication, QgsFeatureRequest, QgsGeometry, QgsMapRendererParallelJob, QgsMapSettings, QgsPointXY, QgsProcessingFeedback,
     QgsProject, QgsRectangle, QgsVectorLayerUtils,
 )
-from qgis.gui import QgsAttributeEditorContext, QgsAttributeForm, QgsGui
-from qgis.PyQt.QtCore import QByteArray, QSize
+from qgis.gui import QgsAttributeEditorContext, QgsAttributeForm, QgsGui, QgsRelationReferenceWidget
+from qgis.PyQt.QtCore import NULL, QByteArray, QEvent, QSize
+from qgis.PyQt.QtWidgets import QComboBox, QDialogButtonBox
 
 TOP = os.path.dirname(os.path.dirname(os.path.abspath(__file__)))
 sys.path[:0] = [os.path.join(TOP, "samples")]
@@ -200,6 +202,22 @@ def drawn(path, out):
     return len({image.pixel(x, y) for x in range(0, 512, 4) for y in range(0, 512, 4)})
 
 
+def adding_form(layer, geometry=None):
+    """The form of a new feature, shown."""
+    form = QgsAttributeForm(layer, feature(layer, geometry), QgsAttributeEditorContext())
+    form.setMode(QgsAttributeEditorContext.AddFeatureMode)
+    form.show()
+    QgsApplication.processEvents()
+    return form
+
+
+def let_go(form):
+    """Takes a form down at once: one that outlived its project would crash QGIS."""
+    form.close()
+    form.deleteLater()
+    QgsApplication.sendPostedEvents(None, QEvent.DeferredDelete)
+
+
 def look_at_project(path):
     """Seven layers and six relations; a form for each table that is edited, saved by its own button."""
     with Opened(path) as opened:
@@ -212,17 +230,86 @@ def look_at_project(path):
             layer = opened[table]
             assert layer.startEditing()
             before = layer.featureCount()
-            form = QgsAttributeForm(layer, feature(layer, point(10, 10) if table == "sheet_rows" else None), QgsAttributeEditorContext())
-            form.setMode(QgsAttributeEditorContext.AddFeatureMode)
-            form.show()
-            QgsApplication.processEvents()
+            form = adding_form(layer, point(10, 10) if table == "sheet_rows" else None)
             form.save()
             saved[table] = layer.featureCount() - before
+            let_go(form)
             assert layer.rollBack()
-            form.deleteLater()
-        # a medium without a file is not saved
-        assert saved == {"sheet_rows": 1, "sheet_media": 0, "rows_media": 1, "tiles_media": 1, "rows_tiles": 1}, saved
+        # a medium without a file is not saved, nor is a link of which no end is chosen
+        assert saved == {"sheet_rows": 1, "sheet_media": 0, "rows_media": 0, "tiles_media": 0, "rows_tiles": 0}, saved
     print("project: 7 layers, 6 relations, 5 forms")
+
+
+def offered(form, relation, count):
+    """The list that a form shows for this relation, once its entries are there: QGIS reads them in a thread of its own."""
+    shown = [each for each in form.findChildren(QgsRelationReferenceWidget) if each.relation().id() == relation and each.isVisible()]
+    assert len(shown) == 1, (relation, len(shown))
+    boxes = [each for each in shown[0].findChildren(QComboBox) if each.isVisible()]
+    assert len(boxes) == 1, (relation, len(boxes))
+    for _ in range(500):
+        QgsApplication.processEvents()
+        if boxes[0].count() == count:
+            break
+        time.sleep(0.02)
+    return boxes[0]
+
+
+# How a list names a row.
+NAMED = {
+    "sheet_rows": lambda each: f"{each.id()}: {'' if each['label'] == NULL else each['label']}",
+    "sheet_media": lambda each: f"{each.id()}: {each['content_type']}",
+    "sheet_tile_identity": lambda each: f"{each.id()}: {each['zoom_level']}, {each['tile_column']}, {each['tile_row']}",
+}
+ENDS = {
+    "rows_media": ("sheet_rows", "sheet_media"),
+    "tiles_media": ("sheet_tile_identity", "sheet_media"),
+    "rows_tiles": ("sheet_rows", "sheet_tile_identity"),
+}
+
+
+def link_by_form(opened, table):
+    """A link by its form alone: each end is offered by its number and a word, none blank, and what is chosen stands in the file."""
+    links = opened[table]
+    assert links.startEditing()
+    form = adding_form(links)
+    confirm = next(box.button(QDialogButtonBox.Ok) for box in form.findChildren(QDialogButtonBox))
+    wanted = {}
+    for field, end in zip(("base_id", "related_id"), ENDS[table]):
+        names = [NAMED[end](each) for each in opened[end].getFeatures()]
+        box = offered(form, f"{table}_{field}", len(names) + 1)
+        texts = [box.itemText(index) for index in range(box.count())]
+        # before one is chosen the first stands there, and the link cannot be saved
+        assert texts[0] == box.currentText() == QgsApplication.nullRepresentation() and not confirm.isEnabled(), (table, field, texts)
+        assert sorted(texts[1:]) == sorted(names), (table, field, texts)
+        chosen = max(texts[1:], key=lambda text: int(text.split(":")[0]))
+        box.setCurrentIndex(texts.index(chosen))
+        QgsApplication.processEvents()
+        assert box.currentText() == chosen
+        wanted[field] = int(chosen.split(":")[0])
+    assert confirm.isEnabled()
+    before = {each.id() for each in links.getFeatures()}
+    assert form.save()
+    let_go(form)
+    assert links.commitChanges(), links.commitErrors()
+    (made,) = [each for each in links.getFeatures() if each.id() not in before]
+    assert {field: made[field] for field in wanted} == wanted, (table, made.attributes(), wanted)
+
+
+def by_lists(register):
+    """A link of each kind, chosen from the lists of its form. Of two marks one has an empty label, and one has none."""
+    path = register.file("lists.gpkg")
+    with Opened(path) as opened:
+        marks, media = opened["sheet_rows"], opened["sheet_media"]
+        assert marks.startEditing() and all(marks.addFeature(feature(marks, point(x, 30), label="")) for x in (20, 21)) and marks.commitChanges(False)
+        assert marks.changeAttributeValue(max(numbers(marks)), marks.fields().indexOf("label"), None) and marks.commitChanges(), marks.commitErrors()
+        assert media.startEditing() and all(media.addFeature(feature(media, data=QByteArray(b"\xff\xd8%d" % number))) for number in range(12))
+        assert media.commitChanges(), media.commitErrors()
+        for table in ENDS:
+            link_by_form(opened, table)
+        del marks, media
+    asked = [request["command"] for request in register.bring(path)]
+    assert sorted(asked) == ["add"] * 14 + ["link"] * 3, asked
+    print("lists: 6, each entry by its number and a word; 3 links chosen from them came home")
 
 
 def edit_marks(marks):
@@ -431,7 +518,7 @@ class Sitting:
         self._save(media, lambda: media.addFeature(feature(media, data=QByteArray(self.rng.randbytes(9)))))
 
     def link(self):
-        table, ends = self.rng.choice([("rows_media", ("sheet_rows", "sheet_media")), ("tiles_media", ("sheet_tile_identity", "sheet_media")), ("rows_tiles", ("sheet_rows", "sheet_tile_identity"))])
+        table, ends = self.rng.choice([*ENDS.items()])
         base, related = (self._some(self.opened[end]) for end in ends)
         if None not in (base, related):
             links = self.opened[table]
@@ -476,6 +563,7 @@ def main():
         for trial in (by_merge, what_is_told, copied_without_log, by_gdal):
             trial(register)
         sittings(register, count, seed)
+        by_lists(register)
     sys.stdout.flush()
     # what QGIS takes down at its end may crash, and has nothing to do with what was tried
     os._exit(0)

@@ -6,9 +6,13 @@ from . import styles
 from .exports import Units, literal
 from .styles import HIDDEN, form, option, widget
 
-SHEET = styles.SHEET.replace('"', "&quot;")
-# Of each end of a link: the table that is chosen from, what is shown of a row, and how the field is called.
-MARK, MEDIUM, TILE = ("sheet_rows", "&quot;label&quot;", "Mark"), ("sheet_media", "&quot;id&quot;", "Medium"), ("sheet_tile_identity", SHEET, "Sheet")
+# Of each end of a link: the table that is chosen from, and how the field is called.
+MARK, MEDIUM, TILE = ("sheet_rows", "Mark"), ("sheet_media", "Medium"), ("sheet_tile_identity", "Sheet")
+# What stands for a row of a table, in its own style and in a project, whose lists show it: there each row's number is in it.
+SHOWN = {
+    "sheet_rows": ('"label"', 'concat("id", &apos;: &apos;, "label")'),
+    "sheet_media": ('"id"', 'concat("id", &apos;: &apos;, "content_type")'),
+}
 # Of each layer: how it is called, and its geometry.
 LAYERS = {
     "sheet_rows": ("Marks", "Point"),
@@ -28,16 +32,28 @@ def layer_id(table):
     return f"layer_{table}"
 
 
-def chosen(field, end):
-    """A field that is chosen from the rows of another layer."""
-    table, shown, _ = end
-    allow = option("AllowNull", "false", "bool")
-    return widget(field, "ValueRelation", option("Layer", layer_id(table)), option("Key", "id"), option("Value", shown), allow)
+def relation_id(table, field):
+    return f"{table}_{field}"
 
 
-def link_style(*ends):
-    names = [(field, end[2]) for field, end in zip(FIELDS, ends)]
-    return form([HIDDEN["id"], *map(chosen, FIELDS, ends)], names, '"id"')
+def chosen(table, field):
+    """A field that is chosen from the rows that its relation leads to, with none chosen at first."""
+    return widget(field, "RelationReference", option("Relation", relation_id(table, field)), option("AllowNULL", "true", "bool"))
+
+
+def link_style(table, *ends):
+    names = [(field, end[1]) for field, end in zip(FIELDS, ends)]
+    return form([HIDDEN["id"], *(chosen(table, field) for field in FIELDS)], names, '"id"')
+
+
+def named_style(table):
+    """The style of a table in its file, but for what stands for a row."""
+    style = styles.STYLES[table][1]
+    if table not in SHOWN:
+        return style
+    plain, numbered = (f"<previewExpression>{shown}</previewExpression>" for shown in SHOWN[table])
+    assert style.endswith(plain), table
+    return style.removesuffix(plain) + numbered
 
 
 def system_of(srs):
@@ -58,7 +74,7 @@ def raster(file, system):
 
 def relation(table, title, field, end):
     ends = f'referencingLayer="{layer_id(table)}" referencedLayer="{layer_id(end[0])}" strength="Association"'
-    return f'<relation id="{table}_{field}" name="{title}" {ends}><fieldRef referencingField="{field}" referencedField="id"/></relation>\n'
+    return f'<relation id="{relation_id(table, field)}" name="{title}" {ends}><fieldRef referencingField="{field}" referencedField="id"/></relation>\n'
 
 
 def tree():
@@ -76,9 +92,9 @@ def canvas(frame, system):
 
 def layers(file, system):
     for table, (title, geometry) in LAYERS.items():
-        yield vector(file, table, title, geometry, "" if geometry == "No geometry" else system, styles.STYLES[table][1])
+        yield vector(file, table, title, geometry, "" if geometry == "No geometry" else system, named_style(table))
     for table, (title, *ends) in LINKS.items():
-        yield vector(file, table, title, "No geometry", "", link_style(*ends))
+        yield vector(file, table, title, "No geometry", "", link_style(table, *ends))
     yield raster(file, system)
 
 

@@ -1,7 +1,8 @@
 -- The layers of a project. The name of the file is fit for the text of an element. Profile, over QGS of QGIS 3.
 use Rattle.std.specs.Prelude.{ℕ, List, [], ◌++◌, codes}
-use Rattle.view_export.specs.Styles.{media_style, outlines_style, rows_style}
+use Rattle.view_export.specs.Styles.{outlines_style}
 use Rattle.view_project.specs.LinkStyles.{marks_of_sheets_style, media_of_marks_style, media_of_sheets_style}
+use Rattle.view_project.specs.NumberedStyles.{marks_style, media_style}
 use Rattle.view_project.specs.declared.layers.Layer.{Layer}
 
 -- what a layer is, and the table of the file that it shows
@@ -23,7 +24,7 @@ abbrev pub layer_of : Layer → List ℕ → List ℕ → List ℕ
 layer_of l file system = vector l.table.now l.title.now l.geometry.now l.style.now file system
 
 abbrev pub marks : List ℕ → List ℕ → List ℕ
-marks file system = vector (codes "sheet_rows") (codes "Marks") (codes "Point") rows_style file system
+marks file system = vector (codes "sheet_rows") (codes "Marks") (codes "Point") marks_style file system
 
 abbrev pub outlines : List ℕ → List ℕ → List ℕ
 outlines file system =

@@ -1,4 +1,5 @@
 pub mod Layers
 pub mod LinkStyles
+pub mod NumberedStyles
 pub mod Parts
 pub mod Projects

@@ -29,10 +29,14 @@ tree = joined
 abbrev pub opening : List ℕ
 opening = codes "<projectlayers>\n"
 
+-- by which a form asks for the relation of this field of a table
+abbrev pub relation_id : List ℕ → List ℕ → List ℕ
+relation_id table field = joined (table ∷ codes "_" ∷ field ∷ [])
+
 -- an end of the links of a table: the field, and the table whose number stands in it
 abbrev pub relation : List ℕ → List ℕ → List ℕ → List ℕ → List ℕ
 relation table title field end = joined
-    (codes "<relation id=\"" ∷ table ∷ codes "_" ∷ field ∷ codes "\" name=\"" ∷ title
+    (codes "<relation id=\"" ∷ relation_id table field ∷ codes "\" name=\"" ∷ title
     ∷ codes "\" referencingLayer=\"layer_" ∷ table ∷ codes "\" referencedLayer=\"layer_" ∷ end
     ∷ codes "\" strength=\"Association\"><fieldRef referencingField=\"" ∷ field
     ∷ codes "\" referencedField=\"id\"/></relation>\n" ∷ [])
