@@ -132,12 +132,15 @@ fn note_of_taken(taken: Taken) -> &'static str {
 /// What a refusal means, in plain words for standard error; empty where there is none.
 pub(crate) fn note_of(answer: &Answer) -> &'static str {
     match answer {
-        Answer::Asked(_) | Answer::NoSuchPackage => "",
+        Answer::Asked(_) => "",
+        Answer::NoSuchPackage => {
+            "no such package is in the register now. If it is a loan that came home, lend and export again, and carry the edits over"
+        }
         Answer::NoList => {
             "the list of what the file holds is not whole. Make it again by: sheetdesk holds | sqlite3 FILE"
         }
         Answer::OtherPackage => {
-            "the file is not an export of this package. Files of other programs need --more"
+            "the file was exported from another package: bring it to that one. Or another program made it: then it needs --more"
         }
         Answer::Stale(_) => {
             "the package has changed since the file was exported; the number is its last receipt. Export it again, and edit that file"
@@ -151,7 +154,7 @@ pub(crate) fn note_of(answer: &Answer) -> &'static str {
   place  the archive has no such zoom, column or row
   text   a label has a line break or over 200 bytes, or a content type is none
   code   a code is no whole number from 0 to 999,999
-  point  a point lies outside the archive
+  point  a point lies outside the archive; it may be in degrees
   number a mark or a medium got the number of another one
   twice  two tiles lie at one place
   taken  the package has another tile at this place
