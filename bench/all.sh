@@ -17,7 +17,7 @@ rounds=$((quick ? 2 : 5))
 if [ "$quick" = 1 ]; then requests=(100 1000) items=(10000); else requests=(100 1000 10000) items=(10000 100000); fi
 each rehearse - "$bench/rehearse_times.py" "$rounds" "${requests[@]}"
 each lending - "$bench/lending_times.py" $((quick ? 1 : 3))
-each opening - "$bench/opening_times.py" --folder "$disk" "$rounds" "${items[@]}"
+each opening - "$bench/opening_times.py" --engine --folder "$disk" "$rounds" "${items[@]}"
 each desk - "$bench/desk_times.py" "$rounds" $((quick ? 1000 : 3000))
 each served_folder - "$bench/served_times.py" $((quick ? 1000 : 100000))
 each desk_three_clients - "$bench/desk_times.py" --clients 3 "$rounds" $((quick ? 1000 : 3000))
@@ -28,7 +28,7 @@ if [ -d /dev/shm ]; then
   each folder_in_memory - "$bench/folder_times.py" --folder /dev/shm $((quick ? 1 : 5)) $((quick ? 300 : 1000)) $((quick ? 3000 : 10000))
 fi
 each growth - "$bench/growth_times.py" $((quick ? 1000 : 10000)) $((quick ? 10000 : 100000))
-each field - "$bench/field_times.py" --folder "$disk" --tiles $((quick ? 1000 : 10000)) $((quick ? 2 : 3))
+each field - "$bench/field_times.py" --engine --folder "$disk" --tiles $((quick ? 1000 : 10000)) $((quick ? 2 : 3))
 each folder - "$bench/folder_times.py" --folder "$disk" $((quick ? 1 : 3)) $((quick ? 300 : 1000)) $((quick ? 1000 : 10000))
 each look_memory - "$bench/look_memory.py" $((quick ? 1024 : 2048))
 each folder_memory - "$bench/folder_times.py" --memory "${items[@]}"

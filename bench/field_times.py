@@ -1,7 +1,7 @@
 #!/usr/bin/env python3
 """Times how an edited file comes home, beside plain Python that reads the file and compares SHA-256, in one run.
 
-Usage: field_times.py [--folder FOLDER] [--tiles COUNT] [--bytes SIZE] [--changed NUMBER] [ROUNDS]
+Usage: field_times.py [--folder FOLDER] [--tiles COUNT] [--bytes SIZE] [--changed NUMBER] [--engine] [ROUNDS]
 
 (3 rounds of 10000 tiles of 20000 bytes, 10 of them changed; FOLDER is where temporary files are.)
 
@@ -9,10 +9,12 @@ The program makes an archive with the tiles, and exports it; stock sqlite3 makes
 
 - sheetdesk: `holds | sqlite3 crew.gpkg > holds.csv`, and then `bring --dry-run --summary < holds.csv`; the last round brings in earnest.
 - audit: the folder opened, and nothing asked of it: what each command without a desk takes first.
+- engine, with --engine: `engine_floor.py`, the toolchain's engine that opens the archive's file and does nothing else.
 - Python: opens the file by its sqlite3, reads each tile, and compares its SHA-256 with a dictionary of those before; tells which differ.
   It opens no register, keeps no list and checks nothing else.
 
-Times are by the clock: the median of the rounds with the least and the greatest. The greatest resident memory is that of `bring`.
+Times are by the clock: the median of the rounds with the least and the greatest. The greatest resident memory is told of `bring`, of the audit
+and of the engine.
 """
 
 import argparse
@@ -26,6 +28,7 @@ import sys
 import tempfile
 import time
 
+from engine_floor import opened as opened_by_engine
 from program import program
 
 ARCHIVE, AT = "a0000000-0000-4000-8000-000000000000", "2026-05-04T07:30:00.000Z"
@@ -98,12 +101,15 @@ def by_program(sheetdesk, folder, path, held, *options):
 
 
 def audited(sheetdesk, folder, count):
-    """How long the folder takes to open."""
+    """How long the folder takes to open, and with how much memory."""
     start = time.perf_counter()
-    said = subprocess.run([sheetdesk, "audit", folder], check=True, stdout=subprocess.PIPE).stdout
+    ran = subprocess.Popen([sheetdesk, "audit", folder], stdout=subprocess.PIPE)
+    said = ran.stdout.read()
+    _, status, used = os.wait4(ran.pid, 0)
     took = time.perf_counter() - start
-    assert said.decode() == f"good {count}\n", said
-    return took
+    ran.returncode = os.waitstatus_to_exitcode(status)
+    assert ran.returncode == 0 and said.decode() == f"good {count}\n", said
+    return took, used.ru_maxrss
 
 
 def shown(times):
@@ -116,18 +122,21 @@ def main():
     words.add_argument("--tiles", type=int, default=10_000)
     words.add_argument("--bytes", type=int, default=20_000)
     words.add_argument("--changed", type=int, default=10)
+    words.add_argument("--engine", action="store_true")
     words.add_argument("rounds", type=int, nargs="?", default=3)
     given = words.parse_args()
     sheetdesk, room = program(), tempfile.mkdtemp(dir=given.folder)
     try:
         folder, path, digests = made(sheetdesk, room, given.tiles, given.bytes)
         change(path, given.tiles, given.changed)
-        held, plain, opened, lists, brings, memory = os.path.join(room, "holds.csv"), [], [], [], [], 0
+        held, plain, opened, alone, lists, brings, memory = os.path.join(room, "holds.csv"), [], [], [], [], [], 0
         for number in range(given.rounds):
             took, differ = by_python(path, digests)
             assert differ == given.changed, differ
             plain.append(took)
             opened.append(audited(sheetdesk, folder, given.tiles))
+            if given.engine:
+                alone.append(opened_by_engine(folder))
             options = ["--dry-run", "--summary"] if number < given.rounds - 1 else []
             listed, brought, printed, used = by_program(sheetdesk, folder, path, held, *options)
             right = f"0 unlinks, {given.changed} deletes, {given.changed} adds, 0 links\n" if options else None
@@ -140,7 +149,9 @@ def main():
         print(f"holds and sqlite3   {shown(lists)}")
         print(f"bring               {shown(brings)}, {memory / 1024:.0f} MB")
         print(f"both                {shown(whole)}")
-        print(f"audit               {shown(opened)}")
+        print(f"audit               {shown([it[0] for it in opened])}, {max(it[1] for it in opened) / 1024:.0f} MB")
+        if alone:
+            print(f"the engine's open   {shown([it[0] for it in alone])}, {max(it[2] for it in alone) / 1024:.0f} MB")
         print(f"Python, SHA-256     {shown(plain)}")
         print(f"{statistics.median(whole) / statistics.median(plain):.1f} times as long as Python")
     finally:

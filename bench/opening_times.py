@@ -1,7 +1,7 @@
 #!/usr/bin/env python3
 """Times the opening of a folder of ten packages by `sheetdesk audit`, and plain Python that reads and hashes the same files, in one run.
 
-Usage: opening_times.py [--folder FOLDER] [--program PROGRAM] [ROUNDS [COUNT..]]
+Usage: opening_times.py [--folder FOLDER] [--program PROGRAM] [--engine] [ROUNDS [COUNT..]]
        opening_times.py --read FOLDER
 
 (5 rounds of 10000 and 100000 items; FOLDER is where temporary files are, which should be on a disk.)
@@ -12,6 +12,7 @@ splits: by an import of the program, in memory, which is copied. In each round t
 - sheetdesk: `audit`, which looks at all that an opening certifies.
 - reading: Python over stock SQLite, each row of each table once, and the SHA-256 of the content of each tile, medium and row (--read).
 - auditing: `plain_folder.py audit`, Python that looks at the same as the program.
+- engine, with --engine: `engine_floor.py`, the toolchain's engine that opens the same files and does nothing else.
 
 Times are by the clock and of the processor, less those of the same command over an archive with nothing in it: the median of the rounds
 with the least and the greatest, in seconds; the exponent from the count before; and how many times as long as reading each took. Told
@@ -28,6 +29,7 @@ import statistics
 import sys
 import tempfile
 
+from engine_floor import engine, files_of
 from folder_times import MEMORY, SIDES, made_of, run
 from program import program
 from timed_lists import List
@@ -39,6 +41,7 @@ SIZE = 1048576
 OTHERS = ["gpkg_spatial_ref_sys", "gpkg_contents", "gpkg_tile_matrix_set", "gpkg_tile_matrix", "gpkgext_relations", "sheet_package",
           "sheet_identity", "tiles_media", "rows_media", "rows_tiles", "sheet_receipts", "sheet_items"]
 COMMANDS = {"sheetdesk": ("sheetdesk", ["audit"]), "reading": ("reading", ["--read"]), "auditing": ("Python", ["audit"])}
+ENGINE = ("engine", ["open"])
 
 
 class Blocks(List):
@@ -91,6 +94,10 @@ def read(folder):
     return items, receipts, all_digests
 
 
+def words_for(side, words, folder):
+    return [*words, *files_of(folder)] if side == "engine" else [*words, folder]
+
+
 def spelled(values):
     return f"{statistics.median(values):7.2f} ({min(values):.2f} to {max(values):.2f})"
 
@@ -102,16 +109,16 @@ def measure(count, rounds, place, before):
     with tempfile.TemporaryDirectory(dir=MEMORY) as memory:
         made = shutil.copytree(made_of("sheetdesk", lines, memory), os.path.join(place, "made"))
     empty = made_of("sheetdesk", [], place)
-    due = {"sheetdesk": f"good {receipts}\n", "auditing": f"good {receipts}\n", "reading": f"{items} items, {receipts} receipts"}
+    due = {"sheetdesk": f"good {receipts}\n", "auditing": f"good {receipts}\n", "reading": f"{items} items, {receipts} receipts", "engine": "0"}
     took = {name: [] for name in COMMANDS}
     idle = {}
     for name, (side, words) in COMMANDS.items():
-        runs = [run(side, [*words, empty]) for _ in range(5)]
+        runs = [run(side, words_for(side, words, empty)) for _ in range(5)]
         idle[name] = [statistics.median(getattr(each, what) for each in runs) for what in ("clock", "processor")]
     os.sync()
     for _ in range(rounds):
         for name, (side, words) in COMMANDS.items():
-            ran = run(side, [*words, made])
+            ran = run(side, words_for(side, words, made))
             if not ran.printed.decode().startswith(due[name]):
                 sys.exit(f"{name}: wanted {due[name]!r}; came {ran.printed!r}")
             took[name].append((ran.clock - idle[name][0], ran.processor - idle[name][1], ran.memory))
@@ -134,6 +141,7 @@ def main():
     words = argparse.ArgumentParser(description=__doc__, formatter_class=argparse.RawDescriptionHelpFormatter)
     words.add_argument("--folder")
     words.add_argument("--program")
+    words.add_argument("--engine", action="store_true")
     words.add_argument("--read", metavar="FOLDER")
     words.add_argument("numbers", type=int, nargs="*")
     said = words.parse_args()
@@ -143,6 +151,8 @@ def main():
         return
     SIDES["sheetdesk"] = [said.program or program()]
     SIDES["reading"] = [sys.executable, os.path.abspath(__file__)]
+    if said.engine:
+        SIDES["engine"], COMMANDS["engine"] = [engine()], ENGINE
     rounds, counts = [*said.numbers, 5][0], said.numbers[1:] or [10000, 100000]
     print(f"load {os.getloadavg()[0]:.1f} at the start, {rounds} rounds")
     before = None
