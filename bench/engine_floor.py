@@ -3,13 +3,14 @@
 
 Usage: engine_floor.py [--read] [ROUNDS] FOLDER..
 
-(3 rounds.) A program of a hundred lines over the toolchain's `sqlite` opens each package file as `store_folder` does, and closes it; with --read
-it also reads each row of each table once, and keeps none. It has no code of this register. It is proved and compiled as `sheetdesk` is, by `rt ci`
-in a folder of its own, once for each toolchain (some four minutes), and kept in ${XDG_CACHE_HOME:-~/.cache}/sheetdesk. `opening_times.py --engine`
-and `field_times.py --engine` run it beside the register in one run.
+(3 rounds.) A program of a hundred lines over the toolchain's `sqlite` opens each package file as `store_folder` does,
+and closes it; with --read it also reads each row of each table once, and keeps none. It has no code of this register.
+It is proved and compiled as `sheetdesk` is, by `rt ci` in a folder of its own, once for each toolchain (some four
+minutes), and kept in ${XDG_CACHE_HOME:-~/.cache}/sheetdesk. `opening_times.py --engine` and `field_times.py --engine`
+run it beside the register in one run.
 
-Times are by the clock and of the processor: the median of the rounds with the least and the greatest. Told too are the rows that were read, and the
-greatest resident memory.
+Times are by the clock and of the processor: the median of the rounds with the least and the greatest. Told too are the
+rows that were read, and the greatest resident memory.
 """
 
 import argparse
@@ -175,7 +176,8 @@ def build(path):
     with tempfile.TemporaryDirectory() as room:
         crate = os.path.join(room, "crates", "engine_floor")
         os.makedirs(os.path.join(crate, "src"))
-        for name, text in (("HANDLES", "Handles allowed: none.\n"), ("crates.txt", CRATES), ("crates/engine_floor/src/main.rt", PROGRAM)):
+        files = {"HANDLES": "Handles allowed: none.\n", "crates.txt": CRATES, "crates/engine_floor/src/main.rt": PROGRAM}
+        for name, text in files.items():
             with open(os.path.join(room, name), "w", encoding="utf-8") as out:
                 out.write(text)
         subprocess.run(["git", "init", "-q", room], check=True)
@@ -196,7 +198,11 @@ def engine():
 
 
 def files_of(folder):
-    return sorted(os.path.join(folder, name) for name in os.listdir(folder) if name.endswith(".gpkg"))
+    """The package files of a folder."""
+    if not os.path.isdir(folder):
+        sys.exit(f"{folder}: no folder")
+    found = sorted(os.path.join(folder, name) for name in os.listdir(folder) if name.endswith(".gpkg"))
+    return found or sys.exit(f"{folder}: no file of a package")
 
 
 def opened(folder, reads=False):
@@ -225,8 +231,9 @@ def main():
     engine()
     for folder in said.given[said.given[0].isdigit():]:
         took = [opened(folder, said.read) for _ in range(rounds)]
-        print(f"{folder}: {len(files_of(folder))} files, {took[0][3]} rows; s by the clock {spelled([it[0] for it in took])}, "
-              f"of the processor {spelled([it[1] for it in took])}; at most {max(it[2] for it in took) / 1024:.0f} MiB")
+        clock, processor, memory, rows = zip(*took)
+        print(f"{folder}: {len(files_of(folder))} files, {rows[0]} rows; s by the clock {spelled(clock)}, "
+              f"of the processor {spelled(processor)}; at most {max(memory) / 1024:.0f} MiB")
 
 
 if __name__ == "__main__":

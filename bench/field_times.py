@@ -13,8 +13,8 @@ The program makes an archive with the tiles, and exports it; stock sqlite3 makes
 - Python: opens the file by its sqlite3, reads each tile, and compares its SHA-256 with a dictionary of those before; tells which differ.
   It opens no register, keeps no list and checks nothing else.
 
-Times are by the clock: the median of the rounds with the least and the greatest. The greatest resident memory is told of `bring`, of the audit
-and of the engine.
+Times are by the clock: the median of the rounds with the least and the greatest. The greatest resident memory is told
+of `bring`, of the audit and of the engine.
 """
 
 import argparse

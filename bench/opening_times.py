@@ -109,7 +109,8 @@ def measure(count, rounds, place, before):
     with tempfile.TemporaryDirectory(dir=MEMORY) as memory:
         made = shutil.copytree(made_of("sheetdesk", lines, memory), os.path.join(place, "made"))
     empty = made_of("sheetdesk", [], place)
-    due = {"sheetdesk": f"good {receipts}\n", "auditing": f"good {receipts}\n", "reading": f"{items} items, {receipts} receipts", "engine": "0"}
+    good = f"good {receipts}\n"
+    due = {"sheetdesk": good, "auditing": good, "reading": f"{items} items, {receipts} receipts", "engine": "0"}
     took = {name: [] for name in COMMANDS}
     idle = {}
     for name, (side, words) in COMMANDS.items():

@@ -1,5 +1,6 @@
 #!/usr/bin/env python3
-"""A crew's round in a real QGIS, and home again; what GDAL writes into an export; what the project beside it opens, and what its forms offer.
+"""A crew's round in a real QGIS, and home again; what GDAL writes into an export; what the project beside it opens, and
+what its forms offer.
 
 Usage: /usr/bin/python3 torture/field_qgis.py [--pictures FOLDER] [--sittings COUNT [SEED]]
        SHEETDESK=PROGRAM ..    over another program than the proved one
@@ -241,8 +242,9 @@ def look_at_project(path):
 
 
 def offered(form, relation, count):
-    """The list that a form shows for this relation, once its entries are there: QGIS reads them in a thread of its own."""
-    shown = [each for each in form.findChildren(QgsRelationReferenceWidget) if each.relation().id() == relation and each.isVisible()]
+    """The list that a form shows for this relation, once its entries are there: QGIS reads them by a thread."""
+    widgets = form.findChildren(QgsRelationReferenceWidget)
+    shown = [each for each in widgets if each.relation().id() == relation and each.isVisible()]
     assert len(shown) == 1, (relation, len(shown))
     boxes = [each for each in shown[0].findChildren(QComboBox) if each.isVisible()]
     assert len(boxes) == 1, (relation, len(boxes))
@@ -268,7 +270,7 @@ ENDS = {
 
 
 def link_by_form(opened, table):
-    """A link by its form alone: each end is offered by its number and a word, none blank, and what is chosen stands in the file."""
+    """A link by its form alone: each end is offered by its number and a word, none blank; what is chosen is in the file."""
     links = opened[table]
     assert links.startEditing()
     form = adding_form(links)
