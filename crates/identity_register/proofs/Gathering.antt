@@ -33,8 +33,7 @@ use Rattle.package_tables.specs.declared.rows.IdentityRow.{IdentityRow}
 use Rattle.package_tables.specs.declared.rows.MappingRow.{MappingRow}
 use Rattle.package_tables.specs.declared.rows.MediaRow.{MediaRow}
 use Rattle.package_tables.specs.declared.rows.TileRow.{TileRow}
-use Rattle.identity_register.specs.Answers.{IsContentOf}
-use Rattle.identity_register.specs.Gathered.{tile_placed, medium_placed, attributes_placed, IsPlaced, IsItemOf}
+use Rattle.identity_register.specs.Gathered.{tile_placed, medium_placed, attributes_placed, IsPlaced, IsItemOf, IsReadOf}
 use Rattle.identity_register.specs.Gathered.{IsNamed, IsLinkOf, AreLinksIn}
 use Rattle.identity_register.specs.Numbering.{Numbered, identity_row, number_of, mapping_row, rows_in}
 use Rattle.identity_register.specs.Reads.{Says}
@@ -48,6 +47,15 @@ use Rattle.identity_register.proofs.MappingTables.{rows_there, own_row, pair_key
 use Rattle.identity_register.proofs.OnePackage.{to_arranged, distinct_arranged, row_stored, items_arranged}
 
 -- ---- lists
+
+-- pairs stand so where they stand in a stronger relation
+zip_weaker : {A B : Type 0} (R S : A → B → Type 0) → ((x : A) (y : B) → R x y → S x y) → (xs : List A) (ys : List B)
+    → AllZip R xs ys
+    → AllZip S xs ys
+zip_weaker R S so [] [] h = tt
+zip_weaker R S so [] (y ∷ ys) h = absurd h
+zip_weaker R S so (x ∷ xs) [] h = absurd h
+zip_weaker R S so (x ∷ xs) (y ∷ ys) h = (so x y h.0, zip_weaker R S so xs ys h.1)
 
 -- an element of one list has one of the other beside it
 pub zip_left : {A B : Type 0} (R : A → B → Type 0) (x : A) (xs : List A) (ys : List B) → AllZip R xs ys
@@ -127,27 +135,33 @@ module _ (f : Frame) (p : Package) (t : Tables) (says : Says f p t) where
       it.1 in
       (it.0, it.1, it.2, same_uuid it.0.item.identity id fit uuid (ap (λ x. x.uuid) it.2 ∙ e))
 
-  -- so is the item that was made of the row and its content
-  item_there : (r : IdentityRow) → Contains t.identities r → (placed : List Placed)
-      → AllByRecursion (IsPlaced t) placed → (i : Item) → IsItemOf placed r i → (n : Numbered)
+  -- so is the item that was read by the row
+  item_read : (r : IdentityRow) → Contains t.identities r → (i : Item) → IsReadOf t r i → (n : Numbered)
       × In n says.numbered
       × (identity_row n ≡ r) × (n.item ≡ i)
-  item_there r h placed all i it =
-      let n = row_item r h i.identity it.identity it.fit in
+  item_read r h i it =
+      let n = row_item r h i.identity it.text it.fit in
       let fit : IsUuid n.0.item.identity = All-In (λ m. IsUuid m.item.identity) n.0 says.numbered says.numbers.uuids
       n.1 in
       let named : bytes_eq r.uuid (uuid_text n.0.item.identity) ≡ true =
       subst (λ x. bytes_eq x.uuid (uuid_text n.0.item.identity) ≡ true) n.2
       (bytes_eq_itself (uuid_text n.0.item.identity)) in
-      let content : IsContentOf r.kind r.local_id t i.content =
-      All-In (IsPlaced t) (record { kind = r.kind; number = r.local_id; content = i.content }) placed all
-      (contained placed _ it.content) in
-      let told = content_by_row f p t says n.0.item.identity fit r i.content (h, named) content in
+      let told = content_by_row f p t says n.0.item.identity fit r i.content (h, named) it.there in
       let whole : ◌≡◌ {A = Item} (record { identity = n.0.item.identity; content = i.content }) n.0.item =
       some_same (told ∙ item_is f p t says n.0 n.1) in
       let same : ◌≡◌ {A = Item} (record { identity = n.0.item.identity; content = i.content }) i =
       ap {A = List ℕ} (λ x. record { identity = x; content = i.content }) n.3 in
       (n.0, n.1, n.2, sym whole ∙ same)
+
+  -- and the item that was made of the row and its content
+  item_there : (placed : List Placed) → AllByRecursion (IsPlaced t) placed → (r : IdentityRow) (i : Item)
+      → IsItemOf placed r i → IsReadOf t r i
+  item_there placed all r i it = record {
+    text = it.identity;
+    fit = it.fit;
+    there = All-In (IsPlaced t) (record { kind = r.kind; number = r.local_id; content = i.content }) placed all
+        (contained placed _ it.content);
+  }
 
   -- a row is of one item
   pub one_row : (m n : Numbered) → In m says.numbered → In n says.numbered → identity_row m ≡ identity_row n
@@ -157,20 +171,18 @@ module _ (f : Frame) (p : Package) (t : Tables) (says : Says f p t) where
       (All-In (λ x. IsUuid x.item.identity) m says.numbered says.numbers.uuids i)
       (All-In (λ x. IsUuid x.item.identity) n says.numbered says.numbers.uuids j) (ap (λ r. r.uuid) e))
 
-  -- all identity rows with their contents give all items
-  pub items_are : (rows : List IdentityRow) (placed : List Placed) (made found : List Item)
-      → IsPermutation t.identities rows → AllByRecursion (IsPlaced t) placed → AllZip (IsItemOf placed) rows made
-      → IsPermutation made found → IsArranged item_key found → found ≡ p.items
-  items_are rows placed made found all contents zipped moves order =
+  -- all identity rows give all items
+  pub items_read : (rows : List IdentityRow) (made found : List Item) → IsPermutation t.identities rows
+      → AllZip (IsReadOf t) rows made → IsPermutation made found → IsArranged item_key found → found ≡ p.items
+  items_read rows made found all zipped moves order =
       same_list item_key found p.items order (items_arranged f t p says) to fro
     where
       to : (x : Item) → In x found → In x p.items
       to x i =
-          let it = zip_right (IsItemOf placed) x rows made zipped
+          let it = zip_right (IsReadOf t) x rows made zipped
           (moved x found made (IsPermutation-sym made found moves) i) in
-          let n = item_there it.0 (Contains-In it.0 t.identities
-          (moved it.0 rows t.identities (IsPermutation-sym t.identities rows all) it.1)) placed contents x
-          it.2 in
+          let n = item_read it.0 (Contains-In it.0 t.identities
+          (moved it.0 rows t.identities (IsPermutation-sym t.identities rows all) it.1)) x it.2 in
           subst (λ y. In y p.items) n.3 (subst (In n.0.item) (sym says.items)
           (to_arranged item_key n.0.item (map (λ m. m.item) says.numbered)
           (In-map (λ m. m.item) n.0 says.numbered n.1)))
@@ -180,12 +192,20 @@ module _ (f : Frame) (p : Package) (t : Tables) (says : Says f p t) where
           let n = In-of_map (λ m. m.item) x says.numbered (in_arranged item_key (map (λ m. m.item) says.numbered) x
           (subst (In x) says.items i)) in
           let stored : Contains t.identities (identity_row n.0) = row_stored f t p says n.0 n.1 in
-          let it = zip_left (IsItemOf placed) (identity_row n.0) rows made zipped
+          let it = zip_left (IsReadOf t) (identity_row n.0) rows made zipped
           (moved (identity_row n.0) t.identities rows all
           (contained t.identities (identity_row n.0) stored)) in
-          let m = item_there (identity_row n.0) stored placed contents it.0 it.2 in
+          let m = item_read (identity_row n.0) stored it.0 it.2 in
           let same : it.0 ≡ x = sym m.3 ∙ ap (λ y. y.item) (one_row m.0 n.0 m.1 n.1 m.2) ∙ n.2 in
           subst (λ y. In y found) same (moved it.0 made found moves it.1)
+
+  -- so do they with their contents
+  pub items_are : (rows : List IdentityRow) (placed : List Placed) (made found : List Item)
+      → IsPermutation t.identities rows → AllByRecursion (IsPlaced t) placed → AllZip (IsItemOf placed) rows made
+      → IsPermutation made found → IsArranged item_key found → found ≡ p.items
+  items_are rows placed made found all contents zipped moves order =
+      items_read rows made found all (zip_weaker (IsItemOf placed) (IsReadOf t) (item_there placed contents) rows made
+      zipped) moves order
 
   -- ---- links
 

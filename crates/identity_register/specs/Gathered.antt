@@ -42,6 +42,12 @@ pub record IsItemOf (placed : List Placed) (r : IdentityRow) (i : Item) : Type 0
   pub fit : IsUuid i.identity
   pub content : Contains placed (record { kind = r.kind; number = r.local_id; content = i.content })
 
+-- the item of an identity row, with the content that the row's kind and number have
+pub record IsReadOf (t : Tables) (r : IdentityRow) (i : Item) : Type 0 where
+  pub text : r.uuid ≡ uuid_text i.identity
+  pub fit : IsUuid i.identity
+  pub there : IsContentOf r.kind r.local_id t i.content
+
 -- all items of the package that the tables say, where these are all identity rows
 abbrev pub AreItemsBy : List IdentityRow → Tables → List Item → Type 0
 AreItemsBy rows t items = (f : Frame) (p : Package) → Says f p t → IsPermutation t.identities rows

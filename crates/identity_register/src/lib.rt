@@ -8,6 +8,7 @@ pub mod fitting;
 pub mod kinds;
 pub mod laws;
 pub mod look_ups;
+pub mod one_by_one;
 pub mod reach;
 mod row_contents;
 pub mod selection;

@@ -115,7 +115,7 @@ fn items_of(rows: &[IdentityRow], placed: Vec<Placed>, alloc: Global) -> Result<
 }
 
 /// The items by kind and identity; a fault where one is there twice, as in no package.
-fn items_in_order(mut items: Vec<Item>) -> Result<Vec<Item>, Fault>
+pub(crate) fn items_in_order(mut items: Vec<Item>) -> Result<Vec<Item>, Fault>
     ensures same { IfOk result (λ sorted. IsPermutation items.items sorted.items) }
     ensures order { IfOk result (λ sorted. IsArranged item_key sorted.items) }
     ensures twice { IfErr result (λ _. IsDistinct bytes_eq (map item_key items.items) → ⊥) }

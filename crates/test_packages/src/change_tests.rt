@@ -22,6 +22,9 @@ rows SELECT base_id || ' ' || related_id FROM tiles_media ORDER BY base_id, rela
 rows SELECT base_id || ' ' || related_id FROM rows_media ORDER BY base_id, related_id => [3 7;]
 rows SELECT base_id || ' ' || related_id FROM rows_tiles ORDER BY base_id, related_id => [3 9;]
 cut none => [1;2;3;4;5;tile-medium 1 3;row-medium 5 4;row-tile 5 2;]
+# each with its size and the first two bytes of its fingerprint, by Python's hashlib
+cut each => [1 2 82 143;2 1 200 102;3 3 236 231;4 0 169 157;5 4 56 198;\
+    tile-medium 1 3;row-medium 5 4;row-tile 5 2;]
 unlink tiles_media 1 3
 rows SELECT base_id || ' ' || related_id FROM tiles_media ORDER BY base_id, related_id => []
 rows SELECT base_id || ' ' || related_id FROM rows_media ORDER BY base_id, related_id => [3 7;]

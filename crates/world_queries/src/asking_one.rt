@@ -13,7 +13,7 @@ ghost use Rattle.world_members.specs.Reasons.{package_reasons};
 
 use crate::judging::package_refusal;
 use identity_register::look_ups::find;
-use identity_register::whole::holdings;
+use identity_register::one_by_one::holdings_by_size;
 use package_tables::fault::Fault;
 use sheet_types::command::{Command, Item, Relation};
 use sheet_types::frame::Frame;
@@ -105,7 +105,8 @@ pub fn thing_moved<S: Alter + Drop>(
     }
 }
 
-/// The items of the package of the member at a place, by kind and identity, and its links, by mapping, base and medium.
+/// The items of the package of the member at a place, by kind and identity, and its links, by mapping,
+/// base and medium. Of a package of many bytes memory holds each content once.
 pub fn holdings_at<S: Alter + Drop>(
     members: &mut Vec<Member<S>>,
     at: usize,
@@ -119,5 +120,6 @@ pub fn holdings_at<S: Alter + Drop>(
         members.old.items members.new.items result }
 {
     let member = &mut members[at];
-    holdings(&mut member.conn, alloc)
+    let bytes = member.sums.bytes;
+    holdings_by_size(&mut member.conn, alloc, bytes)
 }

@@ -11,13 +11,13 @@ returns g c =
     slice_get_read _ _ _ _ refl c.requires.within c.index_mut-member.ensures.value in
     looked_at g.S.Store g.met.S.Store.shut_if_dirty g.met.S.Store.settled
     (λ f p held. (held.0.items ≡ p.items) × (held.1.items ≡ p.links)) c.args.members.now.items _ c.args.at
-    c.holdings.result
+    c.holdings_by_size.result
     (record {
       was = c.index_mut-member.result.now;
       place = place;
-      last = c.holdings.new.conn;
+      last = c.holdings_by_size.new.conn;
       others = refl;
-      turned = c.holdings.ensures;
+      turned = c.holdings_by_size.ensures;
     }) c.requires.rests
     (λ held w p here told q there. let same : p ≡ q = cc in (
       told.0 ∙ ap (λ (x : Package). x.items) same,
