@@ -58,13 +58,16 @@ of_package Answer (Err e) it = record {
 -- an item of a package is found under its identity
 pub found_there : (f : Frame) (p : Package) (t : Tables) → Says f p t → (id : List ℕ)
     → IsItemOf p id (item_of p id)
-found_there f p t says id item there named =
-    let numbered = In-of_map (λ m. m.item) item (says.numbered)
-    (in_arranged item_key (map (λ m. m.item) says.numbered) item
-    (subst (In item) says.items (contained p.items item there))) in
-    let is : item_of p item.identity ≡ Some item = subst (λ i. item_of p i.identity ≡ Some i) numbered.2
-    (item_is f p t says numbered.0 numbered.1) in
-    subst (λ k. item_of p k ≡ Some item) named is
+found_there f p t says id = record { is = refl; each = each }
+  where
+    each : (item : Item) → Contains p.items item → item.identity ≡ id → item_of p id ≡ Some item
+    each item there named =
+        let numbered = In-of_map (λ m. m.item) item (says.numbered)
+        (in_arranged item_key (map (λ m. m.item) says.numbered) item
+        (subst (In item) says.items (contained p.items item there))) in
+        let is : item_of p item.identity ≡ Some item =
+        subst (λ i. item_of p i.identity ≡ Some i) numbered.2 (item_is f p t says numbered.0 numbered.1) in
+        subst (λ k. item_of p k ≡ Some item) named is
 
 -- so what a look finds is the item
 pub found_item : {E : Type 0} (id : List ℕ) {old new : State} (r : Result (Option Item) E)

@@ -1,6 +1,7 @@
 //! What is asked of a package, so that of one of many bytes one content is in memory at a time.
 
 use crate::by_items::{find_item, manifest_at_once, manifest_by_items, told_holdings};
+use identity_register::one_by_one::AT_ONCE;
 use package_tables::fault::Fault;
 use sheet_types::command::{Item, Relation};
 use sheet_types::receipt::Moved;
@@ -9,9 +10,6 @@ use std::alloc::Global;
 use uuid::Uuid;
 use world::asking::Question;
 use world::world::World;
-
-/// So many bytes are read at once: 16 MiB.
-const AT_ONCE: u64 = 16_777_216;
 
 /// Whether a package is of so many bytes that its contents are read one at a time.
 pub fn is_large<S: Alter + Drop>(world: &World<S>, package: Uuid) -> bool {

@@ -28,7 +28,7 @@ item_here p told i moved item all within is found =
     let same : moved ≡ item_moved (get_or p.items i item) =
     is ∙ ap (λ l. get_or l i moved) all ∙ get_or-map item_moved p.items i item moved less in (
       less,
-      some_same (found (get_or p.items i item) (Contains-get_or p.items i item less)
+      some_same (found.each (get_or p.items i item) (Contains-get_or p.items i item less)
           (sym (ap (λ m. m.base) same))),
     )
 

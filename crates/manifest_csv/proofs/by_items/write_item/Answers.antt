@@ -14,4 +14,4 @@ returns-in-Ok-clause-text g c =
     c.find_item.ensures
     (λ f p t says is item there named. subst (λ i. Appends (text_written (λ v. Some v.items) c.args.writer.now)
     (text_written (λ v. Some v.items) c.write.new.writer) (row_text default_writer (item_fields i)))
-    (some_same (is item there named)) c.in-Ok.ensures.text)
+    (some_same (is.each item there named)) c.in-Ok.ensures.text)
