@@ -134,6 +134,7 @@ module _ {S : Type 0} (g : Ghosts S) where
             (IsHomeBy g q seen seen it.gone) it.gone s s (it.dropped refl)
             (asks_nothing Asks Takes (child_asked q.command) (IsNewTo g seen seen) s s refl);
         child = unserved_settles g Asks Takes Fails (child_asked q.command) seen s;
+        unused = λ no_fault none. refl;
       }
 
   -- Between two calls a crash leaves what the world stands for.
@@ -264,10 +265,13 @@ module _ {S : Type 0} (g : Ghosts S) where
         (s t : H) (used : ServesWith g Asks Takes f q old new known before it.gone s t) where
       step_with : (reply : Result Receipt Refusal) → (step : IsStep g q was reply now_seen) × (step.gone ≡ it.gone)
           → SettlesChild g Asks Takes Fails (child_asked q.command) was reply now_seen s t
+          → (¬ IsFault reply → AddsNone reply before after → t ≡ s)
           → IsStepWith g Asks Takes Fails q was reply now_seen s t
-      step_with reply both settled = record {
+      step_with reply both settled unused = record {
         step = both.0;
         child = settled;
+        unused = λ no_fault none. unused no_fault
+            (subst (λ n. AddsNone reply n after) (sym (ap (λ x. x.count) seen)) none);
         uses = subst (λ gone. UsesFor g Asks Takes was.members (child_asked q.command) (IsNewTo g was now_seen)
             (IsHomeBy g q was now_seen gone) gone s t) (sym both.1)
             (subst (λ ms. UsesFor g Asks Takes ms (child_asked q.command) (IsNewTo g was now_seen)
@@ -286,13 +290,16 @@ module _ {S : Type 0} (g : Ghosts S) where
       pub replied_with : (reply : Result Receipt Refusal) → r ≡ Ok reply
           → (AddsNone reply before after → AllStay g old new)
           → SettlesChild g Asks Takes Fails (child_asked q.command) was reply now_seen s t
+          → (AddsNone reply before after → t ≡ s)
           → IsStepWith g Asks Takes Fails q was reply now_seen s t
-      replied_with reply is only_read settled = step_with reply (step_told reply is only_read) settled
+      replied_with reply is only_read settled unused =
+          step_with reply (step_told reply is only_read) settled (λ no_fault. unused)
 
       pub failed_with : (e : ServeFault) → r ≡ Err e → (why : Refusal) → why ≡ told_refusal e
           → SettlesChild g Asks Takes Fails (child_asked q.command) was (Err why) now_seen s t
           → IsStepWith g Asks Takes Fails q was (Err why) now_seen s t
       failed_with e is why told settled = step_with (Err why) (step_faulted e is why told) settled
+          (λ no_fault. absurd (no_fault (told_as_fault e why told)))
 
     -- what became of the store that the shelf gave for a child
     module _ {H : Type 0} (Asks : List ℕ → H → H → Type 0) (Takes : List ℕ → S → H → H → Type 0)

@@ -7,7 +7,7 @@ use Rattle.sqlite.specs.Held.{Held, state}
 use Rattle.sqlite.specs.Store.{Ghosts}
 use Rattle.sqlite.specs.Tree.{Trees}
 use Rattle.sqlite_disk.specs.Disk.{MoreFaults}
-use Rattle.sheet_types.specs.Step.{outcome}
+use Rattle.sheet_types.specs.Step.{IsFault, outcome}
 use Rattle.sheet_types.specs.World.{World}
 use Rattle.sheet_types.specs.declared.command.Command.{Command}
 use Rattle.sheet_types.specs.declared.command.Request.{Request}
@@ -26,7 +26,7 @@ use Rattle.world_loans.specs.declared.loans.Lending.{Lending}
 use Rattle.world_loans.specs.declared.loans.ServeFault.{ServeFault}
 use Rattle.world_members.specs.Members.{AllClean, AllOpen}
 use Rattle.world_members.specs.declared.members.Member.{Member}
-use Rattle.world.specs.Worlds.{Seen, StandsFor, IsStep, IsRun}
+use Rattle.world.specs.Worlds.{AddsNone, Seen, StandsFor, IsStep, IsRun}
 
 -- no package of the world has this UUID
 abbrev pub IsNoPackage : World → List ℕ → Type 0
@@ -170,6 +170,8 @@ module _ {S : Type 0} (g : Ghosts S) where
             step.gone before after
         -- and what became of the store of a child
         pub child : SettlesChild (child_asked q.command) old reply new before after
+        -- After a refusal, and after a request that came again, it was not used.
+        pub unused : ¬ IsFault reply → AddsNone reply old.count new.count → after ≡ before
 
       -- One step after the other, in which these connections left the world.
       abbrev pub AreStepsWith : List Request → Seen S → List (Result Receipt Refusal) → Seen S → List (Held S)

@@ -184,6 +184,7 @@ pub(crate) fn serve<S: Alter + Drop, H: Shelf<S>>(
         strays.new.items result shelf.old shelf.new }
     ensures reads { IfOk result (λ reply. AddsNone reply count.old count.new
         → AllStay S.Store members.old.items members.new.items) }
+    ensures unused { IfOk result (λ reply. AddsNone reply count.old count.new → shelf.new ≡ shelf.old) }
     ensures room { HasRoomFor members.new.items strays.new }
     ensures shelf { CountsShelf result (H.failures_of shelf.old) (H.failures_of shelf.new) }
 {

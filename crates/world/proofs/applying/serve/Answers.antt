@@ -123,6 +123,41 @@ returns-in_ok-receipt-in-MergeDue-clause-reads g c = λ none. absurd
     (let more = (c.in_ok-receipt-in-MergeDue.ensures.carries.0.ok c.in_ok-receipt-in-MergeDue.receipt refl).1 in
     omega (arith, more, none))
 
+-- ---- where the shelf was not used
+
+pub returns-in_err-reply-clause-unused : goal.returns-in_err-reply-clause-unused
+returns-in_err-reply-clause-unused g c = unreplied _ _ _ (turned_into _ _ c.from_residual.ensures.1)
+
+pub returns-in_err-receipt-in-ChangeDue-clause-unused : goal.returns-in_err-receipt-in-ChangeDue-clause-unused
+returns-in_err-receipt-in-ChangeDue-clause-unused g c =
+    unreplied _ _ _ (turned_into _ _ c.from_residual-in_err-receipt-in-ChangeDue.ensures.1)
+
+pub returns-in_err-receipt-in-SplitDue-clause-unused : goal.returns-in_err-receipt-in-SplitDue-clause-unused
+returns-in_err-receipt-in-SplitDue-clause-unused g c =
+    unreplied _ _ _ (turned_into _ _ c.from_residual-in_err-receipt-in-SplitDue.ensures.1)
+
+pub returns-in_err-receipt-in-MergeDue-clause-unused : goal.returns-in_err-receipt-in-MergeDue-clause-unused
+returns-in_err-receipt-in-MergeDue-clause-unused g c =
+    unreplied _ _ _ (turned_into _ _ c.from_residual-in_err-receipt-in-MergeDue.ensures.1)
+
+pub returns-in-Answered-clause-unused : goal.returns-in-Answered-clause-unused
+returns-in-Answered-clause-unused g c = λ none. refl
+
+pub returns-in_ok-receipt-in-ChangeDue-clause-unused : goal.returns-in_ok-receipt-in-ChangeDue-clause-unused
+returns-in_ok-receipt-in-ChangeDue-clause-unused g c = λ none. absurd
+    (let more = (c.in_ok-receipt-in-ChangeDue.ensures.changes.ok c.in_ok-receipt-in-ChangeDue.receipt refl).1 in
+    omega (arith, more, none))
+
+pub returns-in_ok-receipt-in-SplitDue-clause-unused : goal.returns-in_ok-receipt-in-SplitDue-clause-unused
+returns-in_ok-receipt-in-SplitDue-clause-unused g c = λ none. absurd
+    (let more = (c.in_ok-receipt-in-SplitDue.ensures.carries.0.ok c.in_ok-receipt-in-SplitDue.receipt refl).1 in
+    omega (arith, more, none))
+
+pub returns-in_ok-receipt-in-MergeDue-clause-unused : goal.returns-in_ok-receipt-in-MergeDue-clause-unused
+returns-in_ok-receipt-in-MergeDue-clause-unused g c = λ none. absurd
+    (let more = (c.in_ok-receipt-in-MergeDue.ensures.carries.0.ok c.in_ok-receipt-in-MergeDue.receipt refl).1 in
+    omega (arith, more, none))
+
 pub returns-in_err-receipt-in-ChangeDue-clause-room : goal.returns-in_err-receipt-in-ChangeDue-clause-room
 returns-in_err-receipt-in-ChangeDue-clause-room g c =
     omega (

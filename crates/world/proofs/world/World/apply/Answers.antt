@@ -49,6 +49,7 @@ returns-in-Ok-clause-uses g c = replied_with g.S.Store _ _ _ _ _ _ _ _ _ _ c.ser
     c.self.inside.has_failed c.is_store_fault-self-inside.result _ _ c.self.view_is g.H.Shelf.asks g.H.Shelf.takes
     g.H.Shelf.failures_of c.args.shelf.now c.serve.new.shelf (child_asked c.args.request.now.command)
     c.in-Ok.reply c.in-Ok.ensures.child)
+    c.in-Ok.ensures.unused
 
 pub returns-in-Ok-clause-step : goal.returns-in-Ok-clause-step
 returns-in-Ok-clause-step g c = step_replied g.S.Store _ _ _ _ _ _ _ _ _ _ c.serve.ensures.serves.0
