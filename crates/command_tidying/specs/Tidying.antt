@@ -2,6 +2,7 @@
 use Rattle.std.specs.Prelude.{◌≡◌, ◌⊎◌, ◌++◌, ℕ, true, All, List, [], ◌∷◌, map, Option, Some}
 use Rattle.std.specs.Prelude.{None, Result, Ok, Err}
 use Rattle.std.specs.Prelude.{String, string_bytes}
+use Rattle.sheet_types.specs.Lines.{IsUuid}
 use Rattle.opening_verdict.specs.declared.seen.StoreSeen.{StoreSeen}
 use Rattle.opening_strays.specs.Spent.{is_spent}
 use Rattle.store_folder.specs.Leftovers.{IsLeftoverIn}
@@ -19,7 +20,7 @@ module _ {Y : Type 0} (Listed : List ℕ → Type 0) (Shown : List ℕ → Store
   -- The file of a package that the register can do without, by what was seen of the store in it.
   abbrev pub IsSpentFile : Register → List ℕ → Type 0
   IsSpentFile register name =
-      (uuid : List ℕ) × (seen : StoreSeen) × Shown uuid seen
+      (uuid : List ℕ) × (seen : StoreSeen) × IsUuid uuid × Shown uuid seen
       × (is_spent uuid seen register.receipts.items register.live.items ≡ true)
       × (name ≡ file_name uuid)
 

@@ -5,6 +5,7 @@ ghost use Rattle.command_tidying.specs.Tidying.{AreLeftovers, IsLeftoverFile, Is
 use crate::register::Register;
 use crate::yard::Yard;
 use opening_strays::spent::is_spent;
+use sheet_ledger::fitting::fits;
 use std::alloc::Global;
 use store_folder::fault::FolderFault;
 use store_folder::leftovers::leftovers_in;
@@ -51,6 +52,7 @@ fn take_spent<Y: Yard>(
         return Ok(());
     }
     let name = file_name(alloc, package)?;
+    fits(package);
     take_out(yard, names, name)
 }
 

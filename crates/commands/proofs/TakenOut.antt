@@ -16,7 +16,7 @@ module _ {Y : Type 0} (Listed : List ℕ → Type 0) (Shown : List ℕ → Store
     (Removes : List ℕ → Y → Y → Type 0) where
   may_go : (register : Register) (name : List ℕ) → MayGo Listed Shown Removes register name
       → MayGo {Y = Unit {0}} (λ bytes. ⊤) (λ uuid seen. ⊤) (λ name old new. ⊤) register name
-  may_go register name (inl spent) = inl (spent.0, spent.1, tt, spent.3, spent.4)
+  may_go register name (inl spent) = inl (spent.0, spent.1, spent.2, tt, spent.4, spent.5)
   may_go register name (inr left) = inr (left.0, tt, left.2)
 
   takes_out : (register : Register) (names : List (List ℕ)) (old new : Y)

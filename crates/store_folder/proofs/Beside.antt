@@ -95,7 +95,7 @@ left_in names packages name are there left = record {
   there = there;
   uuid = left.uuid;
   beside = left.beside;
-  alone = λ fit there. left.alone (are.files.all left.uuid fit there);
+  alone = λ other fit beside there. left.alone other fit beside (are.files.all other fit there);
 }
 
 pub all_left : {Z : Type 0} (names packages : List (List ℕ)) (texts : List (String Z)) → ArePackagesIn names packages

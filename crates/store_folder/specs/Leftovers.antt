@@ -26,18 +26,18 @@ IsOnly name uuid = (other rest : List ℕ) → IsUuid other → name ≡ file_na
 abbrev pub IsNoneWith : List ℕ → List ℕ → Type 0
 IsNoneWith name end = (other : List ℕ) → IsUuid other → name ≢ file_name other ++ end
 
--- it is kept beside the file of a package that is none of these
+-- it is kept beside the file of a package, and of none of these
 pub record IsLeftover (packages : List (List ℕ)) (name : List ℕ) : Type 0 where
   pub uuid : List ℕ
   pub beside : IsBeside uuid name
-  pub alone : Contains packages uuid → ⊥
+  pub alone : (other : List ℕ) → IsUuid other → IsBeside other name → Contains packages other → ⊥
 
--- it is one of these names, kept beside the file of a package, and that file is none of them
+-- it is one of these names, kept beside the file of a package, and beside no file that is one of them
 pub record IsLeftoverIn (names : List (List ℕ)) (name : List ℕ) : Type 0 where
   pub there : Contains names name
   pub uuid : List ℕ
   pub beside : IsBeside uuid name
-  pub alone : IsUuid uuid → Contains names (file_name uuid) → ⊥
+  pub alone : (other : List ℕ) → IsUuid other → IsBeside other name → Contains names (file_name other) → ⊥
 
 -- It is a text, and kept beside the file of a package that is none of these. Who tells leftovers tells it.
 pub record IsToldOf (packages : List (List ℕ)) (name : List ℕ) : Type 0 where

@@ -1,6 +1,6 @@
 //! The stores of a folder, opened.
-ghost use Rattle.std.specs.Prelude.{◌≡◌, ◌≤◌, ◌*◌, ◌++◌, ◌∷◌, [], ℕ, List, ⊤, IfOk};
-ghost use Rattle.std.specs.Prelude.{IsTrue, OnOk, All, length, max};
+ghost use Rattle.std.specs.Prelude.{◌≡◌, ◌≤◌, ◌+◌, ◌*◌, ◌/◌, ◌++◌, ◌∷◌, [], ℕ, List, ⊤, IfOk};
+ghost use Rattle.std.specs.Prelude.{IsTrue, OnOk, All, length, max, min};
 ghost use Rattle.std.specs.List.{AllZip};
 ghost use Rattle.sqlite.specs.Files.{IsOpened, file_state};
 ghost use Rattle.sqlite.specs.State.{HasCleanDisk};
@@ -57,25 +57,64 @@ fn fault_at(rt: &HostRuntime, path: &str, package: Uuid, error: Error) -> Folder
     }
 }
 
-/// How many pages are kept in memory of a store, where nothing else is said.
+/// How many pages of a store are kept in memory at most: 8 MB of them.
 const MOST_PAGES: usize = 2_000;
-
-/// How many pages the stores of a folder have in memory together, where each has at least a few.
-const ALL_PAGES: usize = 48_000;
 
 /// How many a store has at least.
 const FEW_PAGES: usize = 40;
 
-/// How many pages are kept in memory of each of so many stores.
-pub fn cache_pages(stores: usize) -> usize
+/// How many pages the stores of a folder have in memory together, where each has at least a few.
+const ALL_PAGES: usize = 48_000;
+
+/// How many they share however small their files are, so that a new store may grow.
+const SPARE_PAGES: usize = 8_000;
+
+/// The bytes of a page.
+const PAGE_BYTES: u64 = 4_096;
+
+/// How many pages each of some stores may have in memory. The engine takes the room for all of
+/// them when it opens a store, so a small file is given few.
+#[derive(Clone, Copy)]
+pub struct CacheRoom {
+    /// Of a file that has no page.
+    least: usize,
+    /// Of a large one.
+    most: usize,
+}
+
+/// An equal share of so many pages, within the limits of one store.
+fn share_of(pages: usize, stores: usize) -> usize
     ensures least { FEW_PAGES ≤ result }
     ensures most { result ≤ MOST_PAGES }
-    ensures together { result * stores ≤ max ALL_PAGES (FEW_PAGES * stores) }
+    ensures together { result * stores ≤ max «pages» (FEW_PAGES * stores) }
 {
     if stores == 0 {
         return MOST_PAGES;
     }
-    (ALL_PAGES / stores).clamp(FEW_PAGES, MOST_PAGES)
+    (pages / stores).clamp(FEW_PAGES, MOST_PAGES)
+}
+
+impl CacheRoom {
+    /// The room of each of so many stores.
+    pub fn of_each(stores: usize) -> CacheRoom
+        ensures least { FEW_PAGES ≤ result.least }
+        ensures together { result.most * stores ≤ max ALL_PAGES (FEW_PAGES * stores) }
+        ensures spare { result.least * stores ≤ max SPARE_PAGES (FEW_PAGES * stores) }
+    {
+        CacheRoom {
+            least: share_of(SPARE_PAGES, stores),
+            most: share_of(ALL_PAGES, stores),
+        }
+    }
+
+    /// How many pages are kept in memory of a store whose file has so many bytes: as many as the
+    /// file has, and a few that it may grow by.
+    pub fn pages_of(self, bytes: u64) -> usize
+        ensures { result ≡ max self.least (min self.most (bytes / PAGE_BYTES + FEW_PAGES)) }
+    {
+        let own = (bytes / PAGE_BYTES) as usize + FEW_PAGES;
+        own.min(self.most).max(self.least)
+    }
 }
 
 /// The database at a path and its log, opened as files.
@@ -114,7 +153,16 @@ fn connect(rt: &HostRuntime, path: &str, pages: usize) -> Result<Connection<Fold
     }
 }
 
-/// The store of a package, just opened: at rest, and adopted. So many of its pages are kept in memory.
+/// How many bytes the file of a path has; none where it cannot be told.
+fn bytes_at(rt: &HostRuntime, path: &str) -> u64 {
+    match fs::symlink_metadata(rt, path) {
+        Ok(found) => found.len(),
+        Err(_) => 0,
+    }
+}
+
+/// The store of a package, just opened: at rest, and adopted. As many of its pages are kept in memory
+/// as the room gives to its file.
 ///
 /// # Errors
 ///
@@ -124,12 +172,13 @@ pub fn open_store(
     rt: &HostRuntime,
     folder: &str,
     package: Uuid,
-    pages: usize,
+    room: CacheRoom,
 ) -> Result<Connection<FolderStore>, FolderFault>
     ensures { IfOk result (λ conn. IsJustOpened (file_state conn)) }
 {
     let name = file_name(rt.alloc(), package)?;
     let path = path_of(rt.alloc(), folder, name.as_str())?;
+    let pages = room.pages_of(bytes_at(rt, path.as_str()));
     match connect(rt, path.as_str(), pages) {
         Ok(conn) => Ok(conn),
         Err(error) => Err(fault_at(rt, path.as_str(), package, error)),
@@ -156,12 +205,12 @@ trait InFolder: Drop {
     /// call, and by nothing else.
     ghost is_of: { List ℕ → Self → Type 0 };
 
-    /// Opens that of one package, with so many pages in memory.
+    /// Opens that of one package, which may have so much room in memory.
     fn open(
         rt: &HostRuntime,
         folder: &str,
         package: Uuid,
-        pages: usize,
+        room: CacheRoom,
     ) -> Result<Self, FolderFault>
         ensures opened { IfOk result is_just_opened }
         ensures own { IfOk result (λ it. is_of «package» it) };
@@ -180,9 +229,9 @@ impl InFolder for Connection<FolderStore> {
         rt: &HostRuntime,
         folder: &str,
         package: Uuid,
-        pages: usize,
+        room: CacheRoom,
     ) -> Result<Connection<FolderStore>, FolderFault> {
-        open_store(rt, folder, package, pages)
+        open_store(rt, folder, package, room)
     }
 }
 
@@ -196,17 +245,17 @@ fn open_each<T: InFolder>(
     ensures own { IfOk result (λ stores. AllZip T.is_of packages.now stores.items) }
     ensures each { IfOk result (λ stores. length stores.items ≡ length packages.now) }
 {
-    let pages = cache_pages(packages.len());
+    let room = CacheRoom::of_each(packages.len());
     let mut stores = Vec::with_capacity(rt.alloc(), packages.len())?;
     for package in packages {
-        let store = T::open(rt, folder, *package, pages)?;
+        let store = T::open(rt, folder, *package, room)?;
         push(&mut stores, store)?;
     }
     Ok(stores)
 }
 
-/// The stores of these packages, in their order, each just opened. The more there are, the fewer
-/// pages of each are kept in memory.
+/// The stores of these packages, in their order, each just opened. The more there are, and the smaller
+/// their files, the fewer pages of each are kept in memory.
 ///
 /// # Errors
 ///

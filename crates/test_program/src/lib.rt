@@ -27,6 +27,8 @@ mod progress_tests;
 #[cfg(test)]
 mod rehearsal_tests;
 #[cfg(test)]
+mod room_tests;
+#[cfg(test)]
 mod sending_tests;
 #[cfg(test)]
 mod streams;

@@ -11,5 +11,5 @@ returns g c =
     let shown : g.Y.Yard.shown c.args.package c.in-Some.seen = search rules in
     took g.Y.Yard.listed g.Y.Yard.shown g.Y.Yard.removes c.args.register.now c.args.names.now.items
     c.take_out.new.names.items c.in_ok-name.name c.args.yard.now c.take_out.new.yard c.take_out.result
-    (inl (c.args.package, c.in-Some.seen, shown, spent, c.in_ok-name.ensures)) c.take_out.ensures.removes
+    (inl (c.args.package, c.in-Some.seen, c.fits.ensures, shown, spent, c.in_ok-name.ensures)) c.take_out.ensures.removes
     c.take_out.ensures.ok c.take_out.ensures.err
