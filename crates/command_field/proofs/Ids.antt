@@ -1,19 +1,21 @@
 -- The identities of a list of requests: those so far, and one more.
-use Rattle.std.specs.Prelude.{◌≡◌, ◌+◌, ◌<◌, ℕ, suc, Bool, true, false, ◌||◌, List, [], ◌∷◌}
+use Rattle.std.specs.Prelude.{◌≡◌, ◌+◌, ◌<◌, ◌≤◌, ℕ, suc, count_by, Bool, true, false, ◌||◌, List, [], ◌∷◌}
 use Rattle.std.specs.Prelude.{◌++◌, flat_map, length}
 use Rattle.std.specs.Prelude.{take, bytes_eq, refl}
-use Rattle.std.proofs.Common.{sym, ap, subst, ◌∙◌, drop, get_or}
+use Rattle.std.proofs.Common.{sym, ap, subst, ◌∙◌, drop, get_or, arith}
 use Rattle.std.specs.List.{list_any, AllByRecursion}
 use Rattle.std.proofs.lemmas.Bool.{true≢false, or_parts}
 use Rattle.std.proofs.lemmas.List.{take-append-drop}
 use Rattle.std.proofs.lemmas.List.Folds.{list_any-append}
 use Rattle.std.proofs.Math.Seq.{drop-cons}
 use Rattle.sheet_types.specs.Ordered.{is_among}
-use Rattle.sheet_types.proofs.Basics.{bytes_eq_swap, or-true}
+use Rattle.sheet_types.proofs.Basics.{bytes_eq_itself, bytes_eq_swap, or-true}
 use Rattle.sheet_types.proofs.Every.{All-snoc}
+use Rattle.sheet_types.proofs.Sums.{count-cons}
 use Rattle.field_changes.proofs.Sets.{one_more}
 use Rattle.field_run_laws.specs.Lists.{has_twice}
 use Rattle.field_run_laws.proofs.Keys.{apart_from}
+use Rattle.command_field.specs.Freedom.{StandsTwice}
 use Rattle.command_requests.proofs.Listed.{flat_more}
 
 -- a set of what those so far name, with one more
@@ -64,12 +66,42 @@ twice_at ks i k within is there = by (has_twice ks) refl
         apart_from (take i ks) k (drop (suc i) ks) (sym (ap has_twice (all_around ks i k within is)) ∙ e) in
         absurd (true≢false (sym there ∙ apart))
 
-pub among_at : (ks : List (List ℕ)) (i : ℕ) (k : List ℕ) → i < length ks → k ≡ get_or ks i k
-    → is_among (take i ks) k ≡ true → is_among ks k ≡ true
-among_at ks i k within is there =
-    ap (λ l. is_among l k) (all_around ks i k within is)
-    ∙ list_any-append (λ y. bytes_eq y k) (take i ks) (k ∷ drop (suc i) ks)
-    ∙ ap (λ b. b || is_among (k ∷ drop (suc i) ks) k) there
+counted_once : (xs : List (List ℕ)) (k : List ℕ) (ys : List (List ℕ))
+    → 1 ≤ count_by (λ y. bytes_eq y k) (xs ++ k ∷ ys)
+counted_once [] k ys = omega (arith, count-cons (λ y. bytes_eq y k) k ys true (bytes_eq_itself k))
+counted_once (x ∷ xs) k ys =
+    elim (bytes_eq x k) as (λ v. bytes_eq x k ≡ v → 1 ≤ count_by (λ y. bytes_eq y k) (x ∷ (xs ++ k ∷ ys))) [
+      | true ↦ λ e. omega (arith, count-cons (λ y. bytes_eq y k) x (xs ++ k ∷ ys) true e)
+      | false ↦ λ e. omega (
+        arith,
+        count-cons (λ y. bytes_eq y k) x (xs ++ k ∷ ys) false e,
+        counted_once xs k ys,
+      )
+    ] refl
+
+counted_twice : (xs : List (List ℕ)) (k : List ℕ) (ys : List (List ℕ)) → is_among xs k ≡ true
+    → StandsTwice (xs ++ k ∷ ys) k
+counted_twice [] k ys there = absurd (true≢false (sym there))
+counted_twice (x ∷ xs) k ys there =
+    elim (bytes_eq x k) as (λ v. bytes_eq x k ≡ v → (v || is_among xs k) ≡ true
+    → 2 ≤ count_by (λ y. bytes_eq y k) (x ∷ (xs ++ k ∷ ys))) [
+      | true ↦ λ e more. omega (
+        arith,
+        count-cons (λ y. bytes_eq y k) x (xs ++ k ∷ ys) true e,
+        counted_once xs k ys,
+      )
+      | false ↦ λ e more. omega (
+        arith,
+        count-cons (λ y. bytes_eq y k) x (xs ++ k ∷ ys) false e,
+        counted_twice xs k ys more,
+      )
+    ] refl there
+
+pub counted_at : (ks : List (List ℕ)) (i : ℕ) (k : List ℕ) → i < length ks → k ≡ get_or ks i k
+    → is_among (take i ks) k ≡ true → StandsTwice ks k
+counted_at ks i k within is there =
+    subst (λ l. StandsTwice l k) (sym (all_around ks i k within is))
+    (counted_twice (take i ks) k (drop (suc i) ks) there)
 
 -- ---- of each
 

@@ -1,6 +1,6 @@
 -- What a list of requests asks for that is not free in a world. Profile.
-use Rattle.std.specs.Prelude.{◌≡◌, ◌⊎◌, ◌&&◌, Bool, true, false, List, map, Option}
-use Rattle.std.specs.Prelude.{MatchOption, bytes_eq}
+use Rattle.std.specs.Prelude.{◌≡◌, ◌⊎◌, ◌&&◌, ◌≤◌, ℕ, Bool, true, false, List, map, Option}
+use Rattle.std.specs.Prelude.{MatchOption, bytes_eq, count_by}
 use Rattle.std.specs.List.{list_any}
 use Rattle.sheet_types.specs.Custody.{is_used}
 use Rattle.sheet_types.specs.Ordered.{is_among}
@@ -33,10 +33,14 @@ IsNewIn w q = (identity_used w q.command ≡ false) × (is_kept w q ≡ false)
 abbrev pub AreApart : List Request → Type 0
 AreApart qs = (has_twice (ids_added qs) ≡ false) × (has_twice (map (λ q. q.id) qs) ≡ false)
 
--- two of them do, and this one stands among them
+-- it stands at two places of a list
+abbrev pub StandsTwice : List (List ℕ) → List ℕ → Type 0
+StandsTwice ids id = 2 ≤ count_by (λ k. bytes_eq k id) ids
+
+-- two of them do, for this one
 abbrev pub IsTwice : List Request → Taken → Type 0
-IsTwice qs (Identity id) = (has_twice (ids_added qs) ≡ true) × (is_among (ids_added qs) id ≡ true)
-IsTwice qs (SameRequest id) = (has_twice (map (λ q. q.id) qs) ≡ true) × (is_among (map (λ q. q.id) qs) id ≡ true)
+IsTwice qs (Identity id) = StandsTwice (ids_added qs) id
+IsTwice qs (SameRequest id) = StandsTwice (map (λ q. q.id) qs) id
 IsTwice qs TooMany = ⊥
 
 -- Two of its requests ask for it, one asks for what is taken, or a limit is passed.

@@ -1,9 +1,9 @@
 //! The identities that a list of requests gives: those of the requests, and those of the items that they add.
-ghost use Rattle.std.specs.Prelude.{◌≡◌, ◌++◌, map, is_some, true, IfOk, IfSome};
-ghost use Rattle.sheet_types.specs.Ordered.{is_among};
+ghost use Rattle.std.specs.Prelude.{◌≡◌, ◌++◌, map, is_some, IfOk, IfSome};
 ghost use Rattle.field_home_laws.specs.Free.{ids_added};
 ghost use Rattle.field_run_laws.specs.Lists.{has_twice};
 ghost use Rattle.field_run_laws.specs.Ready.{added};
+ghost use Rattle.command_field.specs.Freedom.{StandsTwice};
 
 use package_tables::fault::Fault;
 use sheet_types::command::{Command, Request};
@@ -54,7 +54,7 @@ pub(crate) fn added_ids(alloc: Global, requests: &[Request]) -> Result<Vec<Uuid>
 /// Want of memory.
 pub(crate) fn first_twice(alloc: Global, ids: &[Uuid]) -> Result<Option<Uuid>, Fault>
     ensures twice { IfOk result (λ found. is_some found ≡ has_twice ids.now) }
-    ensures there { IfOk result (λ found. IfSome found (λ id. is_among ids.now id ≡ true)) }
+    ensures there { IfOk result (λ found. IfSome found (StandsTwice ids.now)) }
 {
     let mut seen = BTreeSet::new(alloc);
     for id in ids {

@@ -1,7 +1,7 @@
 -- What was written of a live package is its export, or a beginning of it.
 use Rattle.std.proofs.Common.{◌≡◌, ◌∙◌, ℕ, List, Option, Some, unwrap_or, Result, Ok, Err, OnOk, OnErr}
 use Rattle.std.proofs.Common.{Bool, true}
-use Rattle.std.proofs.Common.{false, flat_map, ap, refl, subst}
+use Rattle.std.proofs.Common.{false, ap, refl, subst, inl, inr}
 use Rattle.std.specs.Bool.{then_some}
 use Rattle.std.specs.Io.KnownBytes.{Appends}
 use Rattle.sheet_types.specs.Answers.{holdings_answer}
@@ -10,13 +10,11 @@ use Rattle.sheet_types.specs.World.{World, is_live, holdings}
 use Rattle.sheet_types.specs.declared.command.Item.{Item}
 use Rattle.sheet_types.specs.declared.command.Relation.{Relation}
 use Rattle.sheet_types.specs.declared.frame.Frame.{Frame}
-use Rattle.view_export.specs.Exports.{export_text, items_behind, link_row, opening}
-use Rattle.view_export.specs.Numbers.{no_counts}
+use Rattle.view_export.specs.Exports.{export_text}
 use Rattle.manifest_csv.specs.Sent.{WentOut}
 use Rattle.manifest_csv.specs.declared.package_manifests.ManifestFault.{ManifestFault}
 use Rattle.manifest_csv.specs.declared.package_manifests.ManifestFault.TheVariants.{Unknown, Failed, Unwritten}
 use Rattle.views.specs.Written.{IsOfLive, WritesExport, export}
-use Rattle.views.proofs.Beginnings.{none_sent}
 
 -- ---- a live package and its holdings
 
@@ -42,7 +40,7 @@ pub live_written : (w : World) (p : List ℕ) (a b : Option (List ℕ)) (r : Res
     → WritesExport w p a b r
 live_written w p a b (Ok x) live ok err of = (live, ok)
 live_written w p a b (Err Unknown) live ok err of = absurd of
-live_written w p a b (Err (Failed fault)) live ok err of = err
+live_written w p a b (Err (Failed fault)) live ok err of = inr (live, err)
 live_written w p a b (Err Unwritten) live ok err of = (live, err)
 
 -- the text of the holdings that were found
@@ -57,11 +55,6 @@ found_written w p f n items links a b r frame number found ok err of =
     live_written w p a b r held.0 (subst (λ t. OnOk r (Appends a b t)) same ok)
     (subst (λ t. OnErr r (WentOut a b t)) same err) of
 
-pub none_written : (w : World) (p : List ℕ) (a : Option (List ℕ)) → WentOut a a (export w p)
-none_written w p a =
-    none_sent (opening w.frame p (ticket w p)) (items_behind w.frame no_counts (holdings w p).items)
-    (flat_map (link_row (holdings w p).items) (holdings w p).links) a
-
 -- a package of which nothing was written since memory or a store gave out
 abbrev pub HasFailed : Result (Unit {0}) ManifestFault → Type 0
 HasFailed (Ok x) = ⊥
@@ -73,5 +66,5 @@ pub failed_written : (w : World) (p : List ℕ) (a : Option (List ℕ)) (r : Res
     → HasFailed r → WritesExport w p a a r
 failed_written w p a (Ok x) failed = absurd failed
 failed_written w p a (Err Unknown) failed = absurd failed
-failed_written w p a (Err (Failed fault)) failed = none_written w p a
+failed_written w p a (Err (Failed fault)) failed = inl refl
 failed_written w p a (Err Unwritten) failed = absurd failed

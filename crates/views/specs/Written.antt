@@ -1,5 +1,5 @@
 -- What is written of a package of a world as SQL. Profile.
-use Rattle.std.specs.Prelude.{◌≡◌, ◌≤◌, ℕ, true, false, List, length, take, Option, Result, Ok, Err}
+use Rattle.std.specs.Prelude.{◌≡◌, ◌⊎◌, ◌≤◌, ℕ, true, false, List, length, take, Option, Result, Ok, Err}
 use Rattle.std.specs.Io.KnownBytes.{Appends}
 use Rattle.sqlite.specs.Store.{Ghosts}
 use Rattle.sheet_types.specs.Custody.{ticket}
@@ -19,12 +19,14 @@ Began old new text = (n : ℕ) × (n ≤ length text) × Appends old new (take n
 abbrev pub export : World → List ℕ → List ℕ
 export w p = export_text w.frame p (ticket w p) (holdings w p).items (holdings w p).links
 
--- A live package's SQL is written whole, or a beginning of it where memory, a store or the writer gave out.
+-- A live package's SQL is written whole, or a beginning of it where memory, a store or the writer gave out. Of another
+-- package nothing is written.
 abbrev pub WritesExport : World → List ℕ → Option (List ℕ) → Option (List ℕ)
     → Result (Unit {0}) ManifestFault → Type 0
 WritesExport w p before after (Ok x) = (is_live w p ≡ true) × Appends before after (export w p)
 WritesExport w p before after (Err Unknown) = is_live w p ≡ false
-WritesExport w p before after (Err (Failed fault)) = WentOut before after (export w p)
+WritesExport w p before after (Err (Failed fault)) =
+    (after ≡ before) ⊎ ((is_live w p ≡ true) × WentOut before after (export w p))
 WritesExport w p before after (Err Unwritten) = (is_live w p ≡ true) × WentOut before after (export w p)
 
 -- It is no end of a package that is not live.

@@ -5,7 +5,7 @@ use Rattle.std.specs.Cmp.Lexicographic.{slice_cmp}
 use Rattle.std.specs.BTreeSet.{contains}
 use Rattle.sheet_types.proofs.Basics.{not_true, not_false}
 use Rattle.field_changes.proofs.Sets.{any_more, put_in}
-use Rattle.command_field.proofs.Ids.{among_at, apart_more, twice_at}
+use Rattle.command_field.proofs.Ids.{apart_more, counted_at, twice_at}
 use Rattle.command_field.proofs.identities.first_twice.Goals as goal
 
 pub returns-then-not-branch-clause-twice : goal.returns-then-not-branch-clause-twice
@@ -21,7 +21,7 @@ returns-then-not-branch-clause-there c =
     let id = c.id-item.result in
     let there : contains (slice_cmp nat_cmp) c.loop-id.seen id ≡ true =
     not_false _ (sym c.in_ok-insert.ensures.added ∙ c.if-not-branch.true) in
-    among_at c.args.ids.now c.loop-id.id-index id c.loop-id-test.true c.id-item.is
+    counted_at c.args.ids.now c.loop-id.id-index id c.loop-id-test.true c.id-item.is
     (sym (c.loop-id.invariant.seen id) ∙ there)
 
 pub loop-id-preserved : goal.loop-id-preserved

@@ -1,9 +1,9 @@
 -- Where the package is live its text was written, or a beginning of it.
-use Rattle.std.proofs.Common.{◌∙◌, rules, subst}
+use Rattle.std.proofs.Common.{◌∙◌, rules, subst, inl, refl}
 use Rattle.world.specs.Questions.{IsAnswer}
 use Rattle.manifest_csv.specs.ByItems.{AreTold}
 use Rattle.views.proofs.ExportedByItems.{clean_untouched, given_err, given_ok, told_written, untouched_read}
-use Rattle.views.proofs.Exported.{HasFailed, failed_written, none_written}
+use Rattle.views.proofs.Exported.{HasFailed, failed_written}
 use Rattle.views.proofs.by_items.write_by_items.Goals as goal
 
 pub returns-in_err-ticket-clause-written : goal.returns-in_err-ticket-clause-written
@@ -12,8 +12,7 @@ returns-in_err-ticket-clause-written g c =
     λ clean w stands. failed_written w c.args.package _ c.from_residual-in_err-ticket.result failed
 
 pub returns-then-not-is_good-clause-written : goal.returns-then-not-is_good-clause-written
-returns-then-not-is_good-clause-written g c = λ clean w stands. none_written w c.args.package
-    (g.W.Write.contents c.args.writer.now)
+returns-then-not-is_good-clause-written g c = λ clean w stands. inl refl
 
 pub returns-in_err-ticket-clause-read : goal.returns-in_err-ticket-clause-read
 returns-in_err-ticket-clause-read g c = c.in_ok-told.ensures.read
