@@ -1,7 +1,7 @@
 #!/usr/bin/env python3
 """Has `rt plant` make wrong bodies crate after crate, and keeps in attacks/PLANTS.csv those that meet the contracts.
 
-    tools/plant_crates.py [--until HH:MM] [--minutes N] CRATE ..   plants what is not known of these crates; with no CRATE, of all
+    tools/plant_crates.py [--until HH:MM] [--minutes N] CRATE ..   plants what is not known of these crates; with no CRATE, of all but tests
     tools/plant_crates.py --why CRATE FUNCTION BODY REASON         notes why a body may pass; FUNCTION and BODY as the list has them
     tools/plant_crates.py --open                                   proves nothing: what passes and has no reason, and which crates wait
     tools/plant_crates.py --table                                  proves nothing: puts the list in order, and counts it
@@ -9,7 +9,8 @@
 A line is crate, function, kind, body, why, date, and the sum of all that was read (the crate's sources, specs and proofs, the libraries below, the
 toolchain). The kinds are those of `rt plant`: `proves` (the body meets the contract), `no-ensures` (the function has no clause), `untested` (no
 plant that gives up could be judged). A crate also has a line `planted`, with the counts of its last run. A crate whose sum is known is not planted
-again, so a later run does what changed. A reason is kept while the same body passes. The libraries below a crate must be built (rt ci or rt check
+again, so a later run does what changed. A reason is kept while the same body passes; a law, whose
+body is empty, gets one by itself. The libraries below a crate must be built (rt ci or rt check
 builds them): a crate that lacks one is passed over. `rt plant` checks the crate first, so each crate costs at least its own proof.
 """
 import argparse
@@ -27,6 +28,7 @@ PLANTS = f"{ROOT}/attacks/PLANTS.csv"
 HEAD = ["crate", "function", "kind", "body", "why", "date", "sum"]
 KINDS = ("proves", "no-ensures", "untested")
 ROW = re.compile(rf"^({'|'.join(KINDS)}) +src/\S+ (.+?)(?:\(\))?(?:: (\{{.*\}}))?(?:  \(.*\))?$")
+LAW = "a law: the contract of a function that does nothing"
 COUNTS = re.compile(r"^plants crate=\S+ (.*)$", re.M)
 
 
@@ -60,7 +62,8 @@ def rows_of(crate, text, stamp, reasons):
         found = ROW.match(line)
         if found:
             kind, function, body = found[1], found[2], found[3] or ""
-            made.append((crate, function, kind, body, reasons.get((function, body), "")))
+            why = reasons.get((function, body), "") or (LAW if kind == "untested" and function.startswith("laws::") else "")
+            made.append((crate, function, kind, body, why))
     return [dict(zip(HEAD, (*it, day, stamp))) for it in made]
 
 
@@ -82,7 +85,7 @@ def plant_all(said):
     if lacking:
         sys.exit(f"crates.txt names no {' '.join(lacking)}")
     worst = 0
-    for name in said.crates or crates:
+    for name in said.crates or [it for it in crates if not it.startswith("test_")]:
         crate, found = crates[name], read_rows()
         stamp = rt.stamp_of(crate, {})[:16]
         if is_late(said.until):
@@ -123,7 +126,7 @@ def show_open():
     left = [row for rows in found.values() for row in rows if row["kind"] != "planted" and not row["why"]]
     for row in left:
         print(f"{row['crate']} {row['kind']} {row['function']} {row['body']}")
-    waits = [it for it in named if it not in found]
+    waits = [it for it in named if it not in found and not it.startswith("test_")]
     print(f"{len(left)} that pass have no reason; {len(waits)} of {len(named)} crates wait: {' '.join(waits)}")
     return 1 if left or waits else 0
 
