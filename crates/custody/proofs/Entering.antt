@@ -34,11 +34,11 @@ use Rattle.package_tables.specs.Changes.{Adds}
 use Rattle.package_tables.specs.declared.rows.MovedRow.{MovedRow}
 use Rattle.package_tables.specs.declared.rows.ReceiptRow.{ReceiptRow}
 use Rattle.identity_register.specs.Reads.{Says, Reads, IsFitReceipt, receipt_row, moved_row, moved_rows}
-use Rattle.identity_register.specs.Calls.{Becomes}
 use Rattle.identity_register.specs.LocalNumbers.{KeepRows, KeepsNumbers}
 use Rattle.identity_register.proofs.KeptNumbers.{entries_beside}
-use Rattle.custody.specs.Receipts.{IsNewReceipt}
+use Rattle.custody.specs.Receipts.{EntersReceipt}
 use Rattle.custody.specs.Entries.{Enters, rows_from}
+use Rattle.custody.proofs.KeptRows.{entries_aside}
 
 -- ---- keys
 
@@ -197,7 +197,7 @@ module _ (f : Frame) (p : Package) (t : Tables) (says : Says f p t) (r : Receipt
 pub comes_in : (r : Receipt) (old mid new : Database) → OnTables (Adds receipts (receipt_row r)) old mid
     → EachChained Enters (moved_rows r) mid new → (f : Frame) (p : Package) → Reads f p old
     → has receipt_key (receipt_key r) p.receipts ≡ false → IsFitReceipt r
-    → Reads f (with_receipt r p) new × KeepsNumbers old new
+    → Reads f (with_receipt r p) new × KeepsNumbers old new × KeepsNumbers new old
 comes_in r old mid new head items f p reads number fit =
     let says = reads.says in
     let one = head reads.formed in
@@ -216,20 +216,23 @@ comes_in r old mid new head items f p reads number fit =
       subst (KeepRows (tables_of old)) are
           (entries_beside (put receipt_shape.key (receipt_row r) (tables_of old).receipts)
           (arranged key (moved_rows r ++ base)) (tables_of old)),
+      subst (λ (t : Tables). KeepRows t (tables_of old)) are
+          (entries_aside (put receipt_shape.key (receipt_row r) (tables_of old).receipts)
+          (arranged key (moved_rows r ++ base)) (tables_of old)),
     )
 
 receipt_entered : (r : Receipt) (old mid new : Database) → OnTables (Adds receipts (receipt_row r)) old mid
-    → EachChained Enters (moved_rows r) mid new → Becomes (IsNewReceipt r) (with_receipt r) old new
-receipt_entered r old mid new head items f p reads fits = (comes_in r old mid new head items f p reads fits.number
-    fits.fit).0
+    → EachChained Enters (moved_rows r) mid new → EntersReceipt r old new
+receipt_entered r old mid new head items f p reads fits = comes_in r old mid new head items f p reads fits.number
+    fits.fit
 
 -- the row of the receipt comes in, and then those of the things that it moved
 pub receipt_steps : {E F : Type 0} (r : Receipt) {old mid new : State} {x : Unit {0}} {q : Result (Unit {0}) F}
     → Steps {E = E} (λ _. OnTables (Adds receipts (receipt_row r))) old mid (Ok x)
     → Steps (λ _. EachChained Enters (moved_rows r)) mid new q
-    → Steps (λ _. Becomes (IsNewReceipt r) (with_receipt r)) old new q
+    → Steps (λ _. EntersReceipt r) old new q
 receipt_steps r {old} {mid} {new} first next =
-    steps_weaker (λ _. Becomes (IsNewReceipt r) (with_receipt r))
+    steps_weaker (λ _. EntersReceipt r)
     (λ _ chain. receipt_entered r old.now chain.0 new.now chain.1 chain.2) (steps_then first next)
 
 -- ---- one row

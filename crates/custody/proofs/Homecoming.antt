@@ -59,8 +59,9 @@ receipt_brought row s0 s1 {t0} {t1} {t2} head things = steps_weaker (λ _. FromC
     so it clean f from reads r there is g p reads_p free =
         let fit = All-In IsFitReceipt r reads.says.entered reads.says.fit
         (of_kept f from (tables_of s0.now) reads.says r there) in
-        comes_in r t0.now it.0 t2.now (subst (λ y. OnTables (Adds receipts y) t0.now it.0) (sym is) it.1)
-        (it.2 clean f from reads r there (ap (λ y. y.seq) is)) g p reads_p free fit
+        let came = comes_in r t0.now it.0 t2.now (subst (λ y. OnTables (Adds receipts y) t0.now it.0) (sym is) it.1)
+        (it.2 clean f from reads r there (ap (λ y. y.seq) is)) g p reads_p free fit in
+        (came.0, came.1)
 
 -- ---- the order of numbers
 

@@ -1,3 +1,4 @@
+pub mod KeptRows
 pub mod Entering
 pub mod Kept
 pub mod Naming

@@ -14,14 +14,13 @@ ghost use Rattle.store_sql.specs.Transactions.{Rests, Looks, Steps};
 ghost use Rattle.store_sql.specs.Writing.{EachChained};
 ghost use Rattle.sheet_types.specs.Lines.{uuid_in};
 ghost use Rattle.sheet_types.specs.Texts.{uuid_text};
-ghost use Rattle.sheet_types.specs.World.{with_receipt};
 ghost use Rattle.package_tables.specs.Calls.{LooksUp, OnTables};
 ghost use Rattle.package_tables.specs.Listed.{receipts};
 ghost use Rattle.package_tables.specs.Changes.{Adds};
-ghost use Rattle.identity_register.specs.Calls.{Becomes, Sees};
+ghost use Rattle.identity_register.specs.Calls.{Sees};
 ghost use Rattle.identity_register.specs.Reads.{receipt_row, moved_row};
 ghost use Rattle.custody.specs.Entries.{Enters, rows_from, is_of};
-ghost use Rattle.custody.specs.Receipts.{IsNewReceipt, is_named};
+ghost use Rattle.custody.specs.Receipts.{EntersReceipt, is_named};
 
 use identity_register::kinds::{MEDIUM, ROW, TILE, number_of_kind};
 use package_tables::fault::Fault;
@@ -124,7 +123,8 @@ fn enter_row<S: Alter>(tx: &mut Transaction<'_, S>, receipt: &Receipt) -> Result
     )
 }
 
-/// Enters a receipt, under a number and a request that the package has not.
+/// Enters a receipt, under a number and a request that the package has not. The rows of items,
+/// identities and links stay as they are.
 ///
 /// # Errors
 ///
@@ -132,8 +132,8 @@ fn enter_row<S: Alter>(tx: &mut Transaction<'_, S>, receipt: &Receipt) -> Result
 /// cannot have. Nothing is committed; the transaction has to be dropped.
 pub fn enter<S: Alter>(tx: &mut Transaction<'_, S>, receipt: &Receipt) -> Result<(), Fault>
     ensures same_reference { tx.new.conn.ghost_name ≡ tx.old.conn.ghost_name }
-    ensures steps { Steps (λ _. Becomes (IsNewReceipt receipt.now) (with_receipt receipt.now))
-        (state S.Store tx.old.conn.now) (state S.Store tx.new.conn.now) result }
+    ensures steps { Steps (λ _. EntersReceipt receipt.now) (state S.Store tx.old.conn.now)
+        (state S.Store tx.new.conn.now) result }
 {
     enter_row(tx, receipt)?;
     enter_things(tx, receipt.seq, receipt.items.as_slice())

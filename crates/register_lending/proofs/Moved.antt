@@ -16,15 +16,16 @@ use Rattle.register_lending.proofs.Selected.{is_selection, left_is_less, same_wi
 
 pub cut_out : (s : Selection) (old new : Database) → Shrinks (IsSelection (names_of s)) (without_names (names_of s))
     old new → TakesOut s old new
-cut_out s old new shrinks c f p is reads part = subst (λ x. Reads f x new) (left_is_less c s f p old is reads part)
-    (shrinks f p reads (is_selection c s f p old is reads part)).0
+cut_out s old new shrinks c f p is reads part =
+    let out = shrinks f p reads (is_selection c s f p old is reads part) in
+    (subst (λ x. Reads f x new) (left_is_less c s f p old is reads part) out.0, out.1)
 
 pub cut_in : (s : Selection) (source then_source : State) (old new : Database)
     → (HasCleanDisk then_source → OfSource source (λ p. Takes (selected (names_of s) p) old new))
     → FromClean then_source (CarriesOver s source.now) old new
 cut_in s source then_source old new takes clean c f from p is read part reads may =
-    subst (λ x. Reads f x new) (same_with c s f from source.now is read part p may)
-    (takes clean f from (λ _. read) f p reads (is_new_cut c s f from source.now is read part p may)).0
+    let come = takes clean f from (λ _. read) f p reads (is_new_cut c s f from source.now is read part p may) in
+    (subst (λ x. Reads f x new) (same_with c s f from source.now is read part p may) come.0, come.1)
 
 -- a source that is read once more
 pub later : {E F : Type 0} (s : Selection) (source then_source last_source : State) {old new : State} {x : Unit {0}}

@@ -4,15 +4,18 @@ use Rattle.sqlite.specs.Effect.{Database}
 use Rattle.sqlite.specs.State.{State, HasCleanDisk}
 use Rattle.sheet_types.specs.Cut.{Cut}
 use Rattle.sheet_types.specs.Step.{less}
-use Rattle.sheet_types.specs.World.{Package, with_receipt}
+use Rattle.sheet_types.specs.World.{Package}
 use Rattle.sheet_types.specs.declared.frame.Frame.{Frame}
 use Rattle.sheet_types.specs.declared.receipt.Receipt.{Receipt}
 use Rattle.store_sql.specs.Staying.{Stays}
 use Rattle.store_sql.specs.Transactions.{Steps}
 use Rattle.store_sql.proofs.Transactions.{steps_then, steps_weaker}
-use Rattle.custody.specs.Receipts.{IsNewReceipt}
-use Rattle.identity_register.specs.Calls.{Becomes, Dates}
+use Rattle.custody.specs.Receipts.{IsNewReceipt, EntersReceipt}
+use Rattle.custody.proofs.KeptRows.{dated_rows}
+use Rattle.identity_register.specs.Calls.{Dates}
+use Rattle.identity_register.specs.LocalNumbers.{KeepsNumbers}
 use Rattle.identity_register.specs.Reads.{Reads}
+use Rattle.identity_register.proofs.KeptNumbers.{kept_then}
 use Rattle.register_lending.specs.Lending.{Fills, Lends, TakesHome, BringsBoth, MayReturn, lent, returned}
 use Rattle.custody.specs.Homing.{AreApart, BringsHome, FromClean, with_receipts_of}
 use Rattle.transfer.specs.Parcels.{with_cut}
@@ -29,34 +32,41 @@ pub filled_then : {E F : Type 0} (s : Selection) (at : List ℕ) (source : State
     (Ok x)
     → Steps (λ _. Dates at) mid new q
     → Steps (λ _. FromClean source (Fills s at db)) old new q
-filled_then s at source db first next =
+filled_then s at source db {old} {mid} {new} first next =
     steps_weaker (λ _. FromClean source (Fills s at db))
-    (λ _ chain clean moment c f from p selected read part reads come. let it =
-    chain.2 moment f (with_cut c p) (chain.1 clean c f from p selected read part reads come) in (it.0, it.1))
+    (λ _ chain clean moment c f from p selected read part reads come.
+    let came = chain.1 clean c f from p selected read part reads come in
+    let it = chain.2 moment f (with_cut c p) came.0 in
+    (it.0, it.1, kept_then old.now chain.0 new.now came.1 (dated_rows chain.0 new.now it.2).0))
     (steps_then first next)
 
 -- ---- a parent lends
 
--- what is selected leaves it, and the receipt is entered
+-- what is selected leaves it, the receipt is entered, and what stays keeps its number
 abbrev pub TakesAndEnters : Receipt → Selection → Database → Database → Type 0
 TakesAndEnters r s old new = (c : Cut) (f : Frame) (p : Package) → IsSelectionOf c s → Reads f p old → IsPart c p
-    → IsNewReceipt r (less c p) → Reads f (lent r c p) new
+    → IsNewReceipt r (less c p) → Reads f (lent r c p) new × KeepsNumbers new old
 
 pub taken_then : {E F : Type 0} (r : Receipt) (s : Selection) {old mid new : State} {x : Unit {0}}
     {q : Result (Unit {0}) F} → Steps {E = E} (λ _. TakesOut s) old mid (Ok x)
-    → Steps (λ _. Becomes (IsNewReceipt r) (with_receipt r)) mid new q → Steps (λ _. TakesAndEnters r s) old new q
-taken_then r s first next =
+    → Steps (λ _. EntersReceipt r) mid new q → Steps (λ _. TakesAndEnters r s) old new q
+taken_then r s {old} {mid} {new} first next =
     steps_weaker (λ _. TakesAndEnters r s)
-    (λ _ chain c f p selected reads part receipt. chain.2 f (less c p) (chain.1 c f p selected reads part) receipt)
+    (λ _ chain c f p selected reads part receipt.
+    let left = chain.1 c f p selected reads part in
+    let it = chain.2 f (less c p) left.0 receipt in
+    (it.0, kept_then new.now chain.0 old.now it.2 left.1))
     (steps_then first next)
 
 pub lent_then : {E F : Type 0} (r : Receipt) (s : Selection) {old mid new : State} {x : Unit {0}}
     {q : Result (Unit {0}) F} → Steps {E = E} (λ _. TakesAndEnters r s) old mid (Ok x)
     → Steps (λ _. Dates r.at) mid new q → Steps (λ _. Lends r s) old new q
-lent_then r s first next =
+lent_then r s {old} {mid} {new} first next =
     steps_weaker (λ _. Lends r s)
-    (λ _ chain c f p selected reads part receipt. let it = chain.2 receipt.moment f (lent r c p)
-    (chain.1 c f p selected reads part receipt) in (it.0, it.1))
+    (λ _ chain c f p selected reads part receipt.
+    let left = chain.1 c f p selected reads part receipt in
+    let it = chain.2 receipt.moment f (lent r c p) left.0 in
+    (it.0, it.1, kept_then new.now chain.0 old.now (dated_rows chain.0 new.now it.2).1 left.1))
     (steps_then first next)
 
 -- ---- a parent takes home
@@ -69,39 +79,44 @@ pub brought_then : {E F : Type 0} (s : Selection) (source then_source last_sourc
     → Steps {E = E} (λ _. FromClean then_source (CarriesOver s source.now)) old mid (Ok x)
     → Steps (λ _. FromClean last_source (BringsHome then_source.now)) mid new q
     → Steps (λ _. FromClean last_source (BringsBoth s source.now)) old new q
-brought_then s source then_source last_source stays opened again first next =
+brought_then s source then_source last_source {old} {mid} {new} stays opened again first next =
     steps_weaker (λ _. FromClean last_source (BringsBoth s source.now))
     (λ _ chain clean c f child p selected read part reads come apart.
     let before : HasCleanDisk then_source = omega (arith, again.survives.clean, clean) in
     let same : then_source.now ≡ source.now = (stays.holds (opened before)).now_is in
-    (chain.2 clean f child (with_cut c p) (subst (Reads f child) (sym same) read)
-    (chain.1 before c f child p selected read part reads come) apart).0)
+    let came = chain.1 before c f child p selected read part reads come in
+    let it = chain.2 clean f child (with_cut c p) (subst (Reads f child) (sym same) read) came.0 apart in
+    (it.0, kept_then old.now chain.0 new.now came.1 it.1))
     (steps_then first next)
 
 -- with the receipt of the merge
 abbrev pub BringsAndEnters : Receipt → Selection → Database → Database → Database → Type 0
 BringsAndEnters r s source old new = (c : Cut) (f : Frame) (child p : Package) → IsSelectionOf c s
     → Reads f child source → Reads f p old → MayReturn r c child p → Reads f (returned r c child p) new
+    × KeepsNumbers old new
 
 pub entered_then : {E F : Type 0} (r : Receipt) (s : Selection) (source : State) (db : Database) {old mid new : State}
     {x : Unit {0}} {q : Result (Unit {0}) F} → Steps {E = E} (λ _. FromClean source (BringsBoth s db)) old mid (Ok x)
-    → Steps (λ _. Becomes (IsNewReceipt r) (with_receipt r)) mid new q
+    → Steps (λ _. EntersReceipt r) mid new q
     → Steps (λ _. FromClean source (BringsAndEnters r s db)) old new q
-entered_then r s source db first next =
+entered_then r s source db {old} {mid} {new} first next =
     steps_weaker (λ _. FromClean source (BringsAndEnters r s db))
-    (λ _ chain clean c f child p selected read reads may. chain.2 f (with_receipts_of child (with_cut c p))
-    (chain.1 clean c f child p selected read may.part reads may.come may.apart) may.receipt)
+    (λ _ chain clean c f child p selected read reads may.
+    let came = chain.1 clean c f child p selected read may.part reads may.come may.apart in
+    let it = chain.2 f (with_receipts_of child (with_cut c p)) came.0 may.receipt in
+    (it.0, kept_then old.now chain.0 new.now came.1 it.1))
     (steps_then first next)
 
 pub home_then : {E F : Type 0} (r : Receipt) (s : Selection) (source : State) (db : Database) {old mid new : State}
     {x : Unit {0}} {q : Result (Unit {0}) F} → Steps {E = E} (λ _. FromClean source (BringsAndEnters r s db)) old mid
     (Ok x) → Steps (λ _. Dates r.at) mid new q
     → Steps (λ _. FromClean source (TakesHome r s db)) old new q
-home_then r s source db first next =
+home_then r s source db {old} {mid} {new} first next =
     steps_weaker (λ _. FromClean source (TakesHome r s db))
-    (λ _ chain clean c f child p selected read reads may. let it =
-    chain.2 may.receipt.moment f (returned r c child p) (chain.1 clean c f child p selected read reads may) in
-    (it.0, it.1))
+    (λ _ chain clean c f child p selected read reads may.
+    let came = chain.1 clean c f child p selected read reads may in
+    let it = chain.2 may.receipt.moment f (returned r c child p) came.0 in
+    (it.0, it.1, kept_then old.now chain.0 new.now came.1 (dated_rows chain.0 new.now it.2).0))
     (steps_then first next)
 
 -- ---- where a transaction failed

@@ -8,6 +8,7 @@ use Rattle.sheet_types.specs.Register.{HasEnds}
 use Rattle.sheet_types.specs.Step.{less}
 use Rattle.sheet_types.specs.World.{Package, item_key, link_key, has_item}
 use Rattle.sheet_types.specs.declared.frame.Frame.{Frame}
+use Rattle.identity_register.specs.LocalNumbers.{KeepsNumbers}
 use Rattle.identity_register.specs.Reads.{Reads}
 use Rattle.identity_register.specs.declared.selection.Selection.{Selection}
 use Rattle.transfer.specs.Parcels.{with_cut}
@@ -36,12 +37,12 @@ pub record MayCome (c : Cut) (p : Package) : Type 0 where
   pub links : AllByRecursion (λ l. has link_key (link_key l) p.links ≡ false) c.links
   pub ends : AllByRecursion (HasEnds (with_cut c p)) c.links
 
--- What was selected of the package leaves it.
+-- What was selected of the package leaves it, and what stays keeps its number.
 abbrev pub TakesOut : Selection → Database → Database → Type 0
 TakesOut s old new = (c : Cut) (f : Frame) (p : Package) → IsSelectionOf c s → Reads f p old → IsPart c p
-    → Reads f (less c p) new
+    → Reads f (less c p) new × KeepsNumbers new old
 
--- What was selected of the package that another database reads as comes to this one.
+-- What was selected of the package that another database reads as comes to this one, and what stood keeps its number.
 abbrev pub CarriesOver : Selection → Database → Database → Database → Type 0
 CarriesOver s source old new = (c : Cut) (f : Frame) (from p : Package) → IsSelectionOf c s → Reads f from source
-    → IsPart c from → Reads f p old → MayCome c p → Reads f (with_cut c p) new
+    → IsPart c from → Reads f p old → MayCome c p → Reads f (with_cut c p) new × KeepsNumbers old new

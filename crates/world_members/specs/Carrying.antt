@@ -8,6 +8,7 @@ use Rattle.sheet_types.specs.declared.command.Command.TheVariants.{Add, Delete, 
 use Rattle.sheet_types.specs.declared.frame.Frame.{Frame}
 use Rattle.sheet_types.specs.declared.receipt.Receipt.{Receipt}
 use Rattle.identity_register.specs.Calls.{HasLastChange}
+use Rattle.identity_register.specs.LocalNumbers.{KeepsNumbers}
 use Rattle.identity_register.specs.Reads.{Reads}
 use Rattle.identity_register.specs.Changes.{IsNewItem, item_added, IsLooseItem, item_deleted, IsNewLink, link_added}
 use Rattle.identity_register.specs.Changes.{IsLink, link_removed}
@@ -32,6 +33,21 @@ changed_by (Unlink uuid mapping base other) p = link_removed (relation mapping b
 changed_by (Split uuid child mode rect) p = p
 changed_by (Merge child into ticket) p = p
 
+-- Where a command adds an item or a link, what stood keeps its number. Where it takes one out, what stays keeps it.
+abbrev pub KeepsNumbersIn : Command → Database → Database → Type 0
+KeepsNumbersIn (Add uuid identity content) old new = KeepsNumbers old new
+KeepsNumbersIn (Delete uuid identity) old new = KeepsNumbers new old
+KeepsNumbersIn (Link uuid mapping base other) old new = KeepsNumbers old new
+KeepsNumbersIn (Unlink uuid mapping base other) old new = KeepsNumbers new old
+KeepsNumbersIn (Split uuid child mode rect) old new = Unit {0}
+KeepsNumbersIn (Merge child into ticket) old new = Unit {0}
+
+-- A store that reads as a package which is as the change needs it reads as the changed one afterwards, and the numbers
+-- are kept.
+abbrev pub MakesChange : Command → Database → Database → Type 0
+MakesChange command old new = (f : Frame) (p : Package) → Reads f p old → Meets command p
+    → Reads f (changed_by command p) new × KeepsNumbersIn command old new
+
 -- and the receipt is new to it
 pub record Fits (r : Receipt) (command : Command) (p : Package) : Type 0 where
   pub meets : Meets command p
@@ -45,3 +61,8 @@ after_command r command p = with_receipt r (changed_by command p)
 abbrev pub SaysMoment : Receipt → Command → Database → Database → Type 0
 SaysMoment r command old new = (f : Frame) (p : Package) → Reads f p old → Fits r command p
     → HasLastChange f r.at new
+
+-- and the numbers are kept
+abbrev pub KeepsNumbersBy : Receipt → Command → Database → Database → Type 0
+KeepsNumbersBy r command old new = (f : Frame) (p : Package) → Reads f p old → Fits r command p
+    → KeepsNumbersIn command old new
