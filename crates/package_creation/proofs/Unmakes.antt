@@ -46,6 +46,7 @@ module _ (f : Frame) (uuid : List ℕ) (parent : Option (List ℕ)) (depth loan 
       → IsUnmade f (new_package uuid parent depth loan) created old new
   unmade_by why old new turns = record {
     rests = turns.rests;
+    undone = turns.undone;
     clean = λ clean. omega (arith, turns.survives.clean, clean);
     left = λ clean blank trees may. elim (turns.survives.crash clean trees may) [
       | inl before ↦ inl before

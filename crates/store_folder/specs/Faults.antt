@@ -1,5 +1,7 @@
 -- What stands for an error of the engine, and for a fault of a folder. Profile.
 use Rattle.std.specs.Prelude.{ℕ, List, [], ◌++◌, codes}
+use Rattle.std.specs.declared.io.ErrorKind.{ErrorKind}
+use Rattle.std.specs.declared.io.ErrorKind.TheVariants as kind
 use Rattle.sqlite.specs.declared.error.Error.{Error}
 use Rattle.sqlite.specs.declared.error.Error.TheVariants.{SqliteFailure}
 use Rattle.sqlite.specs.declared.error.ErrorCode.TheVariants as code
@@ -24,6 +26,11 @@ cause_text (PackageFailed uuid) =
     uuid_text uuid ++ codes ".gpkg cannot be opened, is no database, or too many files are open"
 cause_text (NameUnsettled uuid) =
     uuid_text uuid ++ codes ".gpkg stands, but a power loss may take its name"
+
+-- of a file or a folder
+abbrev pub of_kind : ErrorKind → FolderFault
+of_kind kind.OutOfMemory = OutOfMemory
+of_kind _ = StoreFault
 
 -- of the store of a package
 abbrev pub of_error : List ℕ → Error → FolderFault

@@ -83,11 +83,15 @@ impl From<AllocError> for FolderFault {
 }
 
 impl From<io::Error> for FolderFault {
+    ghost use Rattle.std.specs.IoError.{error_kind};
+    ghost use Rattle.store_folder.specs.Faults.{of_kind};
+
+    ghost from_gives = { λ error fault. fault ≡ of_kind (error_kind error) };
+
     fn from(error: io::Error) -> FolderFault {
-        if error.kind() == io::ErrorKind::OutOfMemory {
-            FolderFault::OutOfMemory
-        } else {
-            FolderFault::StoreFault
+        match error.kind() {
+            io::ErrorKind::OutOfMemory => FolderFault::OutOfMemory,
+            _ => FolderFault::StoreFault,
         }
     }
 }

@@ -2,6 +2,7 @@
 //! what stops before leaves no package.
 ghost use Rattle.std.specs.Prelude.{◌≡◌, IfErr, IfOk, string_bytes};
 ghost use Rattle.sqlite.specs.Files.{file_state};
+ghost use Rattle.sqlite.specs.Held.{IsNew};
 ghost use Rattle.sqlite.specs.State.{HasCleanDisk};
 ghost use Rattle.store_sql.specs.Blank.{IsBlank, no_schema};
 ghost use Rattle.store_folder.specs.Names.{unfinished_name};
@@ -39,7 +40,9 @@ pub fn blank_unfinished(
     folder: &str,
     package: Uuid,
 ) -> Result<Connection<FolderStore>, FolderFault>
-    ensures { IfOk result (λ conn. HasCleanDisk (file_state conn) → IsBlank no_schema (file_state conn).now) }
+    ensures blank { IfOk result (λ conn. HasCleanDisk (file_state conn)
+        → IsBlank no_schema (file_state conn).now) }
+    ensures fresh { IfOk result IsNew }
 {
     let file = file_name(rt.alloc(), package)?;
     remove_beside(rt, folder, file.as_str())?;

@@ -3,6 +3,7 @@ ghost use Rattle.std.specs.Prelude.{◌≡◌, ◌≤◌, ◌+◌, ◌*◌, ◌/
 ghost use Rattle.std.specs.Prelude.{IsTrue, OnOk, All, length, max, min};
 ghost use Rattle.std.specs.List.{AllZip};
 ghost use Rattle.sqlite.specs.Files.{IsOpened, file_state};
+ghost use Rattle.sqlite.specs.Held.{IsNew};
 ghost use Rattle.sqlite.specs.State.{HasCleanDisk};
 ghost use Rattle.sqlite_std_file.specs.File.{file_is_usable};
 ghost use Rattle.store_folder.specs.Opened.{IsJustOpened};
@@ -135,7 +136,8 @@ pub(crate) fn files_at(rt: &HostRuntime, path: &str) -> Result<Files<FileFrom<Em
 
 /// A store in the files of a path, with so many pages in memory.
 fn connect(rt: &HostRuntime, path: &str, pages: usize) -> Result<Connection<FolderStore>, Error>
-    ensures { IfOk result (λ conn. HasCleanDisk (file_state conn) → IsOpened conn) }
+    ensures opened { IfOk result (λ conn. HasCleanDisk (file_state conn) → IsOpened conn) }
+    ensures fresh { IfOk result IsNew }
 {
     let files = files_at(rt, path)?;
     let Ok(state) = RandomState::new(rt) else {
@@ -161,8 +163,8 @@ fn bytes_at(rt: &HostRuntime, path: &str) -> u64 {
     }
 }
 
-/// The store of a package, just opened: at rest, and adopted. As many of its pages are kept in memory
-/// as the room gives to its file.
+/// The store of a package, just opened: at rest, adopted, and without a limit of steps. As many of its
+/// pages are kept in memory as the room gives to its file.
 ///
 /// # Errors
 ///
@@ -174,7 +176,8 @@ pub fn open_store(
     package: Uuid,
     room: CacheRoom,
 ) -> Result<Connection<FolderStore>, FolderFault>
-    ensures { IfOk result (λ conn. IsJustOpened (file_state conn)) }
+    ensures opened { IfOk result (λ conn. IsJustOpened (file_state conn)) }
+    ensures fresh { IfOk result IsNew }
 {
     let name = file_name(rt.alloc(), package)?;
     let path = path_of(rt.alloc(), folder, name.as_str())?;
@@ -201,6 +204,9 @@ trait InFolder: Drop {
     /// What is known of it when it was just opened.
     ghost is_just_opened: { Self → Type 0 };
 
+    /// It is in no transaction, and has no limit of steps.
+    ghost is_new: { Self → Type 0 };
+
     /// It is that of the package of this UUID. Who opens by this trait alone can show it by such a
     /// call, and by nothing else.
     ghost is_of: { List ℕ → Self → Type 0 };
@@ -213,14 +219,18 @@ trait InFolder: Drop {
         room: CacheRoom,
     ) -> Result<Self, FolderFault>
         ensures opened { IfOk result is_just_opened }
+        ensures fresh { IfOk result is_new }
         ensures own { IfOk result (λ it. is_of «package» it) };
 }
 
 impl InFolder for Connection<FolderStore> {
     ghost use Rattle.sqlite.specs.Files.{file_state};
+    ghost use Rattle.sqlite.specs.Held.{IsNew};
     ghost use Rattle.store_folder.specs.Opened.{IsJustOpened};
 
     ghost is_just_opened = { λ conn. IsJustOpened (file_state conn) };
+
+    ghost is_new = { λ conn. IsNew conn };
 
     // No clause can speak of what a path leads to: `open_store` has to be read.
     ghost is_of = { λ uuid conn. ⊤ };
@@ -242,6 +252,7 @@ fn open_each<T: InFolder>(
     packages: &[Uuid],
 ) -> Result<Vec<T>, FolderFault>
     ensures opened { IfOk result (λ stores. All T.is_just_opened stores.items) }
+    ensures fresh { IfOk result (λ stores. All T.is_new stores.items) }
     ensures own { IfOk result (λ stores. AllZip T.is_of packages.now stores.items) }
     ensures each { IfOk result (λ stores. length stores.items ≡ length packages.now) }
 {
@@ -266,6 +277,7 @@ pub fn open_stores(
     packages: &[Uuid],
 ) -> Result<Vec<Connection<FolderStore>>, FolderFault>
     ensures opened { IfOk result (λ conns. All (λ conn. IsJustOpened (file_state conn)) conns.items) }
+    ensures fresh { IfOk result (λ conns. All (λ conn. IsNew conn) conns.items) }
     ensures each { IfOk result (λ conns. length conns.items ≡ length packages.now) }
 {
     open_each(rt, folder, packages)

@@ -2,6 +2,7 @@
 ghost use Rattle.std.specs.Prelude.{◌≡◌, ◌≤◌, ⊤, IfOk};
 ghost use Rattle.sqlite_disk.specs.Disk.{CountsFault, MoreFaults};
 ghost use Rattle.sqlite.specs.Files.{file_state};
+ghost use Rattle.sqlite.specs.Held.{IsNew};
 ghost use Rattle.sqlite.specs.State.{HasCleanDisk};
 ghost use Rattle.store_sql.specs.Blank.{IsBlank, no_schema};
 
@@ -59,6 +60,7 @@ impl<'f> Shelf<FolderStore> for FolderShelf<'f> {
     fn blank(&mut self, package: Uuid) -> Result<Connection<FolderStore>, ShelfFault>
         ensures blank { IfOk result (λ conn. HasCleanDisk (file_state conn)
             → IsBlank no_schema (file_state conn).now) }
+        ensures fresh { IfOk result IsNew }
         ensures counts { CountsFault result self.old.failures self.new.failures }
     {
         match blank_in_folder(self.rt, self.folder, package) {
@@ -128,7 +130,9 @@ pub fn blank_in_folder(
     folder: &str,
     package: Uuid,
 ) -> Result<Connection<FolderStore>, FolderFault>
-    ensures { IfOk result (λ conn. HasCleanDisk (file_state conn) → IsBlank no_schema (file_state conn).now) }
+    ensures blank { IfOk result (λ conn. HasCleanDisk (file_state conn)
+        → IsBlank no_schema (file_state conn).now) }
+    ensures fresh { IfOk result IsNew }
 {
     remove_unheld(rt, folder, package)?;
     let name = file_name(rt.alloc(), package)?;
@@ -142,7 +146,9 @@ pub(crate) fn blank_named(
     package: Uuid,
     name: &str,
 ) -> Result<Connection<FolderStore>, FolderFault>
-    ensures { IfOk result (λ conn. HasCleanDisk (file_state conn) → IsBlank no_schema (file_state conn).now) }
+    ensures blank { IfOk result (λ conn. HasCleanDisk (file_state conn)
+        → IsBlank no_schema (file_state conn).now) }
+    ensures fresh { IfOk result IsNew }
 {
     let path = path_of(rt.alloc(), folder, name)?;
     match Connection::open_from(rt, path.as_str(), false, Empty) {

@@ -2,6 +2,7 @@
 ghost use Rattle.std.specs.Prelude.{◌≡◌, ⊤, IfOk, IfErr};
 ghost use Rattle.sqlite_disk.specs.Disk.{CountsFault};
 ghost use Rattle.sqlite.specs.Files.{file_state};
+ghost use Rattle.sqlite.specs.Held.{IsNew};
 ghost use Rattle.store_sql.specs.Blank.{IsBlank, no_schema};
 ghost use Rattle.store_faults.specs.declared.shelf.ShelfFault.TheVariants.{OutOfMemory};
 
@@ -43,6 +44,7 @@ impl Shelf<FileStore<MemoryFile>> for MemoryFileShelf {
 
     fn blank(&mut self, _package: Uuid) -> Result<Connection<FileStore<MemoryFile>>, ShelfFault>
         ensures blank { IfOk result (λ conn. IsBlank no_schema (file_state conn).now) }
+        ensures fresh { IfOk result IsNew }
         ensures counts { CountsFault result self.old.failures self.new.failures }
         ensures fault { IfErr result (λ fault. fault ≡ OutOfMemory) }
     {

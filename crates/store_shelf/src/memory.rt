@@ -1,7 +1,7 @@
 //! A shelf of stores in memory.
 ghost use Rattle.std.specs.Prelude.{◌≡◌, ⊤, IfOk, IfErr};
 ghost use Rattle.sqlite_disk.specs.Disk.{CountsFault};
-ghost use Rattle.sqlite.specs.Held.{state};
+ghost use Rattle.sqlite.specs.Held.{IsNew, state};
 ghost use Rattle.sqlite.specs.Steps.{over_memory};
 ghost use Rattle.store_sql.specs.Blank.{IsBlank, no_schema};
 ghost use Rattle.store_faults.specs.declared.shelf.ShelfFault.TheVariants.{OutOfMemory};
@@ -39,6 +39,7 @@ impl Shelf<MemStore> for MemoryShelf {
 
     fn blank(&mut self, _package: Uuid) -> Result<Connection<MemStore>, ShelfFault>
         ensures blank { IfOk result (λ conn. IsBlank no_schema (state over_memory conn).now) }
+        ensures fresh { IfOk result IsNew }
         ensures counts { CountsFault result self.old.failures self.new.failures }
         ensures fault { IfErr result (λ fault. fault ≡ OutOfMemory) }
     {

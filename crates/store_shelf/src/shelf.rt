@@ -1,7 +1,7 @@
 //! A shelf, as a register asks it for the store of a new package and gives back that of one that is not live.
 ghost use Rattle.std.specs.Prelude.{◌≡◌, ℕ, List, Ok, IfOk, IfErr};
 ghost use Rattle.sqlite_disk.specs.Disk.{CountsFault};
-ghost use Rattle.sqlite.specs.Held.{state};
+ghost use Rattle.sqlite.specs.Held.{IsNew, state};
 ghost use Rattle.sqlite.specs.State.{HasCleanDisk};
 ghost use Rattle.store_sql.specs.Blank.{IsBlank, no_schema};
 ghost use Rattle.store_faults.specs.declared.shelf.ShelfFault.TheVariants.{OutOfMemory};
@@ -25,11 +25,13 @@ pub trait Shelf<S: Alter> {
     /// this of a store it gave back that one, as it was then, and for no other package.
     ghost takes: { List ℕ → S → Self → Self → Type 0 };
 
-    /// An empty store in place of whatever stood under this UUID. Each fault is counted, of either
-    /// kind, and nothing else is. A count of 2^64 - 1 stays, and counts as risen.
+    /// An empty store in place of whatever stood under this UUID, in no transaction and without a limit
+    /// of steps. Each fault is counted, of either kind, and nothing else is. A count of 2^64 - 1 stays,
+    /// and counts as risen.
     fn blank(&mut self, package: Uuid) -> Result<Connection<S>, ShelfFault>
         ensures blank { IfOk result (λ conn. HasCleanDisk (state S.Store conn)
             → IsBlank no_schema (state S.Store conn).now) }
+        ensures fresh { IfOk result IsNew }
         ensures counts { CountsFault result (failures_of self.old) (failures_of self.new) }
         ensures asks { asks «package» self.old self.new };
 

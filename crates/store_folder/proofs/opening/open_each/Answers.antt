@@ -21,6 +21,9 @@ loop-package-preserved g c =
       opened = All-same g.T.InFolder.is_just_opened _ _ c.in_ok-push.ensures
           (All-push g.T.InFolder.is_just_opened c.loop-package.stores.items c.in_ok-store.store
           c.loop-package.invariant.opened c.in_ok-store.ensures.opened);
+      fresh = All-same g.T.InFolder.is_new _ _ c.in_ok-push.ensures
+          (All-push g.T.InFolder.is_new c.loop-package.stores.items c.in_ok-store.store
+          c.loop-package.invariant.fresh c.in_ok-store.ensures.fresh);
       own = subst (λ packages. AllZip g.T.InFolder.is_of packages c.push.new.list.items) (sym more) own;
       each = ap length c.in_ok-push.ensures ∙ length_push c.loop-package.stores.items c.in_ok-store.store
           ∙ ap (λ (n : ℕ). n + 1) c.loop-package.invariant.each;
