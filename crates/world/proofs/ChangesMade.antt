@@ -1,5 +1,5 @@
 -- What carrying out the change of one package says in each of the ways in which it ends.
-use Rattle.std.proofs.Common.{◌≡◌, refl, sym, ap, subst, ℕ, ◌+◌, List, Result, Ok, Err, IsErrAnd}
+use Rattle.std.proofs.Common.{◌≡◌, refl, sym, ap, subst, ℕ, ◌+◌, List, Result, Ok, Err, IsErrAnd, OnOk}
 use Rattle.sqlite.specs.Store.{Ghosts}
 use Rattle.sheet_types.specs.World.{World}
 use Rattle.sheet_types.specs.declared.command.Command.{Command}
@@ -21,6 +21,10 @@ use Rattle.world_members.specs.declared.members.Member.{Member}
 pub turned_into : {X E : Type 0} (r : Result X E) (e : E) → IsErrAnd r (λ why. why ≡ e) → r ≡ Err e
 turned_into (Ok x) e told = absurd told
 turned_into (Err y) e told = ap Err told
+
+-- of which nothing is said
+pub unmade : {X E : Type 0} (Fact : Type 0) (r : Result X E) (e : E) → r ≡ Err e → OnOk r Fact
+unmade Fact r e told = subst (λ x. OnOk x Fact) (sym told) tt
 
 module _ {S : Type 0} (g : Ghosts S) where
   -- what a crash leaves of a change that is due

@@ -43,6 +43,7 @@ use Rattle.world_decisions.specs.Deciding.{child_asked}
 use Rattle.world.specs.Asked.{IsNewTo, IsHomeBy, IsNoPackage, IsStepWith, ServesChild, ServesWith, SettlesChild}
 use Rattle.world.specs.Asked.{UsesFor, child_returned}
 use Rattle.world.proofs.Asks.{asks_nothing, uses_asked, uses_weaker}
+use Rattle.world.specs.Dates.{Dates, TriesReceipt}
 use Rattle.world.specs.Worlds.{AddsNone, Seen, StandsFor, IsHeld, IsAccepted, IsStep, StandsStill}
 use Rattle.world.specs.Worlds.{LeavesNoTrace, LeftAsItStands}
 use Rattle.register_lending.specs.declared.turn_fault.TurnFault.TheVariants.{Before, Committing}
@@ -112,6 +113,7 @@ module _ {S : Type 0} (g : Ghosts S) where
     dropped = λ refused. refl;
     writes = none_written g (child_asked q.command) (child_returned q.command) seen.members seen.members
         (all_still g shuts settles seen.members at_rest);
+    dated = λ clean gone receipt is. absurd (let e = is in cc);
     clean = λ clean gone. clean;
     step = λ clean gone w stands. (w, inr (inr refl, refl), stands);
     opens = λ clean gone no_fault. absurd (no_fault (inr refl));
@@ -146,6 +148,7 @@ module _ {S : Type 0} (g : Ghosts S) where
       (known noted : List (List ℕ)) (before after : ℕ) (r : Result (Result Receipt Refusal) ServeFault)
       (it : ServesAll g f q old new strays known noted before after r)
       (writes : WritesTwoAtMost g (child_asked q.command) (child_returned q.command) old new it.gone)
+      (dates : Dates g f q old new known before after it.gone r)
       (was_failed has_failed : Bool) (strays_before : List (Held S)) (was : Seen S)
       (seen : record {
         frame = f;
@@ -191,7 +194,8 @@ module _ {S : Type 0} (g : Ghosts S) where
         (ap (λ s. s.members) seen) writes
 
     -- a reply is a step, where stores were only read unless it adds a receipt
-    step_told : (reply : Result Receipt Refusal) → r ≡ Ok reply → (AddsNone reply before after → AllStay g old new)
+    step_told : (reply : Result Receipt Refusal) → r ≡ Ok reply
+        → (AddsNone reply before after → AllStay g old new)
         → (step : IsStep g q was reply now_seen) × (step.gone ≡ it.gone)
     step_told reply is only_read = (
       record {
@@ -199,6 +203,8 @@ module _ {S : Type 0} (g : Ghosts S) where
         reads = λ no_fault none. subst (λ ms. AllStay g ms new) (ap (λ s. s.members) seen)
             (only_read (subst (λ n. AddsNone reply n after) (sym (ap (λ s. s.count) seen)) none));
         writes = were_written;
+        dated = λ clean gone receipt same_reply more w stands. dates clean gone receipt (is ∙ ap Ok same_reply)
+            (λ none. more (none ∙ ap (λ s. s.count) seen)) w (stood w stands).0 (stood w stands).1;
         dropped = λ refused. it.dropped (subst HasNoReceipt (sym is) refused);
         survive = λ refused. were_there (it.survive (subst HasNoReceipt (sym is) refused));
         register = λ w stands. stands.members.register;
@@ -234,6 +240,7 @@ module _ {S : Type 0} (g : Ghosts S) where
         gone = it.gone;
         reads = λ no_fault. absurd (no_fault (told_as_fault e why told));
         writes = were_written;
+        dated = λ clean gone receipt is'. absurd (let e = is' in cc);
         dropped = λ refused. it.dropped (subst HasNoReceipt (sym is) tt);
         survive = λ refused. were_there (it.survive (subst HasNoReceipt (sym is) tt));
         register = λ w stands. stands.members.register;
@@ -354,20 +361,20 @@ module _ {S : Type 0} (g : Ghosts S) where
       known = knows_more known noted w it.grows (stood w stands).0.1;
     }
 
-    -- it has failed by a fault of a store, or by a request that was to be carried out
-    pub rises_failed : (X : Type 0) (shelf_before shelf_after : ℕ) (e : ServeFault) → r ≡ Err e
-        → (why : Refusal)
+    -- it has failed by a fault of a store, or by a request that was to get a new receipt
+    pub rises_failed : (X : Type 0) (shelf_before shelf_after : ℕ) → TriesReceipt g f q old new known before r
+        → (e : ServeFault) → r ≡ Err e → (why : Refusal)
         → why ≡ told_refusal e → (reply : Result Receipt Refusal) → reply ≡ Err why
         → (IsTrue has_failed ↔ IsLastingFault e) → CountsShelf {X = X} (Err e) shelf_before shelf_after
         → has_failed ≡ true
         → (shelf_after ≡ shelf_before) × ((reply ≡ Err StoreFault) ⊎ IsAccepted g q was now_seen)
-    rises_failed X m n (Unshelved x) is why told reply replied lasting counts failed = absurd (lasting.0 failed)
-    rises_failed X m n (Turn (Before fault.OutOfMemory)) is why told reply replied lasting counts failed =
+    rises_failed X m n tried (Unshelved x) is why told reply replied lasting counts failed = absurd (lasting.0 failed)
+    rises_failed X m n tried (Turn (Before fault.OutOfMemory)) is why told reply replied lasting counts failed =
         absurd (lasting.0 failed refl)
-    rises_failed X m n (Turn (Before fault.StoreFault)) is why told reply replied lasting counts failed =
+    rises_failed X m n tried (Turn (Before fault.StoreFault)) is why told reply replied lasting counts failed =
         (counts, inl (replied ∙ ap Err told))
-    rises_failed X m n (Turn (Committing x)) is why told reply replied lasting counts failed =
-        (counts, inr (λ clean w stands. it.tried x is clean w (stood w stands).0 (stood w stands).1))
+    rises_failed X m n tried (Turn (Committing x)) is why told reply replied lasting counts failed =
+        (counts, inr (λ clean w stands. tried x is clean w (stood w stands).0 (stood w stands).1))
 
     -- a world that can be used has no stray
     pub none_failed : (e : ServeFault) → r ≡ Err e → (IsTrue has_failed ↔ IsLastingFault e)

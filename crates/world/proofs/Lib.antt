@@ -8,6 +8,7 @@ pub mod WorldsRead
 pub mod Sights
 mod CarriedOut
 mod ServedAll
+mod Dated
 mod Asks
 mod Settled
 pub mod Room

@@ -9,12 +9,12 @@ use Rattle.world_known.specs.Known.{Grows, Knows, Notes}
 use Rattle.world_known.proofs.Remembering.{knows_more, knows_next}
 
 -- a reply that is one receipt is no other
-same_receipt : (a b : Receipt) (v u : World) → ◌≡◌ {A = Result Receipt Refusal × World} (Ok a, v) (Ok b, u)
+pub same_receipt : (a b : Receipt) (v u : World) → ◌≡◌ {A = Result Receipt Refusal × World} (Ok a, v) (Ok b, u)
     → a ≡ b
 same_receipt a b v u e = let replies : ◌≡◌ {A = Result Receipt Refusal} (Ok a) (Ok b) = ap (λ o. o.0) e in cc
 
 -- and no refusal
-no_receipt : (why : Refusal) (b : Receipt) (v u : World) → ◌≡◌ {A = Result Receipt Refusal × World}
+pub no_receipt : (why : Refusal) (b : Receipt) (v u : World) → ◌≡◌ {A = Result Receipt Refusal × World}
     (Err why, v)
     (Ok b, u) → ⊥
 no_receipt why b v u e = let replies : ◌≡◌ {A = Result Receipt Refusal} (Err why) (Ok b) = ap (λ o. o.0) e in cc

@@ -48,6 +48,7 @@ use Rattle.world_loans.specs.declared.loans.ServeFault.{ServeFault}
 use Rattle.world_loans.specs.declared.loans.ServeFault.TheVariants.{Unshelved, Turn}
 use Rattle.world_members.specs.declared.members.Member.{Member}
 use Rattle.world.specs.Asked.{AsksFor, ComeHome, IsNoPackage, ServesWith, child_returned}
+use Rattle.world.specs.Dates.{Dates}
 use Rattle.world.proofs.Asks.{asks_nothing, uses_asked, uses_home}
 use Rattle.world.proofs.CarriedOut.{leaves_before}
 use Rattle.world_changes.proofs.Surviving.{read_before, stay_survive, survive_then}
@@ -460,10 +461,12 @@ module _ {S : Type 0} (g : Ghosts S) (shuts : Shuts g) (settles : Settles g) (f 
         × OfEachDue g (λ w next. IsReturned w next due) mid before (λ w next. IsNoPackage next uuid)) made.gone s
         t → WritesTwoAtMost g (child_asked q.command) (child_returned q.command) mid new made.gone
         → (all : ServesAll g f q old new strays known noted before after reply) → all.gone ≡ made.gone
+        → Dates g f q old new known before after made.gone reply
         → (x : ServesAll g f q old new strays known noted before after reply)
         × ServesWith g Asks Takes f q old new known before x.gone s t
         × WritesTwoAtMost g (child_asked q.command) (child_returned q.command) old new x.gone
-    merge_with Asks Takes s t due is made home writes all same = (
+        × Dates g f q old new known before after x.gone reply
+    merge_with Asks Takes s t {reply = reply} due is made home writes all same dates = (
       all,
       subst (λ gone. ServesWith g Asks Takes f q old new known before gone s t) (sym same)
           (uses_home g Asks Takes old mid (child_asked q.command)
@@ -479,6 +482,7 @@ module _ {S : Type 0} (g : Ghosts S) (shuts : Shuts g) (settles : Settles g) (f 
           )) home),
       subst (WritesTwoAtMost g (child_asked q.command) (child_returned q.command) old new) (sym same)
           (written_since g (child_asked q.command) (child_returned q.command) old mid it.stay new made.gone writes),
+      subst (λ gone. Dates g f q old new known before after gone reply) (sym same) dates,
     )
 
 -- ---- what a shelf is asked for
@@ -492,26 +496,31 @@ module _ {S : Type 0} (g : Ghosts S) {H : Type 0} (Asks : List ℕ → H → H �
       → AsksFor Asks Takes (child_asked q.command) (λ child. AllClean g new
       → OfEachSeen g f known old before (λ w. IsNoPackage w child)) s t
       → WritesTwoAtMost g (child_asked q.command) (child_returned q.command) old new []
+      → Dates g f q old new known before after [] r
       → (x : ServesAll g f q old new strays known noted before after r)
       × ServesWith g Asks Takes f q old new known before x.gone s t
       × WritesTwoAtMost g (child_asked q.command) (child_returned q.command) old new x.gone
-  with_asked s t all none asked writes = (
+      × Dates g f q old new known before after x.gone r
+  with_asked s t all none asked writes dates = (
     all,
     uses_asked g Asks Takes old (child_asked q.command) (λ child. AllClean g new
         → OfEachSeen g f known old before (λ w. IsNoPackage w child))
         (λ uuid. (child_returned q.command ≡ Some uuid) × (AllClean g new → AreClean g all.gone
         → OfEachSeen g f known old before (λ w. IsNoPackage (outcome w q).1 uuid))) all.gone s t none asked,
     subst (WritesTwoAtMost g (child_asked q.command) (child_returned q.command) old new) (sym none) writes,
+    subst (λ gone. Dates g f q old new known before after gone r) (sym none) dates,
   )
 
   -- and nothing was asked for
   pub with_nothing : (s : H) → (all : ServesAll g f q old new strays known noted before after r) → all.gone ≡ []
       → WritesTwoAtMost g (child_asked q.command) (child_returned q.command) old new []
+      → Dates g f q old new known before after [] r
       → (x : ServesAll g f q old new strays known noted before after r)
       × ServesWith g Asks Takes f q old new known before x.gone s s
       × WritesTwoAtMost g (child_asked q.command) (child_returned q.command) old new x.gone
-  with_nothing s all none writes = with_asked s s all none (asks_nothing Asks Takes (child_asked q.command)
-      (λ child. AllClean g new → OfEachSeen g f known old before (λ w. IsNoPackage w child)) s s refl) writes
+      × Dates g f q old new known before after x.gone r
+  with_nothing s all none writes dates = with_asked s s all none (asks_nothing Asks Takes (child_asked q.command)
+      (λ child. AllClean g new → OfEachSeen g f known old before (λ w. IsNoPackage w child)) s s refl) writes dates
 
   -- where there is a fault no connection left the world
   pub none_gone : {why : ServeFault} → r ≡ Err why → (all : ServesAll g f q old new strays known noted before

@@ -1,4 +1,5 @@
 pub mod Changes
+pub mod Dates
 pub mod Worlds
 pub mod Creating
 pub mod Reading

@@ -1,7 +1,7 @@
 -- What a clause sees of a value of `World`, and the world of the model that it stands for. Profile.
 use Rattle.std.specs.Prelude.{◌≡◌, ◌⊎◌, ◌≤◌, ℕ, ℤ, Bool, true, false, List, [], ◌∷◌}
 use Rattle.std.specs.Prelude.{◌++◌, map, Option, None, Result}
-use Rattle.std.specs.Prelude.{Ok, Err, IsTrue, IsOk, IfOk, IsErr, refl}
+use Rattle.std.specs.Prelude.{Ok, Err, IsTrue, IfOk, IsErr, refl}
 use Rattle.std.specs.List.{AllByRecursion}
 use Rattle.std.specs.Coded.{Coded, code_by, coded×, coded_bool, coded_list, coded_option, coded_ℕ, coded_ℤ}
 use Rattle.sqlite.specs.Store.{Ghosts}
@@ -20,12 +20,14 @@ use Rattle.sheet_types.specs.declared.refusal.Refusal.TheVariants.{StoreFault}
 use Rattle.sqlite_disk.specs.Disk.{MoreFaults}
 use Rattle.world_known.specs.Known.{Knows}
 use Rattle.store_sql.specs.Stores.{EachLeaves}
+use Rattle.world_changes.specs.Dating.{AreDated, packages_changed}
 use Rattle.world_changes.specs.Leaving.{AllSurvive, AreClean, AreAtRest, AreBeside, LeavesOneOf}
 use Rattle.world_changes.specs.Writing.{WritesTwoAtMost, child_returned}
 use Rattle.world_decisions.specs.Deciding.{child_asked}
 use Rattle.world_members.specs.Turning.{LeftAs}
 use Rattle.world_members.specs.Members.{AllOpen, AllRest, AllClean, AllStay, AreMembers}
 use Rattle.world_members.specs.declared.members.Member.{Member}
+use Rattle.world.specs.Dates.{AddsReceipt}
 
 -- the frame, the members in the order of their UUIDs, the number of all receipts, whether the world has failed, the
 -- stores of children that a split which failed left, and the UUIDs that are known
@@ -223,6 +225,10 @@ module _ {S : Type 0} (g : Ghosts S) where
     -- home, where a receipt is the reply; none came but that of the package that a split makes.
     pub writes : WritesTwoAtMost g (child_asked q.command) (child_returned q.command) old.members new.members gone
     pub dropped : IsErr reply → gone ≡ []
+    -- After a new receipt each package that the request changed says its moment as that of its last change.
+    pub dated : AllClean g new.members → AreClean g gone → (receipt : Receipt) → reply ≡ Ok receipt
+        → ¬ (new.count ≡ old.count) → (w : World) → StandsFor old w
+        → AreDated g w.frame q.at (packages_changed q.command) new.members
 
   -- After a refusal or a fault that leaves the world usable, whatever a crash leaves of stores that were open reads
   -- as the world before. So a world of which a commit may have gone through has failed.
@@ -236,10 +242,10 @@ module _ {S : Type 0} (g : Ghosts S) where
   LeftAsItStands = (seen : Seen S) (w : World) → IsHeld seen → StandsFor seen w → AllOpen g seen.members
       → EachLeaves g (λ m. m.conn) (LeftAs w.frame) seen.members w.packages
 
-  -- The request is to be carried out in each world that it stands for, where each disk has given back what was
-  -- written.
+  -- The request gets a receipt that is entered, in each world that it stands for, where each disk has given back what
+  -- was written. So it did not come before.
   abbrev pub IsAccepted : Request → Seen S → Seen S → Type 0
-  IsAccepted q old new = AllClean g new.members → (w : World) → StandsFor old w → IsOk (outcome w q).0
+  IsAccepted q old new = AllClean g new.members → (w : World) → StandsFor old w → AddsReceipt w q
 
   -- After a refusal it stands for each world that it stood for, whatever the disks do.
   abbrev pub StandsStill : Seen S → Result Receipt Refusal → Seen S → Type 0
@@ -256,8 +262,8 @@ module _ {S : Type 0} (g : Ghosts S) where
     -- Where it is told that a store failed, the world has failed, or the shelf had none.
     pub cause : reply ≡ Err StoreFault → (new.has_failed ≡ true) ⊎ MoreFaults before after
     pub usable : ¬ IsFault reply → new.has_failed ≡ old.has_failed
-    -- It has failed by nothing but a fault of a store that is told, or a request that was to be carried out; the shelf
-    -- has no part in it.
+    -- It has failed by nothing but a fault of a store that is told, or a request that was to get a new receipt; the
+    -- shelf has no part in it.
     pub rises : old.has_failed ≡ false → new.has_failed ≡ true
         → (after ≡ before) × ((reply ≡ Err StoreFault) ⊎ IsAccepted q old new)
     pub shelf : before ≤ after

@@ -1,18 +1,24 @@
 //! One request over the members of a world: what it comes to is decided, and where a change is due it is carried out.
-ghost use Rattle.std.specs.Prelude.{◌≡◌, ℕ, ◌≤◌, ◌<◌, ◌+◌, [], IsTrue, IfOk, OnOk, IfSome, None, Some};
+ghost use Rattle.std.specs.Prelude.{◌≡◌, ℕ, ◌≤◌, ◌<◌, ◌+◌, [], ◌∷◌, IsTrue, IfOk, OnOk};
+ghost use Rattle.std.specs.Prelude.{IfSome, None, Some};
 ghost use Rattle.std.specs.Prelude.{length, vec_len};
 ghost use Rattle.std.specs.Prelude.{vec_capacity};
 ghost use Rattle.sheet_types.specs.Matrix.{is_good_frame};
 ghost use Rattle.sheet_types.specs.Refuse.{greatest_receipts};
+ghost use Rattle.sheet_types.specs.World.{World};
 ghost use Rattle.world_decisions.specs.Deciding.{HasPlace, child_asked};
-ghost use Rattle.world_members.specs.Members.{AllRest, AllClean, AllOpen, AllStay};
+ghost use Rattle.world_members.specs.Laws.{package_of};
+ghost use Rattle.world_members.specs.Members.{AllRest, AllClean, AllOpen, AllStay, AreMembers};
+ghost use Rattle.world_members.specs.Turning.{IsDue};
 ghost use Rattle.world_changes.specs.Carries.{Carries, ServesAll, OfEachDue, OfEachSeen};
+ghost use Rattle.world_changes.specs.Dating.{AreDated};
 ghost use Rattle.world_changes.specs.Leaving.{IsChildBeside};
 ghost use Rattle.world_changes.specs.Writing.{WritesTwoAtMost};
 ghost use Rattle.world.specs.Creating.{HasRoomFor};
 ghost use Rattle.world_loans.specs.Loans.{HasLendingPlace, HasReturnPlace, IsLent, IsReturned};
 ghost use Rattle.world_loans.specs.ServeFaults.{CountsShelf};
 ghost use Rattle.world.specs.Changes.{Changes};
+ghost use Rattle.world.specs.Dates.{Dates, DatesHome, TriesReceipt};
 ghost use Rattle.world.specs.Worlds.{AddsNone};
 ghost use Rattle.world.specs.Asked.{ComeHome, HasUuidAt, IsNoPackage, ServesChild, ServesWith, UsesChild};
 ghost use Rattle.world.specs.Asked.{child_returned};
@@ -77,6 +83,9 @@ fn carry_out_split<S: Alter + Drop, H: Shelf<S>>(
     ensures room { HasRoomFor members.new.items strays.new }
     ensures shelf { CountsShelf result (H.failures_of shelf.old) (H.failures_of shelf.new) }
     ensures clean { AllClean S.Store members.new.items → AllClean S.Store members.old.items }
+    ensures dated { OnOk result (AllClean S.Store members.new.items → (w next : World) → frame.now ≡ w.frame
+        → AreMembers S.Store members.old.items count.old w → IsLent w next due
+        → AreDated S.Store w.frame due.receipt.at (due.parent ∷ due.child ∷ []) members.new.items) }
     ensures uses { UsesChild S.Store H.asks H.takes H.failures_of frame.now due members.old.items members.new.items
         strays.new.items result shelf.old shelf.new }
 {
@@ -121,7 +130,8 @@ fn carry_out_merge<S: Alter + Drop, H: Shelf<S>>(
         (λ w next. IsNoPackage next uuid))
         it.gone shelf.old shelf.new
         × WritesTwoAtMost S.Store (child_asked command.now) (child_returned command.now)
-        members.old.items members.new.items it.gone }
+        members.old.items members.new.items it.gone
+        × DatesHome S.Store due command.now members.old.items members.new.items count.old it.gone result }
     ensures shorter { length members.new.items ≤ length members.old.items }
     ensures shelf { CountsShelf result (H.failures_of shelf.old) (H.failures_of shelf.new) }
 {
@@ -145,6 +155,10 @@ fn carry_out_change<S: Alter + Drop>(
     requires place { HasPlace members.old.items count.old (ChangeDue change) }
     ensures changes { Changes S.Store change command.now
         members.old.items members.new.items count.old count.new result }
+    ensures dated { OnOk result (AllClean S.Store members.new.items → (w : World)
+        → AreMembers S.Store members.old.items count.old w
+        → IsDue w change.at change.receipt command.now change.sums
+        → AreDated S.Store w.frame change.receipt.at (package_of command.now ∷ []) members.new.items) }
     ensures long { length members.new.items ≡ length members.old.items }
 {
     turn_at(members, change.at, command, &change.receipt, change.sums)?;
@@ -176,7 +190,11 @@ pub(crate) fn serve<S: Alter + Drop, H: Shelf<S>>(
         count.old
         it.gone shelf.old shelf.new
         × WritesTwoAtMost S.Store (child_asked request.now.command) (child_returned request.now.command)
-        members.old.items members.new.items it.gone }
+        members.old.items members.new.items it.gone
+        × Dates S.Store frame.now request.now members.old.items members.new.items known.old count.old count.new
+        it.gone result }
+    ensures tried { TriesReceipt S.Store frame.now request.now members.old.items members.new.items known.old
+        count.old result }
     ensures child { ServesChild S.Store H.asks H.takes H.failures_of (child_asked request.now.command)
         (λ child trees. AllClean S.Store members.new.items → OfEachSeen S.Store frame.now known.old members.old.items
         count.old

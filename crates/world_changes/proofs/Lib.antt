@@ -6,3 +6,4 @@ mod Placing
 pub mod Writing
 pub mod Lent
 mod Returned
+mod Dated

@@ -1,3 +1,4 @@
+pub mod Dating
 pub mod Leaving
 pub mod Writing
 pub mod Turns

@@ -6,7 +6,7 @@ ghost use Rattle.store_sql.specs.Transactions.{Rests, Steps, Turns};
 ghost use Rattle.identity_register.specs.Calls.{Becomes};
 ghost use Rattle.package_tables.specs.declared.fault.Fault.{Fault};
 ghost use Rattle.register_lending.specs.declared.turn_fault.TurnFault.TheVariants.{Before};
-ghost use Rattle.world_members.specs.Carrying.{Meets, changed_by, Fits, after_command, SaysMoment};
+ghost use Rattle.world_members.specs.Carrying.{MakesChange, Fits, after_command, SaysMoment, KeepsNumbersBy};
 
 use custody::enter;
 use identity_register::additions::add;
@@ -22,7 +22,7 @@ use sqlite::{Alter, Connection, Transaction};
 /// change of one package, and are a fault here.
 fn make_change<S: Alter>(tx: &mut Transaction<'_, S>, command: &Command) -> Result<(), Fault>
     ensures same_reference { tx.new.conn.ghost_name ≡ tx.old.conn.ghost_name }
-    ensures steps { Steps (λ _. Becomes (Meets command.now) (changed_by command.now)) (state S.Store tx.old.conn.now)
+    ensures steps { Steps (λ _. MakesChange command.now) (state S.Store tx.old.conn.now)
         (state S.Store tx.new.conn.now) result }
 {
     match command {
@@ -60,6 +60,8 @@ pub(crate) fn carry_out<S: Alter>(
         (state S.Store tx.old.conn.now) (state S.Store tx.new.conn.now) result }
     ensures dated { Steps (λ _. SaysMoment receipt.now command.now) (state S.Store tx.old.conn.now)
         (state S.Store tx.new.conn.now) result }
+    ensures numbers { Steps (λ _. KeepsNumbersBy receipt.now command.now) (state S.Store tx.old.conn.now)
+        (state S.Store tx.new.conn.now) result }
 {
     make_change(tx, command)?;
     enter(tx, receipt)?;
@@ -67,7 +69,7 @@ pub(crate) fn carry_out<S: Alter>(
 }
 
 /// Carries a command out in the store of its package, with its receipt, in one transaction. The
-/// receipt's moment becomes that of the last change.
+/// receipt's moment becomes that of the last change. What stands before and after keeps its local number.
 ///
 /// # Errors
 ///
@@ -84,6 +86,8 @@ pub fn apply_to_package<S: Alter>(
         (state S.Store conn.old) (state S.Store conn.new) result }
     ensures dated { Turns (λ _. SaysMoment receipt.now command.now) (state S.Store conn.old) (state S.Store conn.new)
         result }
+    ensures numbers { Turns (λ _. KeepsNumbersBy receipt.now command.now) (state S.Store conn.old)
+        (state S.Store conn.new) result }
     ensures was_open { IsTrue (state S.Store conn.new).is_open → IsTrue (state S.Store conn.old).is_open }
     ensures unharmed { (fault : Fault) → result ≡ Err (Before fault)
         → Survives (state S.Store conn.old) (state S.Store conn.new) (λ _. ⊥) }

@@ -1,9 +1,12 @@
 //! A merge among the members of a world: the child's member leaves the list, the parent takes its
 //! turn, and the child's connection is handed out; or the child comes back to its place.
-ghost use Rattle.std.specs.Prelude.{◌≡◌, ◌<◌, length, vec_capacity};
-ghost use Rattle.world_loans.specs.Loans.{place_without};
-ghost use Rattle.world_members.specs.Members.{AllRest};
-ghost use Rattle.world_changes.specs.Merges.{Merges};
+ghost use Rattle.std.specs.Prelude.{◌≡◌, ◌<◌, ℕ, ◌∷◌, [], OnOk, length, vec_capacity};
+ghost use Rattle.sheet_types.specs.World.{World};
+ghost use Rattle.world_loans.specs.Loans.{IsReturned, place_without};
+ghost use Rattle.world_members.specs.Members.{AllRest, AllClean, AreMembers};
+ghost use Rattle.world_changes.specs.Dating.{AreDated};
+ghost use Rattle.world_changes.specs.Leaving.{AreClean};
+ghost use Rattle.world_changes.specs.Merges.{Merges, left_by};
 
 use crate::taking_turns::take_home_at;
 use register_lending::turn_fault::TurnFault;
@@ -35,6 +38,10 @@ pub fn merge_at<S: Alter + Drop>(
     requires two { ¬ (due.from ≡ due.into) }
     requires rests { AllRest S.Store members.old.items }
     ensures merges { Merges S.Store due members.old.items members.new.items result }
+    ensures dated { OnOk result ((w next : World) (count : ℕ) → AllClean S.Store members.new.items
+        → AreClean S.Store (left_by result) → AreMembers S.Store members.old.items count w
+        → (it : IsReturned w next due)
+        → AreDated S.Store w.frame due.receipt.at (it.parent.uuid ∷ []) members.new.items) }
     ensures capacity { vec_capacity members.new ≡ vec_capacity members.old }
 {
     let mut child = members.remove(due.from);

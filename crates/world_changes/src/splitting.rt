@@ -15,9 +15,11 @@ ghost use Rattle.store_sql.specs.Blank.{IsBlank, no_schema};
 ghost use Rattle.store_sql.specs.Staying.{Stays};
 ghost use Rattle.store_sql.specs.Transactions.{Rests};
 ghost use Rattle.package_tables.specs.Creation.{IsFitInfo};
+ghost use Rattle.identity_register.specs.Calls.{HasLastChange};
 ghost use Rattle.identity_register.specs.Creation.{new_package, Keeps};
 ghost use Rattle.identity_register.specs.Reads.{Reads};
 ghost use Rattle.world_changes.specs.Carries.{IsBeforeCommit};
+ghost use Rattle.world_changes.specs.Dating.{AreDated, IsDated};
 ghost use Rattle.world_loans.specs.Loans.{IsLent, loan};
 ghost use Rattle.world_members.specs.Members.{AllRest, AllClean, AllOpen, AllStay, AreMembers};
 ghost use Rattle.register_lending.specs.Selecting.{IsSelectionOf, IsPart, MayCome};
@@ -72,6 +74,11 @@ fn filled_store<S: Alter + Drop>(
         → MayCome c (new_package info.now.package info.now.parent info.now.depth info.now.loan)
         → Keeps frame.now (with_cut c (new_package info.now.package info.now.parent info.now.depth info.now.loan))
         (state S.Store made)) }
+    ensures dated { IfOk result (λ made. HasCleanDisk (state S.Store made) → HasCleanDisk (state S.Store source.new)
+        → is_moment info.now.created.now ≡ true → (c : Cut) (from : Package) → IsSelectionOf c selection.now
+        → Reads frame.now from (state S.Store source.old).now → IsPart c from
+        → MayCome c (new_package info.now.package info.now.parent info.now.depth info.now.loan)
+        → HasLastChange frame.now info.now.created.now (state S.Store made).now) }
     ensures left { IfErr result (λ unmade. LeavesBlankOr S.Store
         (ReadsAsChild frame.now info.now.created.now (new_package info.now.package info.now.parent info.now.depth
         info.now.loan) selection.now (state S.Store source.old).now (state S.Store source.new)) unmade.conn) }
@@ -129,6 +136,9 @@ pub fn child_store<S: Alter + Drop, H: Shelf<S>>(
     ensures keeps { IfOk result (λ child. AllClean S.Store members.new.items → (w next : World) (count : ℕ)
         → frame.now ≡ w.frame → AreMembers S.Store members.old.items count w → (lent : IsLent w next due.now)
         → KeepsLoan S.Store w next due.now lent child) }
+    ensures dated { IfOk result (λ child. AllClean S.Store members.new.items → (w next : World) (count : ℕ)
+        → frame.now ≡ w.frame → AreMembers S.Store members.old.items count w → IsLent w next due.now
+        → IsDated S.Store w.frame due.now.receipt.at child) }
     ensures early { IfErr result IsBeforeCommit }
     ensures shelf { CountsShelf result (H.failures_of shelf.old) (H.failures_of shelf.new) }
     ensures uses { AsksChild S.Store H.takes H.asks frame.now due.now members.old.items members.new.items result
@@ -208,6 +218,10 @@ pub fn lend_and_place<S: Alter + Drop, H: Shelf<S>>(
     requires stray_room { vec_len strays.old < vec_capacity strays.old }
     ensures splits { Splits S.Store due child members.old.items members.new.items strays.old.items strays.new.items
         result }
+    ensures dated { OnOk result ((w next : World) (count : ℕ) → AllClean S.Store members.new.items
+        → AreMembers S.Store members.old.items count w → IsLent w next due
+        → IsDated S.Store w.frame due.receipt.at child
+        → AreDated S.Store w.frame due.receipt.at (due.parent ∷ due.child ∷ []) members.new.items) }
     ensures uses { ReturnsUnlent S.Store H.takes due.child child result shelf.old shelf.new }
     ensures shelf { H.failures_of shelf.new ≡ H.failures_of shelf.old }
     ensures capacity { vec_capacity members.new ≡ vec_capacity members.old }

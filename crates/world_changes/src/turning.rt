@@ -1,7 +1,9 @@
 //! The change of one member of a world: its store takes a turn, and what is kept of it is brought up to date.
-ghost use Rattle.std.specs.Prelude.{◌≡◌, ◌<◌, ℕ, ◌+◌, length, vec_capacity, Err, OnOk, OnErr};
+ghost use Rattle.std.specs.Prelude.{◌≡◌, ◌<◌, ℕ, ◌+◌, ◌∷◌, [], length, vec_capacity, Err, OnOk, OnErr};
 ghost use Rattle.sheet_types.specs.World.{World};
 ghost use Rattle.store_sql.specs.Stores.{LeavesEither};
+ghost use Rattle.world_changes.specs.Dating.{AreDated};
+ghost use Rattle.world_members.specs.Laws.{package_of};
 ghost use Rattle.world_members.specs.Members.{AllRest, AllClean, AllOpen, AreMembers};
 ghost use Rattle.world_members.specs.Turning.{CarriesOutAt, IsDue, DueWhereAccepted, LeavesAsBefore, LeftAs};
 ghost use Rattle.world_members.specs.Turning.{world_after};
@@ -40,6 +42,9 @@ pub fn turn_at<S: Alter + Drop>(
     ensures done { OnOk result ((w : World) (count : ℕ) → AreMembers S.Store members.old.items count w
         → IsDue w at receipt.now command.now sums → AreMembers S.Store members.new.items (count + 1)
         (world_after receipt.now command.now w)) }
+    ensures dated { OnOk result ((w : World) (count : ℕ) → AllClean S.Store members.new.items
+        → AreMembers S.Store members.old.items count w → IsDue w at receipt.now command.now sums
+        → AreDated S.Store w.frame receipt.now.at (package_of command.now ∷ []) members.new.items) }
     ensures undone { OnErr result ((w : World) (count : ℕ) → AreMembers S.Store members.old.items count w
         → AreMembers S.Store members.new.items count w) }
     ensures crash { (w : World) (count : ℕ) → AreMembers S.Store members.old.items count w

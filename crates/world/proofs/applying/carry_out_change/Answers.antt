@@ -4,7 +4,7 @@ use Rattle.std.proofs.lemmas.List.{length-set}
 use Rattle.world_changes.proofs.Surviving.{carried_survive}
 use Rattle.world_changes.proofs.Writing.{carried_but}
 use Rattle.world_members.proofs.Standing.{all_still}
-use Rattle.world.proofs.ChangesMade.{turned_into, changes_failed, changes_done}
+use Rattle.world.proofs.ChangesMade.{turned_into, changes_failed, changes_done, unmade}
 use Rattle.world.proofs.applying.carry_out_change.Goals as goal
 
 pub returns-in_err-turn_at-clause-changes : goal.returns-in_err-turn_at-clause-changes
@@ -31,3 +31,9 @@ returns-in_err-turn_at-clause-long g c = ap length c.turn_at.ensures.turned.othe
 
 pub returns-clause-long : goal.returns-clause-long
 returns-clause-long g c = ap length c.turn_at.ensures.turned.others ∙ length-set _ _ _
+
+pub returns-in_err-turn_at-clause-dated : goal.returns-in_err-turn_at-clause-dated
+returns-in_err-turn_at-clause-dated g c = unmade _ _ _ (turned_into _ _ c.from_residual.ensures.1)
+
+pub returns-clause-dated : goal.returns-clause-dated
+returns-clause-dated g c = λ clean w are due. c.in_ok-turn_at.ensures.dated w c.args.count.now clean are due

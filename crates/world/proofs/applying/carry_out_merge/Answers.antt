@@ -1,9 +1,10 @@
 -- The merge says it all, and the child's store is given back as that of its package.
-use Rattle.std.proofs.Common.{◌≡◌, refl, subst, sym, ap, ◌∙◌, arith, [], ◌∷◌, Some, slice_get}
+use Rattle.std.proofs.Common.{◌≡◌, refl, subst, sym, ap, ◌∙◌, arith, [], Some, Ok}
 use Rattle.sheet_types.specs.declared.receipt.Receipt.{Receipt}
 use Rattle.world_changes.specs.Carries.{Carries, OfEachDue}
 use Rattle.world_loans.specs.Loans.{IsReturned}
 use Rattle.world.specs.Asked.{ComeHome, HasUuidAt, IsNoPackage, child_returned}
+use Rattle.world.specs.Dates.{DatesHome}
 use Rattle.world.proofs.Asks.{none_home}
 use Rattle.package_tables.specs.declared.fault.Fault.TheVariants.{StoreFault}
 use Rattle.register_lending.specs.declared.turn_fault.TurnFault.TheVariants.{Before}
@@ -14,6 +15,7 @@ use Rattle.world_changes.specs.Writing.{WritesTwoAtMost}
 use Rattle.world_changes.proofs.Writing.{none_written, one_written}
 use Rattle.world_decisions.specs.Deciding.{child_asked}
 use Rattle.world.proofs.ChangesMade.{turned_into}
+use Rattle.world.proofs.Dated.{home_of, unreceived}
 use Rattle.world.proofs.ServedAll.{counts_turn}
 use Rattle.world.proofs.applying.carry_out_merge.Goals as goal
 
@@ -39,6 +41,7 @@ returns-in_default-clause-carries g c =
           c.args.members.now.items c.args.members.now.items
           (all_still g.S.Store g.met.S.Store.shut_if_dirty g.met.S.Store.settled c.args.members.now.items
           c.requires.rests)),
+      λ receipt is. absurd (let e = is in cc),
     )
 
 pub returns-in_default-clause-shelf : goal.returns-in_default-clause-shelf
@@ -67,6 +70,13 @@ returns-clause-carries g c =
           c.args.members.now.items c.merge_at.new.members.items c.args.count.now c.in_ok-receipt.receipt
           c.in_ok-receipt.child c.args.command.now c.in-Some.uuid c.in_ok-receipt.ensures.merges has
           c.in-Some.ensures.1),
+      subst (λ gone. DatesHome g.S.Store c.args.due c.args.command.now c.args.members.now.items
+          c.merge_at.new.members.items c.args.count.now gone (Ok c.in_ok-receipt.receipt)) (sym made.1)
+          (λ receipt is clean gone w next are home. (
+            home_of g.S.Store c.args.due c.args.members.now.items c.args.count.now c.in-Some.uuid c.args.command.now
+                has c.in-Some.ensures.1 w next are home,
+            c.in_ok-receipt.ensures.dated w next c.args.count.now clean gone are home,
+          )),
     )
 
 pub returns-in_err-receipt-clause-carries : goal.returns-in_err-receipt-clause-carries
@@ -90,6 +100,7 @@ returns-in_err-receipt-clause-carries g c =
           (all_still g.S.Store g.met.S.Store.shut_if_dirty g.met.S.Store.settled c.args.members.now.items
           c.requires.rests)
           c.merge_at.new.members.items (c.in_err-receipt.ensures.merges.kept _ refl)),
+      λ receipt is. absurd (unreceived _ _ _ told is),
     )
 
 pub returns-clause-shorter : goal.returns-clause-shorter

@@ -13,8 +13,8 @@ use Rattle.world_changes.specs.Giving.{AsksChild}
 use Rattle.world_loans.specs.ServeFaults.{CountsShelf}
 use Rattle.world.proofs.CarriedOut.{unkept, carries_unbegun, carries_lent, carries_unlent, child_beside}
 use Rattle.world.proofs.Settled.{unfilled_back, unlent_back}
-use Rattle.world.proofs.ChangesMade.{turned_into}
-use Rattle.world_members.proofs.Standing.{all_still, stay_length, clean_before}
+use Rattle.world.proofs.ChangesMade.{turned_into, unmade}
+use Rattle.world_members.proofs.Standing.{all_still, stay_length, clean_before, members_stay}
 use Rattle.world_changes.specs.Writing.{WritesTwoAtMost}
 use Rattle.world_changes.proofs.Writing.{none_written, one_written, two_written}
 use Rattle.world.proofs.applying.carry_out_split.Goals as goal
@@ -272,3 +272,22 @@ returns-clause-writes g c =
     two_written g.S.Store (Some c.args.due.child) None c.args.members.now.items c.child_store.new.members.items stay
     came.0 c.lend_and_place.new.members.items c.args.due.child_at (member_of_child c.args.due c.in_ok-child.child)
     came.1 refl came.2
+
+-- ---- the moment of the last change
+
+pub returns-in_err-make_room-clause-dated : goal.returns-in_err-make_room-clause-dated
+returns-in_err-make_room-clause-dated g c = unmade _ _ _ (turned_into _ _ c.from_residual.ensures.1)
+
+pub returns-in_err-child-clause-dated : goal.returns-in_err-child-clause-dated
+returns-in_err-child-clause-dated g c = unmade _ _ _ (turned_into _ _ c.from_residual-in_err-child.ensures.1)
+
+pub returns-in_err-receipt-clause-dated : goal.returns-in_err-receipt-clause-dated
+returns-in_err-receipt-clause-dated g c = unmade _ _ _ (turned_into _ _ c.from_residual-in_err-receipt.ensures.1)
+
+pub returns-clause-dated : goal.returns-clause-dated
+returns-clause-dated g c = λ clean w next same are lent.
+    let were : AreMembers g.S.Store c.make_room.new.members.items c.args.count.now w =
+    subst (λ ms. AreMembers g.S.Store ms c.args.count.now w) (sym c.make_room.ensures.members) are in
+    c.in_ok-receipt.ensures.dated w next c.args.count.now clean
+    (members_stay g.S.Store _ _ c.args.count.now w c.child_store.ensures.stay were) lent
+    (c.in_ok-child.ensures.dated (c.in_ok-receipt.ensures.splits.clean clean) w next c.args.count.now same were lent)

@@ -17,6 +17,8 @@ use Rattle.world.proofs.ServedAll.{split_apart, unlent_seen, all_undecided, all_
 use Rattle.world.proofs.ServedAll.{change_failed, split_served, split_failed, merge_served, merge_failed, merge_with}
 use Rattle.world.proofs.ServedAll.{with_asked, with_nothing, none_gone, counts_turn, counts_handed}
 use Rattle.world.proofs.ChangesMade.{turned_into}
+use Rattle.world.proofs.Dated.{change_dated, change_tried, merge_dated, merge_tried, none_left_clean, split_dated}
+use Rattle.world.proofs.Dated.{split_tried, unreceived, untried}
 use Rattle.world_changes.proofs.Writing.{asked_written, none_written, one_written, written_since}
 use Rattle.world_members.proofs.Standing.{stay_length}
 use Rattle.world.proofs.applying.serve.Goals as goal
@@ -36,6 +38,7 @@ returns-in_err-reply-clause-serves g c =
     (none_gone g.S.Store g.H.Shelf.asks g.H.Shelf.takes told all)
     (none_written g.S.Store (child_asked c.args.request.now.command) (child_returned c.args.request.now.command)
     c.args.members.now.items c.decide_and_note.new.members.items c.decide_and_note.ensures.asks.stay)
+    (λ clean gone receipt is. absurd (unreceived _ _ _ told is))
 
 pub returns-in-Answered-clause-serves : goal.returns-in-Answered-clause-serves
 returns-in-Answered-clause-serves g c =
@@ -47,6 +50,7 @@ returns-in-Answered-clause-serves g c =
     with_nothing g.S.Store g.H.Shelf.asks g.H.Shelf.takes c.args.shelf.now both.0 both.1
     (none_written g.S.Store (child_asked c.args.request.now.command) (child_returned c.args.request.now.command)
     c.args.members.now.items c.decide_and_note.new.members.items c.decide_and_note.ensures.asks.stay)
+    (λ clean gone receipt is more. absurd (more refl))
 
 pub returns-in_err-receipt-in-ChangeDue-clause-serves : goal.returns-in_err-receipt-in-ChangeDue-clause-serves
 returns-in_err-receipt-in-ChangeDue-clause-serves g c =
@@ -66,6 +70,7 @@ returns-in_err-receipt-in-ChangeDue-clause-serves g c =
     (one_written g.S.Store (child_asked c.args.request.now.command) (child_returned c.args.request.now.command)
     c.args.members.now.items c.decide_and_note.new.members.items c.decide_and_note.ensures.asks.stay
     c.carry_out_change.new.members.items c.in_err-receipt-in-ChangeDue.ensures.changes.others)
+    (λ clean gone receipt is. absurd (unreceived _ _ _ told is))
 
 pub returns-in_ok-receipt-in-ChangeDue-clause-serves : goal.returns-in_ok-receipt-in-ChangeDue-clause-serves
 returns-in_ok-receipt-in-ChangeDue-clause-serves g c =
@@ -82,6 +87,12 @@ returns-in_ok-receipt-in-ChangeDue-clause-serves g c =
     (one_written g.S.Store (child_asked c.args.request.now.command) (child_returned c.args.request.now.command)
     c.args.members.now.items c.decide_and_note.new.members.items c.decide_and_note.ensures.asks.stay
     c.carry_out_change.new.members.items c.in_ok-receipt-in-ChangeDue.ensures.changes.others)
+    (λ clean gone receipt is more. change_dated g.S.Store g.met.S.Store.shut_if_dirty g.met.S.Store.settled
+    c.args.frame.now c.args.request.now c.args.members.now.items c.decide_and_note.new.members.items
+    c.args.known.now c.decide_and_note.new.known c.decide_and_note.ensures.grows c.requires.rests c.args.count.now
+    c.requires.counted c.decide_and_note.ensures.asks c.carry_out_change.new.members.items c.in-ChangeDue.change
+    (c.in_ok-reply.was ∙ ap Ok c.in-ChangeDue.is) c.in_ok-receipt-in-ChangeDue.ensures.changes.clean
+    c.in_ok-receipt-in-ChangeDue.ensures.dated clean)
 
 -- ---- what was only read
 
@@ -217,6 +228,7 @@ returns-in_err-receipt-in-SplitDue-clause-serves g c =
     c.carry_out_split.new.members.items
     (sym (subst (Makes (child_asked c.args.request.now.command)) c.in-SplitDue.is c.in_ok-reply.ensures.makes))
     c.carry_out_split.ensures.writes))
+    (λ clean gone receipt is. absurd (unreceived _ _ _ told is))
 
 pub returns-in_ok-receipt-in-SplitDue-clause-serves : goal.returns-in_ok-receipt-in-SplitDue-clause-serves
 returns-in_ok-receipt-in-SplitDue-clause-serves g c =
@@ -252,6 +264,13 @@ returns-in_ok-receipt-in-SplitDue-clause-serves g c =
     c.carry_out_split.new.members.items
     (sym (subst (Makes (child_asked c.args.request.now.command)) c.in-SplitDue.is c.in_ok-reply.ensures.makes))
     c.carry_out_split.ensures.writes))
+    (λ clean gone receipt is more. split_dated g.S.Store g.met.S.Store.shut_if_dirty g.met.S.Store.settled
+    c.args.frame.now c.args.request.now c.args.members.now.items c.decide_and_note.new.members.items
+    c.args.known.now c.decide_and_note.new.known c.decide_and_note.ensures.grows c.requires.rests c.args.count.now
+    c.requires.counted c.decide_and_note.ensures.asks c.carry_out_split.new.members.items c.in-SplitDue.due
+    (c.in_ok-reply.was ∙ ap Ok c.in-SplitDue.is)
+    (subst (Makes (child_asked c.args.request.now.command)) c.in-SplitDue.is c.in_ok-reply.ensures.makes)
+    c.carry_out_split.ensures.clean c.in_ok-receipt-in-SplitDue.ensures.dated clean)
 
 pub carry_out_split-requires-clause-room : goal.carry_out_split-requires-clause-room
 carry_out_split-requires-clause-room g c =
@@ -289,6 +308,7 @@ returns-in_err-receipt-in-MergeDue-clause-serves g c =
     c.in_err-receipt-in-MergeDue.ensures.carries.1 c.in_err-receipt-in-MergeDue.ensures.carries.2 all
     (none_gone g.S.Store g.H.Shelf.asks g.H.Shelf.takes told all
     ∙ sym (c.in_err-receipt-in-MergeDue.ensures.carries.0.kept _ refl))
+    (λ clean gone receipt is. absurd (unreceived _ _ _ told is))
 
 pub returns-in_ok-receipt-in-MergeDue-clause-serves : goal.returns-in_ok-receipt-in-MergeDue-clause-serves
 returns-in_ok-receipt-in-MergeDue-clause-serves g c =
@@ -308,6 +328,16 @@ returns-in_ok-receipt-in-MergeDue-clause-serves g c =
     c.carry_out_merge.new.count g.H.Shelf.asks g.H.Shelf.takes c.args.shelf.now c.carry_out_merge.new.shelf
     c.in-MergeDue.due (c.in_ok-reply.was ∙ ap Ok c.in-MergeDue.is) c.in_ok-receipt-in-MergeDue.ensures.carries.0
     c.in_ok-receipt-in-MergeDue.ensures.carries.1 c.in_ok-receipt-in-MergeDue.ensures.carries.2 both.0 both.1
+    (λ clean gone receipt is more. merge_dated g.S.Store g.met.S.Store.shut_if_dirty g.met.S.Store.settled
+    c.args.frame.now c.args.request.now c.args.members.now.items c.decide_and_note.new.members.items
+    c.args.known.now c.decide_and_note.new.known c.decide_and_note.ensures.grows c.requires.rests c.args.count.now
+    c.requires.counted c.decide_and_note.ensures.asks c.carry_out_merge.new.members.items c.in-MergeDue.due
+    (c.in_ok-reply.was ∙ ap Ok c.in-MergeDue.is) (subst
+    (HasPlace c.decide_and_note.new.members.items c.args.count.now) c.in-MergeDue.is
+    c.in_ok-reply.ensures.place).two c.in_ok-receipt-in-MergeDue.ensures.carries.0.gone
+    c.in_ok-receipt-in-MergeDue.ensures.carries.0.clean
+    (λ clean gone. c.in_ok-receipt-in-MergeDue.ensures.carries.3 c.in_ok-receipt-in-MergeDue.receipt refl clean gone)
+    clean gone)
 
 pub returns-in_err-receipt-in-MergeDue-clause-room : goal.returns-in_err-receipt-in-MergeDue-clause-room
 returns-in_err-receipt-in-MergeDue-clause-room g c =
@@ -405,3 +435,47 @@ returns-in_ok-receipt-in-MergeDue-clause-child g c =
     child_merged g.S.Store g.H.Shelf.asks g.H.Shelf.takes g.H.Shelf.failures_of _ c.args.strays.now.items
     c.decide_and_note.new.members.items c.args.request.now.command _ _ _ c.args.shelf.now
     c.carry_out_merge.new.shelf c.in_ok-receipt-in-MergeDue.ensures.carries.1 (λ uuid fact. fact.0)
+
+-- ---- where a commit was tried
+
+pub returns-in_err-reply-clause-tried : goal.returns-in_err-reply-clause-tried
+returns-in_err-reply-clause-tried g c =
+    λ why is. absurd (untried _ c.in_err-reply.field-0.0 why (turned_into _ _ c.from_residual.ensures.1) is)
+
+pub returns-in-Answered-clause-tried : goal.returns-in-Answered-clause-tried
+returns-in-Answered-clause-tried g c = λ why is. absurd (let e = is in cc)
+
+pub returns-in_ok-receipt-in-ChangeDue-clause-tried : goal.returns-in_ok-receipt-in-ChangeDue-clause-tried
+returns-in_ok-receipt-in-ChangeDue-clause-tried g c = λ why is. absurd (let e = is in cc)
+
+pub returns-in_ok-receipt-in-SplitDue-clause-tried : goal.returns-in_ok-receipt-in-SplitDue-clause-tried
+returns-in_ok-receipt-in-SplitDue-clause-tried g c = λ why is. absurd (let e = is in cc)
+
+pub returns-in_ok-receipt-in-MergeDue-clause-tried : goal.returns-in_ok-receipt-in-MergeDue-clause-tried
+returns-in_ok-receipt-in-MergeDue-clause-tried g c = λ why is. absurd (let e = is in cc)
+
+pub returns-in_err-receipt-in-ChangeDue-clause-tried : goal.returns-in_err-receipt-in-ChangeDue-clause-tried
+returns-in_err-receipt-in-ChangeDue-clause-tried g c =
+    λ why is. change_tried g.S.Store g.met.S.Store.shut_if_dirty g.met.S.Store.settled c.args.frame.now
+    c.args.request.now c.args.members.now.items c.decide_and_note.new.members.items c.args.known.now
+    c.decide_and_note.new.known c.decide_and_note.ensures.grows c.requires.rests c.args.count.now
+    c.requires.counted c.decide_and_note.ensures.asks c.carry_out_change.new.members.items c.in-ChangeDue.change
+    (c.in_ok-reply.was ∙ ap Ok c.in-ChangeDue.is) c.in_err-receipt-in-ChangeDue.ensures.changes.clean
+
+pub returns-in_err-receipt-in-SplitDue-clause-tried : goal.returns-in_err-receipt-in-SplitDue-clause-tried
+returns-in_err-receipt-in-SplitDue-clause-tried g c =
+    λ why is. split_tried g.S.Store g.met.S.Store.shut_if_dirty g.met.S.Store.settled c.args.frame.now
+    c.args.request.now c.args.members.now.items c.decide_and_note.new.members.items c.args.known.now
+    c.decide_and_note.new.known c.decide_and_note.ensures.grows c.requires.rests c.args.count.now
+    c.requires.counted c.decide_and_note.ensures.asks c.carry_out_split.new.members.items c.in-SplitDue.due
+    (c.in_ok-reply.was ∙ ap Ok c.in-SplitDue.is) c.carry_out_split.ensures.clean
+
+pub returns-in_err-receipt-in-MergeDue-clause-tried : goal.returns-in_err-receipt-in-MergeDue-clause-tried
+returns-in_err-receipt-in-MergeDue-clause-tried g c =
+    λ why is. merge_tried g.S.Store g.met.S.Store.shut_if_dirty g.met.S.Store.settled c.args.frame.now
+    c.args.request.now c.args.members.now.items c.decide_and_note.new.members.items c.args.known.now
+    c.decide_and_note.new.known c.decide_and_note.ensures.grows c.requires.rests c.args.count.now
+    c.requires.counted c.decide_and_note.ensures.asks c.carry_out_merge.new.members.items c.in-MergeDue.due
+    (c.in_ok-reply.was ∙ ap Ok c.in-MergeDue.is)
+    (none_left_clean g.S.Store _ c.in_err-receipt-in-MergeDue.ensures.carries.0.clean
+    (c.in_err-receipt-in-MergeDue.ensures.carries.0.kept _ refl))

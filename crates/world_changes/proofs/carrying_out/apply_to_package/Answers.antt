@@ -26,6 +26,9 @@ returns-in_err-carry_out g c =
       dated = turn_dropped g.S.Store g.met.S.Store.shut_if_dirty g.met.S.Store.settled last
           c.transaction-tx.ensures.begun same c.requires _ c.from_residual.ensures.0 c.carry_out.ensures.dated
           d.undone d.survives d.ended;
+      numbers = turn_dropped g.S.Store g.met.S.Store.shut_if_dirty g.met.S.Store.settled last
+          c.transaction-tx.ensures.begun same c.requires _ c.from_residual.ensures.0 c.carry_out.ensures.numbers
+          d.undone d.survives d.ended;
       was_open = open_if_dropped g.S.Store g.met.S.Store.shut_if_dirty g.met.S.Store.settled c.args.conn.now last
           c.transaction-tx.ensures.begun same c.carry_out.ensures.steps _ d.survives d.undone;
       unharmed = λ fault is. survives_undone g.S.Store g.met.S.Store.shut_if_dirty g.met.S.Store.settled
@@ -45,6 +48,9 @@ returns-in_err-commit g c =
       dated = turn_uncommitted g.S.Store g.met.S.Store.shut_if_dirty g.met.S.Store.settled last
           c.transaction-tx.ensures.begun same c.requires c.in_ok-carry_out.ensures.dated d.ended d.survives _
           c.from_residual-in_err-commit.ensures.0 d.err;
+      numbers = turn_uncommitted g.S.Store g.met.S.Store.shut_if_dirty g.met.S.Store.settled last
+          c.transaction-tx.ensures.begun same c.requires c.in_ok-carry_out.ensures.numbers d.ended d.survives _
+          c.from_residual-in_err-commit.ensures.0 d.err;
       was_open = open_if_uncommitted g.S.Store g.met.S.Store.shut_if_dirty g.met.S.Store.settled c.args.conn.now last
           c.transaction-tx.ensures.begun same c.in_ok-carry_out.ensures.steps _ d.survives d.err;
       unharmed = λ fault is. absurd (committing _ _ fault c.from_residual-in_err-commit.ensures.1 is);
@@ -61,6 +67,9 @@ returns g c =
           (λ clean. (d.ok clean).1);
       dated = turn_committed g.S.Store g.met.S.Store.shut_if_dirty g.met.S.Store.settled last
           c.transaction-tx.ensures.begun same c.requires c.in_ok-carry_out.ensures.dated d.ended d.survives
+          (λ clean. (d.ok clean).1);
+      numbers = turn_committed g.S.Store g.met.S.Store.shut_if_dirty g.met.S.Store.settled last
+          c.transaction-tx.ensures.begun same c.requires c.in_ok-carry_out.ensures.numbers d.ended d.survives
           (λ clean. (d.ok clean).1);
       was_open = open_if_committed g.S.Store g.met.S.Store.shut_if_dirty g.met.S.Store.settled c.args.conn.now last
           c.transaction-tx.ensures.begun same c.in_ok-carry_out.ensures.steps _ d.survives (λ clean. (d.ok clean).1);

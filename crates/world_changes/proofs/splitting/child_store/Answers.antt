@@ -8,6 +8,8 @@ use Rattle.sheet_types.specs.Texts.{is_moment}
 use Rattle.identity_register.specs.Creation.{new_package}
 use Rattle.world_changes.specs.Giving.{LeavesBlankOr}
 use Rattle.world_changes.specs.Splits.{ReadsAsChild}
+use Rattle.identity_register.specs.Calls.{HasLastChange}
+use Rattle.world_changes.proofs.Dated.{child_dated}
 use Rattle.world_changes.proofs.Lent.{asked_alone, loan_kept, unlent_left}
 use Rattle.world_members.proofs.Standing.{all_still, turn_rests, turn_open, turn_clean, turn_stays}
 use Rattle.world_changes.proofs.splitting.child_store.Goals as goal
@@ -137,3 +139,22 @@ returns-in-Err-clause-uses g c =
         (c.into_store.result, c.into_store.ensures.quiet, c.retire.ensures.takes),
       ),
     )
+
+pub returns-in-Ok-clause-dated : goal.returns-in-Ok-clause-dated
+returns-in-Ok-clause-dated g c clean w next count same are lent disk =
+    let place : slice_get c.args.members.now.items c.args.due.now.at ≡ Some c.index_mut-member.result.now =
+    slice_get_read _ _ _ _ refl c.requires.within c.index_mut-member.ensures.value in
+    let turn : TurnsAt g.S.Store c.args.members.now.items _ c.args.due.now.at Stays =
+    record {
+      was = c.index_mut-member.result.now;
+      place = place;
+      last = c.filled_store.new.source;
+      others = refl;
+      turned = c.filled_store.ensures.source;
+    } in
+    let source = turn_clean g.S.Store c.args.members.now.items _ c.args.due.now.at turn clean in
+    child_dated g.S.Store c.args.frame.now w next count c.args.due.now c.args.members.now.items
+    c.index_mut-member.result.now c.in-Ok.child place (c.filled_store.ensures.source.was_open
+    (c.in-Ok.ensures.opens source)) same are lent (λ moment taken from selected reads part come.
+    subst (λ at. HasLastChange c.args.frame.now at (state g.S.Store c.in-Ok.child).now) c.as_str.ensures
+    (c.in-Ok.ensures.dated disk source (ap is_moment c.as_str.ensures ∙ moment) taken from selected reads part come))

@@ -5,6 +5,7 @@ use Rattle.identity_register.specs.Creation.{new_package}
 use Rattle.register_lending.proofs.FillingStores.{filled_keeps}
 use Rattle.world_changes.specs.Giving.{LeavesBlankOr}
 use Rattle.world_changes.specs.Splits.{ReadsAsChild}
+use Rattle.world_changes.proofs.Dated.{filled_dated}
 use Rattle.world_changes.proofs.Turned.{if_err_of}
 use Rattle.world_changes.proofs.Lent.{blank_left, unfilled_leaves, unmade_leaves}
 use Rattle.world_members.proofs.Seeing.{stays_still}
@@ -52,3 +53,12 @@ returns-in-Err-clause-left g c =
     (state g.S.Store c.args.source.now).now (state g.S.Store c.fill.new.source)
     (state g.S.Store c.in_ok-made.made) c.fill.new.conn (λ moment. c.in_ok-made.ensures.made moment
     c.requires.blank) c.fill.ensures.turns
+
+pub returns-in-Ok-clause-dated : goal.returns-in-Ok-clause-dated
+returns-in-Ok-clause-dated g c clean clean_source moment c' from selected read part come =
+    filled_dated c.args.frame.now c' from (new_package c.args.info.now.«package» c.args.info.now.parent
+    c.args.info.now.depth c.args.info.now.loan) c.args.selection.now c.args.info.now.created.now
+    (state g.S.Store c.fill.new.source) (state g.S.Store c.args.source.now).now
+    (state g.S.Store c.in_ok-made.made) (state g.S.Store c.fill.new.conn)
+    moment (c.in_ok-made.ensures.made moment c.requires.blank) c.in-Ok.ensures.turns clean clean_source selected read
+    part come

@@ -6,6 +6,7 @@ use Rattle.register_lending.specs.declared.turn_fault.TurnFault.TheVariants.{Bef
 use Rattle.std.proofs.lemmas.Option.{slice_get_read}
 use Rattle.world_members.proofs.Changing.{failed_at, undone_so, done_members, clean_turn, turned_open, crash_members}
 use Rattle.world_members.proofs.Changing.{unharmed_at}
+use Rattle.world_changes.proofs.Dated.{turned_dated}
 use Rattle.world_changes.proofs.turning.turn_at.Goals as goal
 
 -- an error that is handed on is the one that came
@@ -81,3 +82,16 @@ returns-in_err-apply_to_package-clause-unharmed g c fault is =
     c.index_mut-member.result.now c.apply_to_package.new.conn place c.requires.rests
     (c.in_err-apply_to_package.ensures.unharmed fault (ap Err
     (same_error _ _ fault c.from_residual.ensures.1 is)))
+
+pub returns-clause-dated : goal.returns-clause-dated
+returns-clause-dated g c =
+    let place : slice_get c.args.members.now.items c.args.at ≡ Some c.index_mut-member.result.now =
+    slice_get_read _ _ _ _ refl c.requires.within c.index_mut-member.ensures.value in
+    let t = c.in_ok-apply_to_package.ensures in
+    turned_dated g.S.Store {E = TurnFault} c.args.receipt.now c.args.command.now c.args.sums
+    c.args.members.now.items c.args.at c.index_mut-member.result.now
+    (record c.index_mut-member.result.now {
+      conn = c.apply_to_package.new.conn;
+      sums = c.args.sums;
+      ticket = c.args.receipt.now.seq;
+    }) place refl t.was_open t.dated

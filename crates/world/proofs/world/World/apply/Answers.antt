@@ -23,7 +23,8 @@ invariant_of-self g c = (
   held_after g.S.Store c.args.request.now _ _ c.in-Ok.reply c.self.invariant.0 refl
       c.serve.ensures.serves.0.rests c.serve.ensures.serves.0.stray_rests
       (λ usable. c.serve.ensures.serves.0.none c.in-Ok.reply c.in-Ok.is) c.serve.ensures.serves.0.counted
-      (step_replied g.S.Store _ _ _ _ _ _ _ _ _ _ c.serve.ensures.serves.0 c.serve.ensures.serves.2 _ _ _ _ refl
+      (step_replied g.S.Store _ _ _ _ _ _ _ _ _ _ c.serve.ensures.serves.0 c.serve.ensures.serves.2
+      c.serve.ensures.serves.3 _ _ _ _ refl
       c.in-Ok.reply c.in-Ok.is c.in-Ok.ensures.reads),
   c.serve.ensures.room,
 )
@@ -33,19 +34,23 @@ invariant_of-self-in-Err g c = (
   held_after g.S.Store c.args.request.now _ _ _ c.self.invariant.0 refl
       c.serve.ensures.serves.0.rests c.serve.ensures.serves.0.stray_rests
       (none_failed g.S.Store _ _ _ _ _ _ _ _ _ _ c.serve.ensures.serves.0 c.serve.ensures.serves.2
+      c.serve.ensures.serves.3
       c.self.inside.has_failed _ c.self.inside.strays.items _ refl c.in-Err.fault c.in-Err.is
       c.is_lasting-self-inside.ensures) c.serve.ensures.serves.0.counted
-      (step_failed g.S.Store _ _ _ _ _ _ _ _ _ _ c.serve.ensures.serves.0 c.serve.ensures.serves.2 _ _ _ _ refl
+      (step_failed g.S.Store _ _ _ _ _ _ _ _ _ _ c.serve.ensures.serves.0 c.serve.ensures.serves.2
+      c.serve.ensures.serves.3 _ _ _ _ refl
       c.in-Err.fault c.in-Err.is _ refl),
   c.serve.ensures.room,
 )
 
 pub returns-in-Ok-clause-uses : goal.returns-in-Ok-clause-uses
 returns-in-Ok-clause-uses g c = replied_with g.S.Store _ _ _ _ _ _ _ _ _ _ c.serve.ensures.serves.0
-    c.serve.ensures.serves.2 c.self.inside.has_failed c.is_store_fault-self-inside.result _ _ c.self.view_is
+    c.serve.ensures.serves.2 c.serve.ensures.serves.3 c.self.inside.has_failed c.is_store_fault-self-inside.result _ _
+    c.self.view_is
     g.H.Shelf.asks g.H.Shelf.takes g.H.Shelf.failures_of c.args.shelf.now c.serve.new.shelf c.serve.ensures.serves.1
     c.in-Ok.reply c.in-Ok.is c.in-Ok.ensures.reads
     (settled_replied g.S.Store _ _ _ _ _ _ _ _ _ _ c.serve.ensures.serves.0 c.serve.ensures.serves.2
+    c.serve.ensures.serves.3
     c.self.inside.has_failed c.is_store_fault-self-inside.result _ _ c.self.view_is g.H.Shelf.asks g.H.Shelf.takes
     g.H.Shelf.failures_of c.args.shelf.now c.serve.new.shelf (child_asked c.args.request.now.command)
     c.in-Ok.reply c.in-Ok.ensures.child)
@@ -53,12 +58,14 @@ returns-in-Ok-clause-uses g c = replied_with g.S.Store _ _ _ _ _ _ _ _ _ _ c.ser
 
 pub returns-in-Ok-clause-step : goal.returns-in-Ok-clause-step
 returns-in-Ok-clause-step g c = step_replied g.S.Store _ _ _ _ _ _ _ _ _ _ c.serve.ensures.serves.0
-    c.serve.ensures.serves.2 c.self.inside.has_failed c.is_store_fault-self-inside.result _ _ c.self.view_is
+    c.serve.ensures.serves.2 c.serve.ensures.serves.3 c.self.inside.has_failed c.is_store_fault-self-inside.result _ _
+    c.self.view_is
     c.in-Ok.reply c.in-Ok.is c.in-Ok.ensures.reads
 
 pub returns-in-Err-clause-step : goal.returns-in-Err-clause-step
 returns-in-Err-clause-step g c = step_failed g.S.Store _ _ _ _ _ _ _ _ _ _ c.serve.ensures.serves.0
-    c.serve.ensures.serves.2 c.self.inside.has_failed c.is_lasting-self-inside.result _ _ c.self.view_is
+    c.serve.ensures.serves.2 c.serve.ensures.serves.3 c.self.inside.has_failed c.is_lasting-self-inside.result _ _
+    c.self.view_is
     c.in-Err.fault c.in-Err.is _ c.refusal.ensures
 
 pub returns-then-self-clause-step : goal.returns-then-self-clause-step
@@ -68,22 +75,26 @@ returns-then-self-clause-step g c = subst (λ s. IsStep g.S.Store c.args.request
 
 pub returns-in-Ok-clause-still : goal.returns-in-Ok-clause-still
 returns-in-Ok-clause-still g c = still_replied g.S.Store _ _ _ _ _ _ _ _ _ _ c.serve.ensures.serves.0
-    c.serve.ensures.serves.2 c.self.inside.has_failed c.is_store_fault-self-inside.result _ _ c.self.view_is
+    c.serve.ensures.serves.2 c.serve.ensures.serves.3 c.self.inside.has_failed c.is_store_fault-self-inside.result _ _
+    c.self.view_is
     c.in-Ok.reply c.in-Ok.is
 
 pub returns-in-Err-clause-uses : goal.returns-in-Err-clause-uses
 returns-in-Err-clause-uses g c = failed_with g.S.Store _ _ _ _ _ _ _ _ _ _ c.serve.ensures.serves.0
-    c.serve.ensures.serves.2 c.self.inside.has_failed c.is_lasting-self-inside.result _ _ c.self.view_is
+    c.serve.ensures.serves.2 c.serve.ensures.serves.3 c.self.inside.has_failed c.is_lasting-self-inside.result _ _
+    c.self.view_is
     g.H.Shelf.asks g.H.Shelf.takes g.H.Shelf.failures_of c.args.shelf.now c.serve.new.shelf c.serve.ensures.serves.1
     c.in-Err.fault c.in-Err.is _ c.refusal.ensures
     (settled_failed g.S.Store _ _ _ _ _ _ _ _ _ _ c.serve.ensures.serves.0 c.serve.ensures.serves.2
+    c.serve.ensures.serves.3
     c.self.inside.has_failed c.is_lasting-self-inside.result _ _ c.self.view_is g.H.Shelf.asks g.H.Shelf.takes
     g.H.Shelf.failures_of c.args.shelf.now c.serve.new.shelf (child_asked c.args.request.now.command)
     c.in-Err.fault c.refusal.result c.is_lasting-self-inside.ensures c.in-Err.ensures.child)
 
 pub returns-in-Err-clause-still : goal.returns-in-Err-clause-still
 returns-in-Err-clause-still g c = still_failed g.S.Store _ _ _ _ _ _ _ _ _ _ c.serve.ensures.serves.0
-    c.serve.ensures.serves.2 c.self.inside.has_failed c.is_lasting-self-inside.result _ _ c.self.view_is
+    c.serve.ensures.serves.2 c.serve.ensures.serves.3 c.self.inside.has_failed c.is_lasting-self-inside.result _ _
+    c.self.view_is
     c.in-Err.fault c.in-Err.is c.refusal.result
 
 pub returns-then-self-clause-uses : goal.returns-then-self-clause-uses
@@ -95,12 +106,14 @@ returns-then-self-clause-uses g c =
 
 pub returns-in-Ok-clause-unharmed : goal.returns-in-Ok-clause-unharmed
 returns-in-Ok-clause-unharmed g c = no_trace_replied g.S.Store _ _ _ _ _ _ _ _ _ _ c.serve.ensures.serves.0
-    c.serve.ensures.serves.2 c.self.inside.has_failed c.is_store_fault-self-inside.result _ _ c.self.view_is
+    c.serve.ensures.serves.2 c.serve.ensures.serves.3 c.self.inside.has_failed c.is_store_fault-self-inside.result _ _
+    c.self.view_is
     c.in-Ok.reply c.in-Ok.is
 
 pub returns-in-Err-clause-unharmed : goal.returns-in-Err-clause-unharmed
 returns-in-Err-clause-unharmed g c = no_trace_failed g.S.Store _ _ _ _ _ _ _ _ _ _ c.serve.ensures.serves.0
-    c.serve.ensures.serves.2 c.self.inside.has_failed c.is_lasting-self-inside.result _ _ c.self.view_is
+    c.serve.ensures.serves.2 c.serve.ensures.serves.3 c.self.inside.has_failed c.is_lasting-self-inside.result _ _
+    c.self.view_is
     c.in-Err.fault c.in-Err.is c.refusal.result c.is_lasting-self-inside.ensures
 
 pub returns-in-Ok-clause-cause : goal.returns-in-Ok-clause-cause
@@ -136,6 +149,7 @@ returns-in-Ok-clause-rises g c = λ usable failed. (
 
 pub returns-in-Err-clause-rises : goal.returns-in-Err-clause-rises
 returns-in-Err-clause-rises g c = λ usable failed. rises_failed g.S.Store _ _ _ _ _ _ _ _ _ _ c.serve.ensures.serves.0
-    c.serve.ensures.serves.2 c.self.inside.has_failed c.is_lasting-self-inside.result _ _ c.self.view_is
-    (Result Receipt Refusal) _ _ c.in-Err.fault c.in-Err.is c.refusal.result c.refusal.ensures (Err c.refusal.result)
-    refl c.is_lasting-self-inside.ensures c.in-Err.ensures.shelf failed
+    c.serve.ensures.serves.2 c.serve.ensures.serves.3 c.self.inside.has_failed c.is_lasting-self-inside.result _ _
+    c.self.view_is
+    (Result Receipt Refusal) _ _ c.serve.ensures.tried c.in-Err.fault c.in-Err.is c.refusal.result
+    c.refusal.ensures (Err c.refusal.result) refl c.is_lasting-self-inside.ensures c.in-Err.ensures.shelf failed
