@@ -15,7 +15,7 @@ use Rattle.world.specs.Worlds.{Seen, StandsFor, seen_of}
 use Rattle.sheet_types.specs.Ordered.{arranged}
 use Rattle.opening_stores.specs.Sharing.{member_key, members_of}
 use Rattle.opening_stores.specs.Brought.{MayAllBeBrought}
-use Rattle.opening_stores.specs.Strangers.{AreStillOrPackages}
+use Rattle.opening_stores.specs.Strangers.{AreStillOrPackages, AreStraysRead}
 use Rattle.opening_stores.specs.Judged.{AreViewsOf, IsFaultAt, IsWant}
 use Rattle.opening_stores.specs.Stores.{AreOnlyRead, StaysStore}
 use Rattle.opening.specs.declared.recovering.Recovered.{Recovered}
@@ -66,6 +66,12 @@ module _ {S : Type 0} (g : Ghosts S) where
   abbrev pub AreSame : List (Held S) → Unopened S → Type 0
   AreSame stores refused = refused.stores.items ≡ stores
 
+  -- All stores were only read, if at all; or they stand for a world, and the strays beside it were only read.
+  abbrev pub NoStrayIsBrought : List (Held S) → Unopened S → Type 0
+  NoStrayIsBrought stores refused =
+      AreSame stores refused ⊎ (AreOnlyRead g stores refused.stores.items
+      ⊎ AreStraysRead g stores refused.stores.items)
+
   -- All stores are handed back in their order, untouched, or each as it was or brought; for a fault
   -- of the nine they were only read, if at all.
   pub record IsUnopened (stores : List (Held S)) (refused : Unopened S) : Type 0 where
@@ -73,4 +79,6 @@ module _ {S : Type 0} (g : Ghosts S) where
     pub only_read : IsWant refused.fault ⊎ AreOnlyRead g stores refused.stores.items
     -- Whatever the fault is, want of memory and of a store among them, a store that reads as no package was only read.
     pub others_read : AreClean g refused.stores.items → AreStillOrPackages g stores refused.stores.items
+    -- And no stray was brought.
+    pub strays_read : AreClean g refused.stores.items → NoStrayIsBrought stores refused
     pub fault : AreClean g refused.stores.items → IsFaultAt g stores refused.fault

@@ -103,8 +103,8 @@ fn recover_at_rest<S: Alter + Drop, W: Watcher>(
 /// # Errors
 ///
 /// The first of the nine faults whose condition holds, with its least package or identity; or want
-/// of memory, or a store that failed. All stores are handed back: only read, but for some that may
-/// have been brought before memory or a store gave out.
+/// of memory, or a store that failed. All stores are handed back: only read, but for live ones that
+/// may have been brought before memory or a store gave out.
 pub fn recover<S: Alter + Drop, W: Watcher>(
     alloc: Global,
     stores: Vec<Connection<S>>,

@@ -13,12 +13,10 @@ use Rattle.store_sql.specs.Transactions.{Rests, Holds, Turns, WouldLeave}
 use Rattle.store_sql.proofs.Transactions.{Shuts, Settles, at_rest, clean_open}
 use Rattle.identity_register.specs.Reads.{Reads}
 use Rattle.package_v1.specs.FirstVersion.{ReadsAtOne, ReadsAtEither}
-use Rattle.package_v1.specs.Migrating.{BringsIfFirst}
-use Rattle.opening_stores.specs.Brought.{LeavesAtEither, MayBeBrought, IsTurned, MayBeTurned}
+use Rattle.opening_stores.specs.Brought.{BringsOnly, LeavesAtEither, LeavesOldOrBrought, MayBeBrought, IsTurned}
+use Rattle.opening_stores.specs.Brought.{MayBeTurned}
 use Rattle.opening_stores.specs.Stores.{StaysStore}
-
-abbrev Either : Unit {0} → Database → Database → Type 0
-Either _ = BringsIfFirst
+use Rattle.opening_stores.proofs.Migrated.{Only}
 
 -- a store holds what it shows
 shown : (s : State) (db : Database) → Holds s db → Holds s s.now
@@ -26,13 +24,23 @@ shown s db h = subst (Holds s) (sym h.now_is) h
 
 -- trees that are as before, or would be left by the migration, read as the package at one version or at the other
 left_so : (db : Database) → IsDatabase db → (f : Frame) (p : Package) → ReadsAtOne f p db → (trees : Trees)
-    → (trees ≡ db.trees) ⊎ WouldLeave Either db trees → ReadsAtEither f p trees
+    → (trees ≡ db.trees) ⊎ WouldLeave Only db trees → ReadsAtEither f p trees
 left_so db sound f p reads trees (inl same) = subst (ReadsAtEither f p) (sym same) (db.schema, sound, reads)
 left_so db sound f p reads trees (inr (x, new, brings, same)) =
-    let it : Reads f p new × (IsDatabase db → IsDatabase new) × (Reads f p db → new ≡ db) = brings f p reads in
+    let it : Reads f p new × (IsDatabase db → IsDatabase new) × (Reads f p db → new ≡ db) = brings.either f p reads in
     subst (ReadsAtEither f p) (sym same) (new.schema, it.1 sound, inr it.0)
 
+left_each : (db : Database) (s : State) → IsDatabase db → LeavesOldOrBrought db s → LeavesAtEither db s
+left_each db s sound leaves f p reads trees may = left_so db sound f p reads trees (leaves trees may)
+
 module _ {S : Type 0} (g : Ghosts S) (shuts : Shuts g) (settles : Settles g) where
+  stays_leaves : (a b : Held S) → Rests (state g a) → StaysStore g a b → HasCleanDisk (state g b)
+      → IsTrue (state g a).is_open → LeavesOldOrBrought (state g a).now (state g b)
+  stays_leaves a b rests stays clean is_open trees may = elim (stays.survives.crash clean trees may) [
+    | inl before ↦ inl ((at_rest g shuts settles a rests is_open).left trees before)
+    | inr none ↦ absurd none
+  ]
+
   -- one that was only read
   pub stays_may : (a b : Held S) → Rests (state g a) → StaysStore g a b → MayBeBrought (state g a) (state g b)
   stays_may a b rests stays = record {
@@ -41,23 +49,21 @@ module _ {S : Type 0} (g : Ghosts S) (shuts : Shuts g) (settles : Settles g) whe
     was_open = stays.was_open;
     holds = λ is_open. shown (state g b) (state g a).now (stays.holds is_open);
     says = λ is_open. inl (stays.holds is_open).now_is;
-    left = λ clean is_open sound f p reads trees may. elim (stays.survives.crash clean trees may) [
-      | inl before ↦ left_so (state g a).now sound f p reads trees
-          (inl ((at_rest g shuts settles a rests is_open).left trees before))
-      | inr none ↦ absurd none
-    ];
+    leaves = λ clean is_open. stays_leaves a b rests stays clean is_open;
+    left = λ clean is_open sound. left_each (state g a).now (state g b) sound
+        (stays_leaves a b rests stays clean is_open);
   }
 
   module _ {E : Type 0} (b c : Held S) (open_b : IsTrue (state g b).is_open) where
     -- after the transaction it holds what it shows, which is what it held or what was made of it
-    turned_holds : (r : Result (Unit {0}) E) → Turns Either (state g b) (state g c) r → HasCleanDisk (state g c)
+    turned_holds : (r : Result (Unit {0}) E) → Turns Only (state g b) (state g c) r → HasCleanDisk (state g c)
         → IsTrue (state g c).is_open → Holds (state g c) (state g c).now
     turned_holds (Ok x) turn clean is_open = (turn.done clean).1
     turned_holds (Err e) turn clean is_open = shown (state g c) (state g b).now (turn.undone is_open)
 
-    turned_says : (r : Result (Unit {0}) E) → Turns Either (state g b) (state g c) r → HasCleanDisk (state g c)
+    turned_says : (r : Result (Unit {0}) E) → Turns Only (state g b) (state g c) r → HasCleanDisk (state g c)
         → IsTrue (state g c).is_open → ((state g c).now ≡ (state g b).now)
-        ⊎ BringsIfFirst (state g b).now (state g c).now
+        ⊎ BringsOnly (state g b).now (state g c).now
     turned_says (Ok x) turn clean is_open = inr (turn.done clean).0
     turned_says (Err e) turn clean is_open = inl (turn.undone is_open).now_is
 
@@ -71,17 +77,20 @@ module _ {S : Type 0} (g : Ghosts S) (shuts : Shuts g) (settles : Settles g) whe
     was_open = λ is_open. stays.was_open (mid_open is_open);
     holds = λ is_open. turned_holds b c (mid_open is_open) r (turned.turns (mid_open is_open))
         (clean_open g shuts settles c is_open) is_open;
-    says = λ is_open. subst (λ (db : Database). ((state g c).now ≡ db) ⊎ BringsIfFirst db (state g c).now)
+    says = λ is_open. subst (λ (db : Database). ((state g c).now ≡ db) ⊎ BringsOnly db (state g c).now)
         (stays.holds (mid_open is_open)).now_is
         (turned_says b c (mid_open is_open) r (turned.turns (mid_open is_open)) (clean_open g shuts settles c is_open)
         is_open);
-    left = λ clean is_open sound f p reads trees may.
-        let open_b : IsTrue (state g b).is_open = opens (turned.clean clean) in
-        left_so (state g a).now sound f p reads trees
-        (subst (λ (db : Database). (trees ≡ db.trees) ⊎ WouldLeave Either db trees) (stays.holds open_b).now_is
-        ((turned.turns open_b).left clean open_b trees may));
+    leaves = λ clean is_open. turned_leaves clean;
+    left = λ clean is_open sound. left_each (state g a).now (state g c) sound (turned_leaves clean);
   }
     where
+      turned_leaves : HasCleanDisk (state g c) → LeavesOldOrBrought (state g a).now (state g c)
+      turned_leaves clean trees may =
+          let open_b : IsTrue (state g b).is_open = opens (turned.clean clean) in
+          subst (λ (db : Database). (trees ≡ db.trees) ⊎ WouldLeave Only db trees) (stays.holds open_b).now_is
+          ((turned.turns open_b).left clean open_b trees may)
+
       mid_open : IsTrue (state g c).is_open → IsTrue (state g b).is_open
       mid_open is_open = opens (turned.clean (clean_open g shuts settles c is_open))
 
@@ -98,4 +107,4 @@ module _ {S : Type 0} (g : Ghosts S) where
   pub turned_reads : {E : Type 0} (b c : Held S) → IsTrue (state g b).is_open → IsTurned g {E = E} b c (Ok tt)
       → HasCleanDisk (state g c) → (f : Frame) (p : Package) → ReadsAtOne f p (state g b).now
       → Reads f p (state g c).now
-  turned_reads b c open_b turned clean f p reads = (((turned.turns open_b).done clean).0 f p reads).0
+  turned_reads b c open_b turned clean f p reads = (((turned.turns open_b).done clean).0.either f p reads).0

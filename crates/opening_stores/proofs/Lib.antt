@@ -1,6 +1,7 @@
 mod Frames
 pub mod LookedAt
 pub mod Judged
+mod Migrated
 pub mod Brought
 pub mod Turning
 pub mod Least

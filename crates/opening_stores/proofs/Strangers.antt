@@ -19,9 +19,10 @@ use Rattle.opening_verdict.specs.Views.{IsKeptOf, is_live_view, live_views}
 use Rattle.opening_verdict.specs.declared.verdict.Kept.{Kept}
 use Rattle.opening_verdict.specs.declared.verdict.Verdict.{Verdict}
 use Rattle.opening_stores.specs.Brought.{Place, SomeAreTurned, MayBeTurned}
-use Rattle.opening_stores.specs.Strangers.{IsStillOrPackage, AreStillOrPackages}
+use Rattle.opening_stores.specs.Strangers.{IsStillOrPackage, AreStillOrPackages, AreOthersRead, AreStraysRead}
 use Rattle.opening_stores.specs.Judged.{AreJudged}
 use Rattle.opening_stores.specs.Stores.{AreOnlyRead, StaysStore}
+use Rattle.opening_stores.proofs.HandedIn.{reread}
 use Rattle.opening_stores.proofs.Members.{reads_at_one}
 
 -- what is so of those that pass is so of each where it passes
@@ -106,3 +107,42 @@ module _ {S : Type 0} (g : Ghosts S) where
       (subst (λ l. AllZip (IsKeptOf it.views it.is.world) l it.views) turned.kept_is it.is.kept)
       (subst (λ l. AllZip Right l it.views) turned.old_is it.right)
       (all_passing IsSoundView (is_live_view it.views) it.views sound))
+
+  -- ---- the strays
+
+  -- one that is not live is as it was after the look
+  one_apart : (views : List StoreSight) (w : World) (kept : Option Kept) (was old now : Held S) (v : StoreSight)
+      → StaysStore g was old → MayBeDone (record { kept = kept; old = old; now = now }) → IsKeptOf views w kept v
+      → is_live_view views v ≡ false → StaysStore g was now
+  one_apart views w None was old now v stay done keep dead = subst (StaysStore g was) (sym done) stay
+  one_apart views w (Some k) was old now v stay done keep dead = absurd (true≢false (sym keep.live ∙ dead))
+
+  each_apart : (views : List StoreSight) (w : World) (was : List (Held S)) (ps : List (Place S))
+      (vs : List StoreSight) → AllZip (StaysStore g) was (map (λ p. p.old) ps) → AllByRecursion MayBeDone ps
+      → AllZip (IsKeptOf views w) (map (λ p. p.kept) ps) vs
+      → AreOthersRead g (is_live_view views) was (map (λ p. p.now) ps) vs
+  each_apart views w [] [] [] stay done keep = tt
+  each_apart views w [] [] (v ∷ vs) stay done keep = absurd keep
+  each_apart views w [] (p ∷ ps) vs stay done keep = absurd stay
+  each_apart views w (a ∷ was) [] vs stay done keep = absurd stay
+  each_apart views w (a ∷ was) (p ∷ ps) [] stay done keep = absurd keep
+  each_apart views w (a ∷ was) (p ∷ ps) (v ∷ vs) stay done keep = (
+    one_apart views w p.kept a p.old p.now v stay.0 done.0 keep.0,
+    each_apart views w was ps vs stay.1 done.1 keep.1,
+  )
+
+  -- what was judged, and then brought as far as memory and the stores went: no stray was
+  pub some_apart : (stores read now : List (Held S)) (frame : Frame) (verdict : Verdict) (known : List (List ℕ))
+      → AreOnlyRead g stores read → AreJudged g read frame verdict known
+      → SomeAreTurned g verdict.kept.items read now
+      → AreStraysRead g stores now
+  some_apart stores read now frame verdict known stay it turned = record {
+    views = it.views;
+    right = reread g stores read it.views stay it.right;
+    world = it.is.world;
+    stand = it.is.stands;
+    strays = subst (λ l. AreOthersRead g (is_live_view it.views) stores l it.views) (sym turned.new_is)
+        (each_apart it.views it.is.world stores turned.places it.views
+        (subst (AllZip (StaysStore g) stores) turned.old_is stay) turned.each
+        (subst (λ l. AllZip (IsKeptOf it.views it.is.world) l it.views) turned.kept_is it.is.kept));
+  }

@@ -10,13 +10,26 @@ use Rattle.sqlite.specs.Store.{Ghosts}
 use Rattle.sqlite.specs.Tree.{Trees}
 use Rattle.sheet_types.specs.World.{Package}
 use Rattle.sheet_types.specs.declared.frame.Frame.{Frame}
-use Rattle.store_sql.specs.Transactions.{Rests, Holds, Turns}
+use Rattle.store_sql.specs.Transactions.{Rests, Holds, Turns, WouldLeave}
 use Rattle.package_v1.specs.FirstVersion.{ReadsAtOne, ReadsAtEither}
-use Rattle.package_v1.specs.Migrating.{BringsIfFirst}
+use Rattle.package_v1.specs.Migrating.{Brings, BringsIfFirst}
 use Rattle.package_tables.specs.declared.fault.Fault.{Fault}
 use Rattle.opening_verdict.specs.declared.verdict.Kept.{Kept}
 
 -- ---- one store
+
+-- What bringing makes of a database that reads as a package. One of the second version is as it was. One of the first
+-- reads as the same package at the second, and no row of it is written anew: its tables say what they said, with their
+-- numbers and moments, but for the third relation and the version, and the third mapping has its index.
+pub record BringsOnly (old new : Database) : Type 0 where
+  pub either : BringsIfFirst old new
+  pub first : Brings old new
+
+-- Whatever a crash may leave of the store is what the database was, or what bringing makes of it.
+abbrev pub LeavesOldOrBrought : Database → State → Type 0
+LeavesOldOrBrought was s =
+    (trees : Trees) → s.may_leave trees
+    → (trees ≡ was.trees) ⊎ WouldLeave {X = Unit {0}} (λ _. BringsOnly) was trees
 
 -- Whatever a crash may leave of the store reads as each package that the database read as, at one version or at the
 -- other.
@@ -26,15 +39,16 @@ LeavesAtEither was s =
     → ReadsAtEither f p trees
 
 -- A store that an opening looked at, and may have brought to the second version: it is at rest, and
--- where it is open it says what it said, or the same package at the second version. A crash leaves
--- that package too, at one version or at the other, if the trees of the database before listed its
--- schema.
+-- where it is open it says what it said, or what bringing makes of that. A crash leaves one or the
+-- other, and so the package, at one version or at the other, if the trees of the database before
+-- listed its schema.
 pub record MayBeBrought (old new : State) : Type 0 where
   pub rests : Rests new
   pub clean : HasCleanDisk new → HasCleanDisk old
   pub was_open : IsTrue new.is_open → IsTrue old.is_open
   pub holds : IsTrue new.is_open → Holds new new.now
-  pub says : IsTrue new.is_open → (new.now ≡ old.now) ⊎ BringsIfFirst old.now new.now
+  pub says : IsTrue new.is_open → (new.now ≡ old.now) ⊎ BringsOnly old.now new.now
+  pub leaves : HasCleanDisk new → IsTrue old.is_open → LeavesOldOrBrought old.now new
   pub left : HasCleanDisk new → IsTrue old.is_open → IsDatabase old.now → LeavesAtEither old.now new
 
 module _ {S : Type 0} (g : Ghosts S) where
@@ -43,11 +57,11 @@ module _ {S : Type 0} (g : Ghosts S) where
   MayAllBeBrought = AllZip (λ a b. MayBeBrought (state g a) (state g b))
 
   -- What one transaction made of a store: an open one that reads as a package at either version
-  -- reads as the same at the second.
+  -- reads as the same at the second, and nothing else in it has changed.
   pub record IsTurned {E : Type 0} (old new : Held S) (r : Result (Unit {0}) E) : Type 0 where
     pub rests : Rests (state g new)
     pub clean : HasCleanDisk (state g new) → HasCleanDisk (state g old)
-    pub turns : IsTrue (state g old).is_open → Turns (λ _. BringsIfFirst) (state g old) (state g new) r
+    pub turns : IsTrue (state g old).is_open → Turns (λ _. BringsOnly) (state g old) (state g new) r
 
   -- The store at a place was turned, and all else is as it was.
   pub record TurnsOne {E : Type 0} (old new : List (Held S)) (at : ℕ) (r : Result (Unit {0}) E) : Type 0 where

@@ -52,7 +52,7 @@ module _ {S : Type 0} (g : Ghosts S) where
 
   pub refuses_with_cause : (stores : List (Held S)) (refused : Unopened S) → IsUnopened g stores refused
       → RefusesWithCause g stores refused
-  refuses_with_cause stores refused is clean = (is.fault clean, is.others_read clean)
+  refuses_with_cause stores refused is clean = (is.fault clean, is.others_read clean, is.strays_read clean)
 
   module _ {H : Type 0} (Asked : List ℕ → H → H → Type 0) (Taken : List ℕ → S → H → H → Type 0) where
     pub opens_again : {Fails : H → ℕ} → laws.OpensAgain g → laws.LeftIsStores g

@@ -11,6 +11,7 @@ use Rattle.world_members.specs.Members.{AllOpen}
 use Rattle.world.specs.Worlds.{StandsFor, RunsOverRegisters}
 use Rattle.opening_stores.specs.Strangers.{AreStillOrPackages}
 use Rattle.opening_stores.specs.Judged.{AreViewsOf, IsFaultAt}
+use Rattle.opening.specs.Recovered.{NoStrayIsBrought}
 use Rattle.opening.specs.declared.recovering.Recovered.{Recovered}
 use Rattle.opening.specs.declared.recovering.Unopened.{Unopened}
 use Rattle.opening_laws.specs.Stores.{AreReopened, AreWithStrays}
@@ -27,10 +28,11 @@ module _ {S : Type 0} (g : Ghosts S) where
       × StandsFor g found.world w × AllOpen g found.world.members)
 
   -- Where none is opened, the fault that is told is the first that holds, or memory or a store gave out; and no store
-  -- was changed but that one which reads as a package may have been brought to the second version.
+  -- was changed but that a live one which reads as a package may have been brought to the second version.
   abbrev pub RefusesWithCause : List (Held S) → Unopened S → Type 0
   RefusesWithCause stores refused = AreClean g refused.stores.items →
       IsFaultAt g stores refused.fault × AreStillOrPackages g stores refused.stores.items
+      × NoStrayIsBrought g stores refused
 
   -- What a crash left of a world opens as that world, with whatever strays beside it, and the machine goes on from
   -- there. The stores that were not of the world are in hand too: they were read.

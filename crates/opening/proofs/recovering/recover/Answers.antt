@@ -8,5 +8,6 @@ returns-clause-fault g c = record {
   brought = inl refl;
   only_read = inl (inr refl);
   others_read = λ clean. all_same g.S.Store c.args.stores.items;
+  strays_read = λ clean. inl refl;
   fault = λ clean. inl (inr refl);
 }

@@ -5,7 +5,7 @@ use Rattle.sqlite.specs.Held.{state}
 use Rattle.store_sql.specs.Transactions.{Rests}
 use Rattle.opening_stores.specs.Brought.{AreAllTurned, SomeAreTurned}
 use Rattle.opening_stores.proofs.HandedIn.{all_stay_may, fault_before, some_may, some_clean_before}
-use Rattle.opening_stores.proofs.Strangers.{all_read, some_still}
+use Rattle.opening_stores.proofs.Strangers.{all_read, some_apart, some_still}
 use Rattle.opening_stores.proofs.Turning.{as_long}
 use Rattle.opening.proofs.Opened.{recovered, stands}
 use Rattle.opening.proofs.recovering.recover_at_rest.Goals as goal
@@ -18,6 +18,7 @@ returns-in-Err-clause-fault g c = record {
   only_read = inr c.judge_stores.ensures.read;
   others_read = λ clean. all_read g.S.Store c.args.stores.items c.judge_stores.new.stores.items
       c.judge_stores.ensures.read;
+  strays_read = λ clean. inr (inl c.judge_stores.ensures.read);
   fault = λ clean. fault_before g.S.Store c.args.stores.items c.judge_stores.new.stores.items _
       c.judge_stores.ensures.read (c.in-Err.ensures.fault clean);
 }
@@ -30,6 +31,7 @@ returns-then-not-is_of_all-clause-fault g c = record {
   only_read = inr c.judge_stores.ensures.read;
   others_read = λ clean. all_read g.S.Store c.args.stores.items c.judge_stores.new.stores.items
       c.judge_stores.ensures.read;
+  strays_read = λ clean. inr (inl c.judge_stores.ensures.read);
   fault = λ clean. inl (inr refl);
 }
 
@@ -48,6 +50,16 @@ returns-in-Err-bring_stores-clause-fault g c = record {
       c.in-Ok.judged.frame c.in-Ok.judged.verdict c.in-Ok.judged.known c.judge_stores.ensures.read
       (c.in-Ok.ensures.judged (some_clean_before g.S.Store c.in-Ok.judged.verdict.kept.items
       c.judge_stores.new.stores.items c.bring_stores.new.stores.items turned clean)) turned;
+  strays_read = λ clean.
+      let turned : SomeAreTurned g.S.Store c.in-Ok.judged.verdict.kept.items c.judge_stores.new.stores.items
+      c.bring_stores.new.stores.items =
+      subst (λ k. SomeAreTurned g.S.Store k c.judge_stores.new.stores.items c.bring_stores.new.stores.items)
+      c.deref.ensures.value c.in-Err-bring_stores.ensures.failed in
+      inr (inr (some_apart g.S.Store c.args.stores.items c.judge_stores.new.stores.items
+      c.bring_stores.new.stores.items c.in-Ok.judged.frame c.in-Ok.judged.verdict c.in-Ok.judged.known
+      c.judge_stores.ensures.read (c.in-Ok.ensures.judged (some_clean_before g.S.Store
+      c.in-Ok.judged.verdict.kept.items c.judge_stores.new.stores.items c.bring_stores.new.stores.items turned
+      clean)) turned));
   fault = λ clean. inl c.in-Err-bring_stores.ensures.fault;
 }
 

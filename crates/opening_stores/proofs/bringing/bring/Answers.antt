@@ -4,7 +4,7 @@ use Rattle.std.specs.Prelude.{◌↔◌}
 use Rattle.std.proofs.lemmas.Bool.{both_ways}
 use Rattle.sqlite.specs.Held.{state}
 use Rattle.package_v1.specs.FirstVersion.{AreFree}
-use Rattle.package_v1.proofs.Either.{turn_brought, turn_stays}
+use Rattle.opening_stores.proofs.Migrated.{turn_only, turn_left}
 use Rattle.opening_stores.proofs.bringing.bring.Goals as goal
 
 pub returns-then-are_free : goal.returns-then-are_free
@@ -14,7 +14,7 @@ returns-then-are_free g c =
     record {
       rests = c.migrate.ensures.turns.rests;
       clean = λ clean. omega (arith, c.migrate.ensures.turns.survives.clean, clean);
-      turns = λ is_open. turn_brought old _ _ (told.0 c.if-are_free.true) c.migrate.ensures.turns;
+      turns = λ is_open. turn_only old _ _ (told.0 c.if-are_free.true) c.migrate.ensures.turns;
     }
 
 pub returns : goal.returns
@@ -23,6 +23,6 @@ returns g c =
     record {
       rests = c.requires;
       clean = λ clean. clean;
-      turns = λ is_open. turn_stays g.S.Store g.met.S.Store.shut_if_dirty g.met.S.Store.settled c.args.conn.now
+      turns = λ is_open. turn_left g.S.Store g.met.S.Store.shut_if_dirty g.met.S.Store.settled c.args.conn.now
           c.requires is_open (λ free. both_ways _ c.if-are_free.false (told.1 free));
     }
