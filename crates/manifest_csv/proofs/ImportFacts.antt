@@ -14,14 +14,18 @@ use Rattle.sheet_types.specs.declared.receipt.Receipt.{Receipt}
 use Rattle.sheet_types.specs.declared.refusal.Refusal.{Refusal}
 use Rattle.sheet_types.proofs.Every.{All-snoc}
 use Rattle.register_lending.specs.Faults.{fault_refusal}
-use Rattle.world.specs.Worlds.{Seen, IsRun}
-use Rattle.world.proofs.Running.{IsApplied, run_none, run_more}
-use Rattle.manifest_csv.specs.Imports.{GoesOn, IsCarried, IsReported, IsImported, Imports, lines_before, report_before}
+use Rattle.world.specs.Asked.{IsRunWith, IsStepWith}
+use Rattle.world.specs.Worlds.{Seen}
+use Rattle.world.proofs.Running.{IsApplied, none_with, more_with}
+use Rattle.manifest_csv.specs.Imports.{GoesOn, IsCarried, IsImported, IsImportedWith, IsReportedWith, IsWritten}
+use Rattle.manifest_csv.specs.Imports.{Imports, ImportsWith, lines_before, report_before}
+use Rattle.manifest_csv.specs.Progress.{Tells, Told, told_from}
 use Rattle.manifest_csv.specs.Reports.{report_header, report_line, report_lines, report_of}
 use Rattle.request_csv.specs.RequestLists.{IsList}
 use Rattle.manifest_csv.specs.Sent.{WentOut, WentOutPast}
 use Rattle.manifest_csv.specs.declared.importing.ImportFault.{ImportFault}
 use Rattle.manifest_csv.specs.declared.importing.ImportFault.TheVariants.{Unread, Stopped, Unwritten}
+use Rattle.manifest_csv.proofs.ProgressFacts.{no_reply_told, none_told, one_told}
 use Rattle.manifest_csv.proofs.ReportFacts.{lines_more}
 use Rattle.manifest_csv.proofs.SentFacts.{went_out_after, went_out_of, went_out_past, past_after}
 
@@ -45,35 +49,57 @@ cut_short requests (reply ∷ replies) before mid after header line =
     past_after before mid after report_header (lines_before requests (reply ∷ replies))
     (report_lines 1 requests (reply ∷ replies)) header line
 
-module _ {S : Type 0} (g : Ghosts S) where
-  -- The first n of the requests were carried out and reported, and nothing ended the import yet.
-  pub record SoFar (requests : List Request) (n : ℕ) (old new : Seen S) (failed fails : ℕ)
-      (before after : Option (List ℕ)) : Type 0 where
+-- what was written, with the header before it
+written_after : (requests : List Request) (replies : List (Result Receipt Refusal))
+    (before mid after : Option (List ℕ))
+    (r : Result (Unit {0}) ImportFault) → Appends before mid report_header
+    → IsWritten requests replies (lines_before requests replies) (report_lines 1 requests replies) mid after r
+    → IsWritten requests replies (report_before requests replies) (report_of requests replies) before after r
+written_after requests replies before mid after (Ok x) header it =
+    (it.0, it.1, Appends-trans before mid after report_header (report_lines 1 requests replies) header it.2)
+written_after requests replies before mid after (Err (Stopped n fault)) header it =
+    (it.0, it.1, Appends-trans before mid after report_header (report_lines 1 requests replies) header it.2)
+written_after requests replies before mid after (Err Unwritten) header it =
+    cut_short requests replies before mid after header it
+written_after requests replies before mid after (Err (Unread fault)) header it = absurd it
+
+module _ {S H : Type 0} (g : Ghosts S) (Asks : List ℕ → H → H → Type 0)
+    (Takes : List ℕ → S → H → H → Type 0) (Fails : H → ℕ) where
+  -- The first n of so many requests were carried out, reported and told, and nothing ended the import yet.
+  pub record SoFar (all : ℕ) (requests : List Request) (n : ℕ) (old new : Seen S) (shelf shelf' : H)
+      (before after : Option (List ℕ)) (heard heard' : Option (List Told)) : Type 0 where
     pub replies : List (Result Receipt Refusal)
     pub counted : length replies ≡ n
-    pub ran : IsRun g (take n requests) old replies new failed fails
+    pub ran : IsRunWith g Asks Takes Fails (take n requests) old replies new (Fails shelf) (Fails shelf') shelf
+        shelf'
     pub goes_on : AllByRecursion GoesOn replies
     pub written : Appends before after (report_lines 1 requests replies)
+    pub told : Tells heard heard' (told_from all 1 replies)
 
-  module _ (requests : List Request) (n : ℕ) (old mid new : Seen S) (failed failing fails : ℕ)
-      (before between : Option (List ℕ)) (it : SoFar requests n old mid failed failing before between)
+  module _ (all : ℕ) (requests : List Request) (n : ℕ) (old mid new : Seen S) (shelf shelf' shelf'' : H)
+      (before between : Option (List ℕ)) (heard heard' : Option (List Told))
+      (it : SoFar all requests n old mid shelf shelf' before between heard heard')
       (within : n < length requests) (request : Request) (is : request ≡ get_or requests n request)
-      (reply : Result Receipt Refusal) (step : IsApplied g request mid reply new failing fails) where
+      (reply : Result Receipt Refusal) (step : IsApplied g request mid reply new (Fails shelf') (Fails shelf''))
+      (one : IsStepWith g Asks Takes Fails request mid reply new shelf' shelf'')
+      (same : step.step.gone ≡ one.step.gone) where
     counted_more : length (it.replies ++ reply ∷ []) ≡ n + 1
     counted_more = length-append it.replies (reply ∷ []) ∙ ap (λ k. k + 1) it.counted
 
-    ran_more : IsRun g (take (n + 1) requests) old (it.replies ++ reply ∷ []) new failed fails
+    ran_more : IsRunWith g Asks Takes Fails (take (n + 1) requests) old (it.replies ++ reply ∷ []) new (Fails shelf)
+        (Fails shelf'') shelf shelf''
     ran_more =
         let more : take (n + 1) requests ≡ take n requests ++ request ∷ [] =
         take_more requests n request within ∙ ap (λ x. take n requests ++ x ∷ []) (sym is) in
-        subst (λ qs. IsRun g qs old (it.replies ++ reply ∷ []) new failed fails) (sym more)
-        (run_more g (take n requests) request old mid new it.replies reply failed failing fails it.ran step)
+        subst (λ qs. IsRunWith g Asks Takes Fails qs old (it.replies ++ reply ∷ []) new (Fails shelf) (Fails shelf'')
+        shelf shelf'') (sym more)
+        (more_with g Asks Takes Fails (take n requests) request old mid new it.replies reply (Fails shelf)
+        (Fails shelf') (Fails shelf'') shelf shelf' shelf'' it.ran step one same)
 
-    ran_so : IsRun g (take (length (it.replies ++ reply ∷ [])) requests) old (it.replies ++ reply ∷ []) new failed
-        fails
-    ran_so = subst (λ k. IsRun g (take k requests) old (it.replies ++ reply ∷ []) new failed fails)
-        (sym counted_more)
-        ran_more
+    ran_so : IsRunWith g Asks Takes Fails (take (length (it.replies ++ reply ∷ [])) requests) old
+        (it.replies ++ reply ∷ []) new (Fails shelf) (Fails shelf'') shelf shelf''
+    ran_so = subst (λ k. IsRunWith g Asks Takes Fails (take k requests) old (it.replies ++ reply ∷ []) new
+        (Fails shelf) (Fails shelf'') shelf shelf'') (sym counted_more) ran_more
 
     lines : report_lines 1 requests (it.replies ++ reply ∷ []) ≡ report_lines 1 requests it.replies
         ++ report_line (n + 1) request.id reply
@@ -94,102 +120,147 @@ module _ {S : Type 0} (g : Ghosts S) where
       all_written line = rw lines (Appends-trans before between after (report_lines 1 requests it.replies)
           (report_line (n + 1) request.id reply) it.written line)
 
-      -- one more, and the import goes on
-      pub one_more : Appends between after (report_line (n + 1) request.id reply) → GoesOn reply
-          → SoFar requests (n + 1) old new failed fails before after
-      one_more line goes = record {
-        replies = it.replies ++ reply ∷ [];
-        counted = counted_more;
-        ran = ran_more;
-        goes_on = All-snoc GoesOn it.replies reply it.goes_on goes;
-        written = all_written line;
-      }
+      module _ (heard'' : Option (List Told)) where
+        all_told : Tells heard' heard'' ((n + 1, (all, reply)) ∷ [])
+            → Tells heard heard'' (told_from all 1 (it.replies ++ reply ∷ []))
+        all_told more = one_told all n it.replies reply heard heard' heard'' it.counted it.told more
 
-      -- one more, which ends it
-      pub stopped : (fault : Fault) → reply ≡ Err (fault_refusal fault)
-          → Appends between after (report_line (n + 1) request.id reply)
-          → IsReported g requests old new failed fails before after (Err (Stopped (n + 1) fault))
-      stopped fault end line = record {
-        replies = it.replies ++ reply ∷ [];
-        some = some;
-        ran = ran_so;
-        written = (sym counted_more, (it.replies, ap (λ r. it.replies ++ r ∷ []) end, it.goes_on), all_written line);
-      }
+        -- one more, and the import goes on
+        pub one_more : Appends between after (report_line (n + 1) request.id reply) → GoesOn reply
+            → Tells heard' heard'' ((n + 1, (all, reply)) ∷ [])
+            → SoFar all requests (n + 1) old new shelf shelf'' before after heard heard''
+        one_more line goes more = record {
+          replies = it.replies ++ reply ∷ [];
+          counted = counted_more;
+          ran = ran_more;
+          goes_on = All-snoc GoesOn it.replies reply it.goes_on goes;
+          written = all_written line;
+          told = all_told more;
+        }
 
-      -- its line could not be written whole
+        -- one more, which ends it
+        pub stopped : (fault : Fault) → reply ≡ Err (fault_refusal fault)
+            → Appends between after (report_line (n + 1) request.id reply)
+            → Tells heard' heard'' ((n + 1, (all, reply)) ∷ [])
+            → IsReportedWith g Asks Takes Fails all requests old new shelf shelf'' before after heard heard''
+            (Err (Stopped (n + 1) fault))
+        stopped fault end line more = (
+          record {
+            replies = it.replies ++ reply ∷ [];
+            some = some;
+            ran = ran_so.run;
+            written = (
+              sym counted_more,
+              (it.replies, ap (λ r. it.replies ++ r ∷ []) end, it.goes_on),
+              all_written line,
+            );
+          },
+          record { uses = ran_so.uses; told = all_told more },
+        )
+
+      -- its line could not be written whole, and it was not told
       pub unwritten : WentOut between after (report_line (n + 1) request.id reply)
-          → IsReported g requests old new failed fails before after (Err Unwritten)
-      unwritten line = record {
-        replies = it.replies ++ reply ∷ [];
-        some = some;
-        ran = ran_so;
-        written = subst (λ sent. WentOutPast sent before after (report_lines 1 requests (it.replies ++ reply ∷ [])))
-            (sym (ap (report_lines 1 requests) (all_but_last it.replies reply)))
-            (rw lines (went_out_past before between after (report_lines 1 requests it.replies)
-            (report_line (n + 1) request.id reply) it.written line));
-      }
+          → IsReportedWith g Asks Takes Fails all requests old new shelf shelf'' before after heard heard'
+          (Err Unwritten)
+      unwritten line = (
+        record {
+          replies = it.replies ++ reply ∷ [];
+          some = some;
+          ran = ran_so.run;
+          written = subst (λ sent. WentOutPast sent before after
+              (report_lines 1 requests (it.replies ++ reply ∷ [])))
+              (sym (ap (report_lines 1 requests) (all_but_last it.replies reply)))
+              (rw lines (went_out_past before between after (report_lines 1 requests it.replies)
+              (report_line (n + 1) request.id reply) it.written line));
+        },
+        record {
+          uses = ran_so.uses;
+          told = subst (λ rs. Tells heard heard' (told_from all 1 rs)) (sym (all_but_last it.replies reply)) it.told;
+        },
+      )
 
   -- nothing yet
-  pub none_yet : (requests : List Request) (seen : Seen S) (failed : ℕ) (at : Option (List ℕ))
-      → SoFar requests 0 seen seen failed failed at at
+  pub none_yet : (all : ℕ) (requests : List Request) (seen : Seen S) (shelf : H) (at : Option (List ℕ))
+      (heard : Option (List Told)) → SoFar all requests 0 seen seen shelf shelf at at heard heard
   unfolding report_lines
-  none_yet requests seen failed at = record {
+  none_yet all requests seen shelf at heard = record {
     replies = [];
     counted = refl;
-    ran = run_none g seen failed;
+    ran = none_with g Asks Takes Fails seen (Fails shelf) shelf;
     goes_on = tt;
     written = Appends-nil at;
+    told = no_reply_told all heard;
   }
+
+  -- all of them
+  pub all_reported : (all : ℕ) (requests : List Request) (n : ℕ) (old new : Seen S) (shelf shelf' : H)
+      (before after : Option (List ℕ)) (heard heard' : Option (List Told))
+      → SoFar all requests n old new shelf shelf' before after heard heard' → n ≡ length requests
+      → (x : Unit {0})
+      → IsReportedWith g Asks Takes Fails all requests old new shelf shelf' before after heard heard' (Ok x)
+  all_reported all requests n old new shelf shelf' before after heard heard' it whole x =
+      let ran : IsRunWith g Asks Takes Fails (take (length it.replies) requests) old it.replies new (Fails shelf)
+      (Fails shelf') shelf shelf' =
+      subst (λ k. IsRunWith g Asks Takes Fails (take k requests) old it.replies new (Fails shelf) (Fails shelf')
+      shelf shelf') (sym it.counted) it.ran in (
+        record {
+          replies = it.replies;
+          some = omega (arith, it.counted, whole);
+          ran = ran.run;
+          written = (it.counted ∙ whole, it.goes_on, it.written);
+        },
+        record { uses = ran.uses; told = it.told },
+      )
 
   -- the header before the lines
-  pub after_header : (requests : List Request) (old new : Seen S) (failed fails : ℕ)
-      (before mid after : Option (List ℕ)) (r : Result (Unit {0}) ImportFault) → Appends before mid report_header
-      → IsReported g requests old new failed fails mid after r
-      → IsImported g requests old new failed fails before after r
-  after_header requests old new failed fails before mid after (Ok x) header it = record {
-    replies = it.replies;
-    some = it.some;
-    ran = it.ran;
-    written = (
-      it.written.0,
-      it.written.1,
-      Appends-trans before mid after report_header
-          (report_lines 1 requests it.replies) header it.written.2,
-    );
-  }
-  after_header requests old new failed fails before mid after (Err (Stopped n fault)) header it = record {
-    replies = it.replies;
-    some = it.some;
-    ran = it.ran;
-    written = (
-      it.written.0,
-      it.written.1,
-      Appends-trans before mid after report_header
-          (report_lines 1 requests it.replies) header it.written.2,
-    );
-  }
-  after_header requests old new failed fails before mid after (Err Unwritten) header it = record {
-    replies = it.replies;
-    some = it.some;
-    ran = it.ran;
-    written = cut_short requests it.replies before mid after header it.written;
-  }
-  after_header requests old new failed fails before mid after (Err (Unread fault)) header it = absurd it.written
+  pub after_header : (all : ℕ) (requests : List Request) (old new : Seen S) (shelf shelf' : H)
+      (before mid after : Option (List ℕ)) (heard heard' : Option (List Told)) (r : Result (Unit {0}) ImportFault)
+      → Appends before mid report_header
+      → IsReportedWith g Asks Takes Fails all requests old new shelf shelf' mid after heard heard' r
+      → IsImportedWith g Asks Takes Fails all requests old new shelf shelf' before after heard heard' r
+  after_header all requests old new shelf shelf' before mid after heard heard' r header it = (
+    record {
+      replies = it.0.replies;
+      some = it.0.some;
+      ran = it.0.ran;
+      written = written_after requests it.0.replies before mid after r header it.0.written;
+    },
+    record { uses = it.1.uses; told = it.1.told },
+  )
 
   -- the header that could not be written whole
-  pub header_unwritten : (requests : List Request) (seen : Seen S) (failed : ℕ) (before after : Option (List ℕ))
-      → WentOut before after report_header → IsImported g requests seen seen failed failed before after
-      (Err Unwritten)
-  header_unwritten requests seen failed before after header =
-      record {
-        replies = [];
-        some = omega arith;
-        ran = run_none g seen failed;
-        written = let all :
-            WentOut before after (report_of requests []) = went_out_of before after report_header
-            (report_lines 1 requests []) header in (all.0, omega arith, all.1, all.2);
-      }
+  pub header_unwritten : (all : ℕ) (requests : List Request) (seen : Seen S) (shelf : H)
+      (before after : Option (List ℕ)) (heard : Option (List Told)) → WentOut before after report_header
+      → IsImportedWith g Asks Takes Fails all requests seen seen shelf shelf before after heard heard (Err Unwritten)
+  header_unwritten all requests seen shelf before after heard header =
+      let none : IsRunWith g Asks Takes Fails [] seen [] seen (Fails shelf) (Fails shelf) shelf shelf =
+      none_with g Asks Takes Fails seen (Fails shelf) shelf in (
+        record {
+          replies = [];
+          some = omega arith;
+          ran = none.run;
+          written = let whole :
+              WentOut before after (report_of requests []) = went_out_of before after report_header
+              (report_lines 1 requests []) header in (whole.0, omega arith, whole.1, whole.2);
+        },
+        record { uses = none.uses; told = none_told all heard },
+      )
 
+  -- an import of a list that was read, with its shelf and its teller
+  pub imported_with : (text : Option (List ℕ)) (requests : List Request) (old new : Seen S) (shelf shelf' : H)
+      (before after : Option (List ℕ)) (heard heard' : Option (List Told)) (r : Result (Unit {0}) ImportFault)
+      → IfSome text (λ t. IsList t requests)
+      → IsImportedWith g Asks Takes Fails (length requests) requests old new shelf shelf' before after heard heard' r
+      → ImportsWith g Asks Takes Fails text old new shelf shelf' before after heard heard' r
+  imported_with text requests old new shelf shelf' before after heard heard' (Ok x) list it = (requests, list, it)
+  imported_with text requests old new shelf shelf' before after heard heard' (Err (Stopped n fault)) list it =
+      (requests, list, it)
+  imported_with text requests old new shelf shelf' before after heard heard' (Err Unwritten) list it =
+      (requests, list, it)
+  imported_with text requests old new shelf shelf' before after heard heard' (Err (Unread fault)) list it =
+      absurd it.0.written
+
+module _ {S : Type 0} (g : Ghosts S) where
   -- an import of a list that was read
   pub imported : {W : Type 0} (text : Option (List ℕ)) (requests : List Request) (old new : Seen S)
       (failed fails : ℕ)

@@ -1,20 +1,26 @@
--- What is told grows by one count after the other.
-use Rattle.std.proofs.Common.{◌≡◌, ◌∙◌, refl, ℕ, ◌+◌, suc, List, [], ◌∷◌, ◌++◌, length}
-use Rattle.std.proofs.Common.{Option, Some, None, IfSome}
-use Rattle.std.proofs.Common.{Result, Ok, Err, ap, sym, subst, append_assoc, append-nil, arith}
-use Rattle.sheet_types.specs.declared.command.Request.{Request}
-use Rattle.request_csv.specs.RequestLists.{IsList}
-use Rattle.manifest_csv.specs.Progress.{AreTold, IsTold, Tells, counts}
-use Rattle.manifest_csv.specs.declared.importing.ImportFault.{ImportFault}
-use Rattle.manifest_csv.specs.declared.importing.ImportFault.TheVariants.{Unread, Stopped, Unwritten}
+-- What is told grows by one reply after the other.
+use Rattle.std.proofs.Common.{◌≡◌, ◌∙◌, ℕ, ◌+◌, List, [], ◌∷◌, ◌++◌, length}
+use Rattle.std.proofs.Common.{Option, Some, None, Result, Err}
+use Rattle.std.proofs.Common.{ap, sym, subst, append_assoc, append-nil, arith}
+use Rattle.sheet_types.specs.declared.receipt.Receipt.{Receipt}
+use Rattle.sheet_types.specs.declared.refusal.Refusal.{Refusal}
+use Rattle.manifest_csv.specs.Progress.{AreTold, Tells, Told, told_from}
+use Rattle.manifest_csv.specs.declared.importing.ImportFault.TheVariants.{Unwritten}
 
 -- nothing yet
-pub nothing_told : (all : ℕ) (known : Option (List (ℕ × ℕ))) → Tells known known (counts all 0)
-unfolding counts
-nothing_told all None = tt
-nothing_told all (Some told) = ap Some (sym (append-nil told))
+pub nothing_told : (known : Option (List Told)) → Tells known known []
+nothing_told None = tt
+nothing_told (Some told) = ap Some (sym (append-nil told))
 
-tells_more : (before between after : Option (List (ℕ × ℕ))) (first then : List (ℕ × ℕ))
+pub no_reply_told : (all : ℕ) (known : Option (List Told)) → Tells known known (told_from all 1 [])
+unfolding told_from
+no_reply_told all known = nothing_told known
+
+-- nor where the header could not be written
+pub none_told : (all : ℕ) (known : Option (List Told)) → AreTold all [] known known (Err Unwritten)
+none_told all known = no_reply_told all known
+
+tells_more : (before between after : Option (List Told)) (first then : List Told)
     → Tells before between first
     → Tells between after then → Tells before after (first ++ then)
 tells_more None between after first then one two = tt
@@ -22,23 +28,26 @@ tells_more (Some told) between after first then one two =
     let grown : after ≡ Some ((told ++ first) ++ then) = subst (λ b. Tells b after then) one two in
     grown ∙ ap Some (append_assoc told first then)
 
-one_more : (all n : ℕ) → counts all (n + 1) ≡ counts all n ++ ((n + 1, all) ∷ [])
-unfolding counts
-one_more all n = let next : n + 1 ≡ suc n = omega arith in rw next refl
+one_more : (all n : ℕ) (replies : List (Result Receipt Refusal)) (reply : Result Receipt Refusal)
+    → told_from all n (replies ++ reply ∷ [])
+    ≡ told_from all n replies ++ ((n + length replies, (all, reply)) ∷ [])
+unfolding told_from
+one_more all n [] reply =
+    let zero_more : n ≡ n + 0 = omega arith in
+    ap (λ k. (k, (all, reply)) ∷ []) zero_more
+one_more all n (first ∷ replies) reply =
+    let later : n + 1 + length replies ≡ n + length (first ∷ replies) = omega arith in
+    ap (λ l. (n, (all, first)) ∷ l) (one_more all (n + 1) replies reply
+    ∙ ap (λ k. told_from all (n + 1) replies ++ ((k, (all, reply)) ∷ [])) later)
 
 -- and one more
-pub one_told : (all n : ℕ) (before between after : Option (List (ℕ × ℕ))) → Tells before between (counts all n)
-    → Tells between after ((n + 1, all) ∷ []) → Tells before after (counts all (n + 1))
-one_told all n before between after so_far more = subst (Tells before after) (sym (one_more all n))
-    (tells_more before between after (counts all n) ((n + 1, all) ∷ []) so_far more)
-
--- what is told of the requests of a list
-pub told_of : (text : Option (List ℕ)) (requests : List Request) (before after : Option (List (ℕ × ℕ)))
-    (r : Result (Unit {0}) ImportFault) → IfSome text (λ t. IsList t requests)
-    → AreTold (length requests) before after r → IsTold text before after r
-unfolding counts
-told_of text requests before after (Ok x) list told = (requests, list, told)
-told_of text requests before after (Err (Stopped n fault)) list told = (requests, list, told)
-told_of text requests before after (Err Unwritten) list told = (requests, list, told)
-told_of text requests before after (Err (Unread fault)) list told =
-    subst (λ n. Tells before after (counts (length requests) n)) told.1 told.2
+pub one_told : (all done : ℕ) (replies : List (Result Receipt Refusal)) (reply : Result Receipt Refusal)
+    (before between after : Option (List Told)) → length replies ≡ done
+    → Tells before between (told_from all 1 replies)
+    → Tells between after ((done + 1, (all, reply)) ∷ [])
+    → Tells before after (told_from all 1 (replies ++ reply ∷ []))
+one_told all done replies reply before between after counted so_far more =
+    let number : done + 1 ≡ 1 + length replies = omega (arith, counted) in
+    subst (Tells before after) (sym (one_more all 1 replies reply))
+    (tells_more before between after (told_from all 1 replies) ((1 + length replies, (all, reply)) ∷ []) so_far
+    (subst (λ k. Tells between after ((k, (all, reply)) ∷ [])) number more))

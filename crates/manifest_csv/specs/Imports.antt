@@ -4,6 +4,7 @@ use Rattle.std.specs.Prelude.{Some, None, Result, Ok, Err, IfSome}
 use Rattle.std.specs.Prelude.{length, take}
 use Rattle.std.specs.List.{AllByRecursion}
 use Rattle.std.specs.Io.KnownBytes.{Appends}
+use Rattle.sqlite.specs.Held.{Held}
 use Rattle.sqlite.specs.Store.{Ghosts}
 use Rattle.package_tables.specs.declared.fault.Fault.{Fault}
 use Rattle.sheet_types.specs.Step.{IsFault}
@@ -11,11 +12,12 @@ use Rattle.sheet_types.specs.declared.command.Request.{Request}
 use Rattle.sheet_types.specs.declared.receipt.Receipt.{Receipt}
 use Rattle.sheet_types.specs.declared.refusal.Refusal.{Refusal}
 use Rattle.register_lending.specs.Faults.{fault_refusal}
-use Rattle.world.specs.Asked.{IsUsedForEach}
+use Rattle.world.specs.Asked.{AreStepsWith}
 use Rattle.world.specs.Worlds.{Seen, IsRun}
 use Rattle.request_csv.specs.RequestLists.{IsList, MeetsFirst}
 use Rattle.request_csv.specs.declared.lists.ReadFault.{ReadFault}
 use Rattle.request_csv.specs.declared.lists.ReadFault.TheVariants.{Read, Memory}
+use Rattle.manifest_csv.specs.Progress.{AreTold, Tells, Told}
 use Rattle.manifest_csv.specs.Reports.{report_header, report_lines, report_of}
 use Rattle.manifest_csv.specs.Sent.{WentOutPast}
 use Rattle.manifest_csv.specs.declared.importing.ImportFault.{ImportFault}
@@ -63,23 +65,6 @@ IsWhyUnread text fault = (fault ≡ Read) ⊎ (fault ≡ Memory) ⊎ IfSome text
 abbrev pub IsListOf : List Request → (Option (List ℕ) → Type 0) → Type 0
 IsListOf requests of = (text : Option (List ℕ)) → IfSome text (λ t. IsList t requests) → of text
 
--- What a shelf was used for by the list that a text is: for each of its requests in turn it was asked for what that one
--- asks to be made, or given back what it takes home, or neither.
-abbrev pub UsesOfList : {S H : Type 0} → (List ℕ → H → H → Type 0)
-    → (List ℕ → S → H → H → Type 0) → Option (List ℕ)
-    → H → H → Type 0
-UsesOfList Asks Takes text before after = (requests : List Request) × IfSome text (λ t. IsList t requests)
-    × IsUsedForEach Asks Takes requests before after
-
--- The same of an import of the text. By one that is not read it was not used.
-abbrev pub UsesOf : {S H : Type 0} → (List ℕ → H → H → Type 0) → (List ℕ → S → H → H → Type 0)
-    → Option (List ℕ) → H
-    → H → Result (Unit {0}) ImportFault → Type 0
-UsesOf Asks Takes text before after (Err (Unread fault)) = after ≡ before
-UsesOf Asks Takes text before after (Err (Stopped n fault)) = UsesOfList Asks Takes text before after
-UsesOf Asks Takes text before after (Err Unwritten) = UsesOfList Asks Takes text before after
-UsesOf Asks Takes text before after (Ok x) = UsesOfList Asks Takes text before after
-
 module _ {S : Type 0} (g : Ghosts S) where
   -- The first of the requests were carried out, one after the other, with a shelf that had failed so often before and
   -- after, and their lines were written.
@@ -126,3 +111,42 @@ module _ {S : Type 0} (g : Ghosts S) where
       IsImported requests old new failed fails before after (Err Unwritten)
   IsCarried requests old new failed fails before after (Ok x) =
       IsImported requests old new failed fails before after (Ok x)
+
+  module _ {H : Type 0} (Asks : List ℕ → H → H → Type 0) (Takes : List ℕ → S → H → H → Type 0)
+      (Fails : H → ℕ) where
+    -- What goes with the replies of a run: step by step, what the shelf was asked for and given back; and what the
+    -- teller was told, of so many requests. A step that ends in a refusal, or in a receipt that was there before, does
+    -- not use the shelf.
+    pub record GoesWith (all : ℕ) (requests : List Request) (old new : Seen S)
+        (replies : List (Result Receipt Refusal))
+        (gone : List (Held S)) (shelf shelf' : H) (heard heard' : Option (List Told))
+        (r : Result (Unit {0}) ImportFault) : Type 0 where
+      pub uses : AreStepsWith g Asks Takes Fails requests old replies new gone shelf shelf'
+      pub told : AreTold all replies heard heard' r
+
+    -- The first of the requests were carried out and their lines written, and that goes with this run of them.
+    abbrev pub IsReportedWith : ℕ → List Request → Seen S → Seen S → H → H → Option (List ℕ)
+        → Option (List ℕ)
+        → Option (List Told) → Option (List Told) → Result (Unit {0}) ImportFault → Type 0
+    IsReportedWith all requests old new shelf shelf' before after heard heard' r =
+        (it : IsReported requests old new (Fails shelf) (Fails shelf') before after r)
+        × GoesWith all (take (length it.replies) requests) old new it.replies it.ran.gone shelf shelf' heard heard' r
+
+    -- The same with the header line before.
+    abbrev pub IsImportedWith : ℕ → List Request → Seen S → Seen S → H → H → Option (List ℕ)
+        → Option (List ℕ)
+        → Option (List Told) → Option (List Told) → Result (Unit {0}) ImportFault → Type 0
+    IsImportedWith all requests old new shelf shelf' before after heard heard' r =
+        (it : IsImported requests old new (Fails shelf) (Fails shelf') before after r)
+        × GoesWith all (take (length it.replies) requests) old new it.replies it.ran.gone shelf shelf' heard heard' r
+
+    -- An import of a text, with its shelf and its teller. By a list that is not read the shelf is not used, and the
+    -- teller is told nothing.
+    abbrev pub ImportsWith : Option (List ℕ) → Seen S → Seen S → H → H → Option (List ℕ)
+        → Option (List ℕ)
+        → Option (List Told) → Option (List Told) → Result (Unit {0}) ImportFault → Type 0
+    ImportsWith text old new shelf shelf' before after heard heard' (Err (Unread fault)) = (shelf' ≡ shelf)
+        × Tells heard heard' []
+    ImportsWith text old new shelf shelf' before after heard heard' r = (requests : List Request)
+        × IfSome text (λ t. IsList t requests)
+        × IsImportedWith (length requests) requests old new shelf shelf' before after heard heard' r

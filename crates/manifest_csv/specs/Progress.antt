@@ -1,38 +1,34 @@
 -- What is told of an import while it goes on. Profile.
-use Rattle.std.specs.Prelude.{◌≡◌, ◌≤◌, ℕ, zero, suc, List, [], ◌∷◌, ◌++◌, length, Option}
-use Rattle.std.specs.Prelude.{Some, None, Result, Ok}
-use Rattle.std.specs.Prelude.{Err, IfSome}
-use Rattle.sheet_types.specs.declared.command.Request.{Request}
-use Rattle.request_csv.specs.RequestLists.{IsList}
+use Rattle.std.specs.Prelude.{◌≡◌, ◌-◌, ◌+◌, ℕ, List, [], ◌∷◌, ◌++◌, length, take, Option}
+use Rattle.std.specs.Prelude.{Some, None, Result, Ok, Err}
+use Rattle.sheet_types.specs.declared.receipt.Receipt.{Receipt}
+use Rattle.sheet_types.specs.declared.refusal.Refusal.{Refusal}
 use Rattle.manifest_csv.specs.declared.importing.ImportFault.{ImportFault}
 use Rattle.manifest_csv.specs.declared.importing.ImportFault.TheVariants.{Unread, Stopped, Unwritten}
 
--- that 1, 2, 3 and so on up to n of so many are done
-unfoldable pub counts : ℕ → ℕ → List (ℕ × ℕ)
-counts all zero = []
-counts all (suc n) = counts all n ++ ((suc n, all) ∷ [])
+-- What is told of one request: that so many of so many are done, and the reply to the last of them.
+abbrev pub Told : Type 0
+Told = ℕ × (ℕ × Result Receipt Refusal)
+
+-- What is told of the replies to requests of a list of so many, in turn. The first is that of the n-th request.
+unfoldable pub told_from : ℕ → ℕ → List (Result Receipt Refusal) → List Told
+told_from all n [] = []
+told_from all n (reply ∷ replies) = (n, (all, reply)) ∷ told_from all (n + 1) replies
 
 -- What a teller was told is followed by this, where it is known what it was told.
-abbrev pub Tells : Option (List (ℕ × ℕ)) → Option (List (ℕ × ℕ)) → List (ℕ × ℕ) → Type 0
+abbrev pub Tells : Option (List Told) → Option (List Told) → List Told → Type 0
 Tells None after said = Unit {0}
 Tells (Some before) after said = after ≡ Some (before ++ said)
 
--- how many of so many requests are told as done: each of which the line was written
-abbrev pub IsCount : ℕ → ℕ → Result (Unit {0}) ImportFault → Type 0
-IsCount all n (Ok x) = n ≡ all
-IsCount all n (Err (Stopped k fault)) = n ≡ k
-IsCount all n (Err Unwritten) = n ≤ all
-IsCount all n (Err (Unread fault)) = n ≡ 0
+-- The replies of which the lines were written: all, or all but the last where the writer failed.
+abbrev pub written_of : List (Result Receipt Refusal) → Result (Unit {0}) ImportFault
+    → List (Result Receipt Refusal)
+written_of replies (Ok x) = replies
+written_of replies (Err (Stopped n fault)) = replies
+written_of replies (Err Unwritten) = take (length replies - 1) replies
+written_of replies (Err (Unread fault)) = []
 
--- of so many requests some were told as done, one after the other
-abbrev pub AreTold : ℕ → Option (List (ℕ × ℕ)) → Option (List (ℕ × ℕ))
+-- Of an import of so many requests with these replies each is told of which the line was written, and no other.
+abbrev pub AreTold : ℕ → List (Result Receipt Refusal) → Option (List Told) → Option (List Told)
     → Result (Unit {0}) ImportFault → Type 0
-AreTold all before after r = (n : ℕ) × IsCount all n r × Tells before after (counts all n)
-
--- the same of the requests of a list; of none that is read, nothing is told
-abbrev pub IsTold : Option (List ℕ) → Option (List (ℕ × ℕ)) → Option (List (ℕ × ℕ))
-    → Result (Unit {0}) ImportFault
-    → Type 0
-IsTold text before after (Err (Unread fault)) = Tells before after []
-IsTold text before after r = (requests : List Request) × IfSome text (λ t. IsList t requests)
-    × AreTold (length requests) before after r
+AreTold all replies before after r = Tells before after (told_from all 1 (written_of replies r))

@@ -1,9 +1,7 @@
 //! A request list, carried out by a world, and the report of it.
 ghost use Rattle.std.specs.Prelude.{◌≡◌, ◌≤◌, length};
 ghost use Rattle.std.specs.String.{string_capacity};
-ghost use Rattle.world.specs.Asked.{IsUsedForEach};
-ghost use Rattle.manifest_csv.specs.Imports.{UsesOf, IsCarried, IsEndOf, IsListOf, IsReported, Imports};
-ghost use Rattle.manifest_csv.specs.Progress.{AreTold, IsTold};
+ghost use Rattle.manifest_csv.specs.Imports.{Imports, ImportsWith, IsCarried, IsEndOf, IsListOf, IsReportedWith};
 
 use crate::progress::Teller;
 use crate::reports::{header_line, line_buffer, put_line};
@@ -76,11 +74,9 @@ fn report_each<S: Alter + Drop, H: Shelf<S>, W: Write, T: Teller>(
     teller: &mut T,
 ) -> Result<(), ImportFault>
     requires room { 128 ≤ string_capacity buffer.old }
-    ensures reported { IsReported S.Store requests.now world.old world.new
-        (H.failures_of shelf.old) (H.failures_of shelf.new)
-        (W.contents writer.old) (W.contents writer.new) result }
-    ensures told { AreTold (length requests.now) (T.told teller.old) (T.told teller.new) result }
-    ensures uses { IsUsedForEach H.asks H.takes requests.now shelf.old shelf.new }
+    ensures { IsReportedWith S.Store H.asks H.takes H.failures_of (length requests.now) requests.now
+        world.old world.new shelf.old shelf.new (W.contents writer.old) (W.contents writer.new)
+        (T.told teller.old) (T.told teller.new) result }
 {
     for at in 0..requests.len() {
         let request = &requests[at];
@@ -118,8 +114,9 @@ pub fn carry_out<S: Alter + Drop, H: Shelf<S>, W: Write, T: Teller>(
     ensures imported { IsListOf requests.now (λ text. Imports S.Store text world.old world.new
         (H.failures_of shelf.old) (H.failures_of shelf.new)
         writer.old writer.new (W.contents writer.old) (W.contents writer.new) result) }
-    ensures told { IsListOf requests.now (λ text. IsTold text (T.told teller.old) (T.told teller.new) result) }
-    ensures uses { IsListOf requests.now (λ text. UsesOf H.asks H.takes text shelf.old shelf.new result) }
+    ensures along { IsListOf requests.now (λ text. ImportsWith S.Store H.asks H.takes H.failures_of
+        text world.old world.new shelf.old shelf.new (W.contents writer.old) (W.contents writer.new)
+        (T.told teller.old) (T.told teller.new) result) }
 {
     let Ok(mut buffer) = line_buffer(alloc) else {
         return Err(ImportFault::Unread(ReadFault::Memory));
@@ -145,8 +142,9 @@ pub fn import<S: Alter + Drop, H: Shelf<S>, R: Read + Drop, W: Write, T: Teller>
     ensures imported { Imports S.Store (R.remaining reader) world.old world.new
         (H.failures_of shelf.old) (H.failures_of shelf.new)
         writer.old writer.new (W.contents writer.old) (W.contents writer.new) result }
-    ensures told { IsTold (R.remaining reader) (T.told teller.old) (T.told teller.new) result }
-    ensures uses { UsesOf H.asks H.takes (R.remaining reader) shelf.old shelf.new result }
+    ensures along { ImportsWith S.Store H.asks H.takes H.failures_of (R.remaining reader)
+        world.old world.new shelf.old shelf.new (W.contents writer.old) (W.contents writer.new)
+        (T.told teller.old) (T.told teller.new) result }
 {
     let requests = read_requests(alloc, Stream(reader))?;
     carry_out(alloc, world, shelf, requests.as_slice(), writer, teller)

@@ -3,14 +3,13 @@ use Rattle.std.specs.Prelude.{◌≡◌, ◌⊎◌, ◌≤◌, ◌<◌, ℕ, Lis
 use Rattle.std.specs.Prelude.{Result, Ok, Err, IfSome, length, take}
 use Rattle.sqlite.specs.Store.{Ghosts}
 use Rattle.sheet_types.specs.declared.command.Request.{Request}
-use Rattle.world.specs.Asked.{IsUsedForEach}
 use Rattle.world.specs.Worlds.{Seen}
 use Rattle.request_csv.specs.ListReading.{IsBegun, IsListOfSo}
 use Rattle.request_csv.specs.RequestLists.{IsList, MeetsFirst}
 use Rattle.request_csv.specs.declared.lists.ReadFault.{ReadFault}
 use Rattle.request_csv.specs.declared.lists.ReadFault.TheVariants.{Read, Memory}
-use Rattle.manifest_csv.specs.Imports.{Imports, IsImported, IsWhyUnread}
-use Rattle.manifest_csv.specs.Progress.{IsCount, Tells, counts}
+use Rattle.manifest_csv.specs.Imports.{Imports, IsImported, IsImportedWith, IsWhyUnread}
+use Rattle.manifest_csv.specs.Progress.{Tells, Told}
 use Rattle.manifest_csv.specs.declared.importing.ImportFault.{ImportFault}
 use Rattle.manifest_csv.specs.declared.importing.ImportFault.TheVariants.{Unread}
 use Rattle.request_imports.specs.declared.twice.TwiceFault.{TwiceFault}
@@ -44,36 +43,9 @@ Ends text count requests (Err (Broken n fault)) = (length requests ≡ n) × (n 
 abbrev pub BreaksAt : ℕ → TwiceFault → Type 0
 BreaksAt done why = (why ≡ Changed done) ⊎ ((met : ReadFault) × (why ≡ Broken done met))
 
--- how many of so many requests are told as done
-abbrev pub IsCountTwice : ℕ → ℕ → Result (Unit {0}) TwiceFault → Type 0
-IsCountTwice all n (Ok x) = n ≡ all
-IsCountTwice all n (Err (Import fault)) = IsCount all n (Err fault)
-IsCountTwice all n (Err (Changed k)) = n ≡ k
-IsCountTwice all n (Err (Broken k fault)) = n ≡ k
-
-abbrev pub AreToldTwice : ℕ → Option (List (ℕ × ℕ)) → Option (List (ℕ × ℕ))
-    → Result (Unit {0}) TwiceFault → Type 0
-AreToldTwice all before after r = (n : ℕ) × IsCountTwice all n r × Tells before after (counts all n)
-
 -- a list was not read, at the first reading or at its header at the second
 abbrev pub WasUnread : Result (Unit {0}) TwiceFault → Type 0
 WasUnread r = (fault : ReadFault) × (r ≡ Err (Import (Unread fault)))
-
--- the teller is told of the requests that were carried out, and of as many in all as the first reading had
-abbrev pub IsToldTwice : Option (List ℕ) → Option (List (ℕ × ℕ)) → Option (List (ℕ × ℕ))
-    → Result (Unit {0}) TwiceFault → Type 0
-IsToldTwice text before after r = (WasUnread r × Tells before after [])
-    ⊎ ((count : ℕ) × IsListOfSo count text × AreToldTwice count before after r)
-
--- The shelf was used for the requests that were carried out, in turn, and for nothing else; by a list that was not
--- read it was not used.
-abbrev pub UsesTwice : {S H : Type 0} → (List ℕ → H → H → Type 0)
-    → (List ℕ → S → H → H → Type 0) → Option (List ℕ)
-    → H → H
-    → Result (Unit {0}) TwiceFault → Type 0
-UsesTwice Asks Takes again before after r = (WasUnread r × (after ≡ before))
-    ⊎ ((requests : List Request) × IfSome again (λ t. IsBegun t requests)
-    × IsUsedForEach Asks Takes requests before after)
 
 module _ {S : Type 0} (g : Ghosts S) where
   -- Of a first and a second text: where either is not read, nothing is carried out and nothing is written. Else the
@@ -87,6 +59,18 @@ module _ {S : Type 0} (g : Ghosts S) where
       × (new ≡ old) × (fails ≡ failed) × (writer' ≡ writer))
       ⊎ ((count : ℕ) × IsListOfSo count text × ((requests : List Request) × Ends again count requests r
       × IsImported g requests old new failed fails before after (as_import r)))
+
+  -- The same with its shelf and its teller, of one run. The teller is told of as many requests in all as the first text
+  -- has. By a list that was not read the shelf was not used, and the teller was told nothing.
+  abbrev pub ImportsTwiceWith : {H : Type 0} → (List ℕ → H → H → Type 0)
+      → (List ℕ → S → H → H → Type 0)
+      → (H → ℕ) → Option (List ℕ) → Option (List ℕ) → Seen S → Seen S → H → H → Option (List ℕ)
+      → Option (List ℕ)
+      → Option (List Told) → Option (List Told) → Result (Unit {0}) TwiceFault → Type 0
+  ImportsTwiceWith Asks Takes Fails text again old new shelf shelf' before after heard heard' r =
+      (WasUnread r × (shelf' ≡ shelf) × Tells heard heard' [])
+      ⊎ ((count : ℕ) × IsListOfSo count text × ((requests : List Request) × Ends again count requests r
+      × IsImportedWith g Asks Takes Fails count requests old new shelf shelf' before after heard heard' (as_import r)))
 
   -- What an import makes of a list that is the same at both readings: what one of a list that is held makes, or the
   -- second reading broke off, by a reader that failed or by want of memory, and so many of its first requests were

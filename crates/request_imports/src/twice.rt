@@ -3,11 +3,9 @@ ghost use Rattle.std.specs.Prelude.{◌≡◌, ◌<◌, ◌≤◌, ◌++◌, ◌
 ghost use Rattle.std.specs.Prelude.{IfErr, length};
 ghost use Rattle.std.specs.String.{string_capacity};
 ghost use Rattle.sheet_types.specs.declared.command.Request.{Request};
-ghost use Rattle.world.specs.Asked.{IsUsedForEach};
 ghost use Rattle.request_csv.specs.ListReading.{Stands};
-ghost use Rattle.manifest_csv.specs.Imports.{IsReported};
-ghost use Rattle.request_imports.specs.Twice.{AreToldTwice, BreaksAt, Ends, ImportsOnce, ImportsTwice, IsToldTwice};
-ghost use Rattle.request_imports.specs.Twice.{UsesTwice, as_import};
+ghost use Rattle.manifest_csv.specs.Imports.{IsReportedWith};
+ghost use Rattle.request_imports.specs.Twice.{BreaksAt, Ends, ImportsOnce, ImportsTwice, ImportsTwiceWith, as_import};
 
 use manifest_csv::importing::{ImportFault, end_of};
 use manifest_csv::progress::Teller;
@@ -108,12 +106,12 @@ fn report_read<S: Alter + Drop, H: Shelf<S>, Q: ListSource + Drop, W: Write, T: 
     teller: &mut T,
 ) -> Result<(), TwiceFault>
     requires room { 128 ≤ string_capacity buffer.old }
-    ensures reported { (requests : List Request)
-        × ((text : Option (List ℕ)) → Stands Q.remaining text list.old [] → Ends text count requests result)
-        × IsUsedForEach H.asks H.takes requests shelf.old shelf.new
-        × IsReported S.Store requests world.old world.new (H.failures_of shelf.old) (H.failures_of shelf.new)
-        (W.contents writer.old) (W.contents writer.new) (as_import result) }
-    ensures told { AreToldTwice count (T.told teller.old) (T.told teller.new) result }
+    ensures { (requests : List Request)
+        × ((text : Option (List ℕ)) → Stands Q.remaining text list.old []
+        → Ends text count requests result)
+        × IsReportedWith S.Store H.asks H.takes H.failures_of count requests world.old world.new
+        shelf.old shelf.new (W.contents writer.old) (W.contents writer.new)
+        (T.told teller.old) (T.told teller.new) (as_import result) }
 {
     for at in 0..count {
         let request = request_after(alloc, list, at)?;
@@ -150,8 +148,9 @@ pub fn import_twice<S: Alter + Drop, H: Shelf<S>, Q: ListSource + Drop, W: Write
     ensures once { Q.remaining first ≡ Q.remaining second → ImportsOnce S.Store (Q.remaining first)
         world.old world.new (H.failures_of shelf.old) (H.failures_of shelf.new)
         writer.old writer.new (W.contents writer.old) (W.contents writer.new) result }
-    ensures told { IsToldTwice (Q.remaining first) (T.told teller.old) (T.told teller.new) result }
-    ensures uses { UsesTwice H.asks H.takes (Q.remaining second) shelf.old shelf.new result }
+    ensures along { ImportsTwiceWith S.Store H.asks H.takes H.failures_of (Q.remaining first)
+        (Q.remaining second) world.old world.new shelf.old shelf.new (W.contents writer.old)
+        (W.contents writer.new) (T.told teller.old) (T.told teller.new) result }
 {
     let count = judge_requests(alloc, first)?;
     let Ok(mut buffer) = line_buffer(alloc) else {
