@@ -36,7 +36,7 @@ module _ {S : Type 0} (g : Ghosts S) {W : Type 0} (writer' : W) (after : Option 
   looked strays old new writer before (look.Receipt id) ending is = told_by g old new (inr is.read)
   looked strays old new writer before (look.Manifest p) ending (told, ends, (r, due, read, is, rest)) =
       told_by g old new (inr read)
-  looked strays old new writer before (look.Export p) ending (told, ends, (r, due, read, is, rest)) =
+  looked strays old new writer before (look.Export p) ending (told, ends, (r, due, read, is, left, opens)) =
       told_by g old new (inr read)
   looked strays old new writer before (look.Map zoom) ending is = told_by g old new is.read
   looked strays old new writer before look.Audit ending (told, same, ends, rest) = same_by g old new same

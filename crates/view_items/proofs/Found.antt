@@ -1,7 +1,7 @@
 -- Items found one after the other, and what is kept of them.
 use Rattle.std.proofs.Common.{◌≡◌, ◌<◌, ◌≤◌, ◌+◌, ◌∙◌, ◌++◌, ◌∷◌, [], Bool, true}
 use Rattle.std.proofs.Common.{false, ℕ, List, Some, unwrap_or, ap}
-use Rattle.std.proofs.Common.{arith, get_or, length, map, subst, sym, take, inl, inr}
+use Rattle.std.proofs.Common.{arith, get_or, length, map, refl, subst, sym, take, inl, inr}
 use Rattle.std.specs.Bool.{then_some}
 use Rattle.std.specs.Prelude.{flat_map}
 use Rattle.std.proofs.lemmas.List.{flat_map_more, get_or-map, length-map, take_all, take_more}
@@ -52,6 +52,17 @@ held_if : (b : Bool) (held : List Item × List Relation) (items : List Item) (li
     → (items ≡ held.0) × (links ≡ held.1)
 held_if true held items links e = (ap (λ o. (unwrap_or o held).0) e, ap (λ o. (unwrap_or o held).1) e)
 held_if false held items links e = absurd (cc)
+
+-- what is there is there by its test
+there_if : {X : Type 0} (b : Bool) (x held : X) → Some x ≡ then_some b held → b ≡ true
+there_if true x held e = refl
+there_if false x held e = absurd (cc)
+
+-- what was found is of a live package
+pub live_found : (w : World) (p : List ℕ) (items : List Item) (links : List Relation)
+    → Some (items, links) ≡ holdings_answer w p → is_live w p ≡ true
+live_found w p items links found =
+    there_if (is_live w p) (items, links) ((holdings w p).items, (holdings w p).links) found
 
 -- what was found of a package is what it holds
 pub held_found : (w : World) (p : List ℕ) (items : List Item) (links : List Relation)

@@ -2,6 +2,7 @@
 ghost use Rattle.std.specs.Prelude.{◌≡◌, Some};
 ghost use Rattle.sheet_types.specs.World.{holdings};
 ghost use Rattle.manifest_csv.specs.ByItems.{IsItemOf};
+ghost use Rattle.view_world.specs.Looks.{LeavesOpen};
 ghost use Rattle.world.specs.Worlds.{IsRead, TellsOf};
 
 use manifest_csv::questions::ItemOf;
@@ -27,6 +28,7 @@ pub fn item_in<S: Alter + Drop>(
     ensures told { TellsOf S.Store (λ w item. IsItemOf (holdings w «package») identity (Some item))
         world.old world.new result }
     ensures read { IsRead S.Store world.old world.new }
+    ensures opens { LeavesOpen S.Store world.old world.new result }
 {
     match world.ask(alloc, package, &ItemOf { identity })? {
         Some(Some(item)) => Ok(item),

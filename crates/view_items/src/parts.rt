@@ -1,9 +1,9 @@
 //! What is kept of each item of a live package.
-ghost use Rattle.std.specs.Prelude.{◌≡◌, ◌++◌, IfOk, List, OnOk, flat_map};
-ghost use Rattle.sheet_types.specs.World.{holdings};
+ghost use Rattle.std.specs.Prelude.{◌≡◌, ◌++◌, true, IfOk, List, OnOk, flat_map};
+ghost use Rattle.sheet_types.specs.World.{holdings, is_live};
 ghost use Rattle.sheet_types.specs.declared.command.Item.{Item as ModelItem};
 ghost use Rattle.view_items.specs.Parts.{ArePartsOf, OfTold};
-ghost use Rattle.view_world.specs.Looks.{IsLookedAt};
+ghost use Rattle.view_world.specs.Looks.{IsLookedAt, LeavesOpen};
 ghost use Rattle.world.specs.Worlds.{IsRead, TellsOf};
 
 use crate::finding::item_in;
@@ -48,6 +48,8 @@ fn parts_at_once<S: Alter + Drop, A: Drop, P: Part<A>>(
         (λ w held. ArePartsOf (P.parts part.now) (holdings w «package») held.0.items held.1.items)
         world.old world.new result }
     ensures read { IsRead S.Store world.old world.new }
+    ensures opens { LeavesOpen S.Store world.old world.new result }
+    ensures live { TellsOf S.Store (λ w held. is_live w «package» ≡ true) world.old world.new result }
 {
     let Some((items, links)) = world.holdings(alloc, package)? else {
         return Err(Fault::StoreFault);
@@ -67,6 +69,7 @@ fn parts_told<S: Alter + Drop, A: Drop, P: Part<A>>(
     ensures kept { IfOk result (λ kept. OfTold S.Store «package» told.now world.old world.new
         (λ items. kept.items ≡ flat_map (P.parts part.now) items)) }
     ensures read { IsLookedAt S.Store world.old world.new }
+    ensures opens { LeavesOpen S.Store world.old world.new result }
 {
     let mut kept = Vec::new(alloc);
     for moved in told {
@@ -87,6 +90,8 @@ fn parts_by_items<S: Alter + Drop, A: Drop, P: Part<A>>(
         (λ w held. ArePartsOf (P.parts part.now) (holdings w «package») held.0.items held.1.items)
         world.old world.new result }
     ensures read { IsRead S.Store world.old world.new }
+    ensures opens { LeavesOpen S.Store world.old world.new result }
+    ensures live { TellsOf S.Store (λ w held. is_live w «package» ≡ true) world.old world.new result }
 {
     let Some((told, links)) = world.ask(alloc, package, &ToldHoldings)? else {
         return Err(Fault::StoreFault);
@@ -111,6 +116,8 @@ pub fn parts_in<S: Alter + Drop, A: Drop, P: Part<A>>(
         (λ w held. ArePartsOf (P.parts part.now) (holdings w «package») held.0.items held.1.items)
         world.old world.new result }
     ensures read { IsRead S.Store world.old world.new }
+    ensures opens { LeavesOpen S.Store world.old world.new result }
+    ensures live { TellsOf S.Store (λ w held. is_live w «package» ≡ true) world.old world.new result }
 {
     if is_large(world, package) {
         parts_by_items(alloc, world, package, part)

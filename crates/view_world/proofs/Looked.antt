@@ -1,11 +1,16 @@
 -- A world that is looked at again and again.
-use Rattle.std.proofs.Common.{sym, subst, inl, inr}
+use Rattle.std.proofs.Common.{◌≡◌, sym, subst, inl, inr}
+use Rattle.std.specs.Prelude.{Bool, true, false}
 use Rattle.sqlite.specs.Store.{Ghosts}
 use Rattle.sheet_types.specs.World.{World}
 use Rattle.world_members.specs.Members.{AllClean}
 use Rattle.world.specs.Worlds.{IsRead, Seen, StandsFor}
 use Rattle.world.proofs.WorldsRead.{read_then}
 use Rattle.view_world.specs.Looks.{IsLookedAt}
+
+-- of a world that has not failed nothing is said where it has
+pub not_failed : {X : Type 0} (failed : Bool) → failed ≡ false → failed ≡ true → X
+not_failed failed passed is = absurd (cc)
 
 module _ {S : Type 0} (g : Ghosts S) where
   pub looked_then : (a b c : Seen S) → IsLookedAt g a b → IsLookedAt g b c → IsLookedAt g a c

@@ -5,7 +5,7 @@ ghost use Rattle.view_history.specs.Told.{ledger_of};
 ghost use Rattle.view_json.specs.Forms.{told_excerpt};
 ghost use Rattle.sheet_types.specs.World.{receipts_of};
 ghost use Rattle.world.specs.Worlds.{TellsOf};
-ghost use Rattle.view_world.specs.Looks.{Asks, IsLookedAt, LooksInto};
+ghost use Rattle.view_world.specs.Looks.{Asks, IsLookedAt, LeavesOpen, LooksInto};
 ghost use Rattle.view_world.specs.Told.{log_text};
 
 use crate::asking::ask_each;
@@ -89,6 +89,7 @@ pub fn ledger_in<S: Alter + Drop>(
 ) -> Result<Vec<Receipt>, Fault>
     ensures told { TellsOf S.Store (λ w ledger. ledger.items ≡ receipts_of w) world.old world.new result }
     ensures read { IsLookedAt S.Store world.old world.new }
+    ensures opens { LeavesOpen S.Store world.old world.new result }
 {
     let lists = ask_each(alloc, world, &ReceiptsOf)?;
     let all = all_of(alloc, lists)?;
@@ -110,6 +111,7 @@ pub fn log_text_in<S: Alter + Drop>(
     ensures told { TellsOf S.Store (λ w text. string_bytes text ≡ log_text form w excerpt.now) world.old
         world.new result }
     ensures read { IsLookedAt S.Store world.old world.new }
+    ensures opens { LeavesOpen S.Store world.old world.new result }
 {
     let ledger = ledger_in(alloc, world)?;
     let told = told_excerpt(alloc, form, &ledger, excerpt)?;

@@ -1,13 +1,14 @@
 //! The live packages of a world.
-ghost use Rattle.std.specs.Prelude.{◌≡◌, length, map, string_bytes, IfOk, MatchResult, OnOk, Some};
+ghost use Rattle.std.specs.Prelude.{◌≡◌, length, map, string_bytes, true, Err, IfOk, MatchResult, OnOk, Some};
 ghost use Rattle.sheet_types.specs.World.{World as ModelWorld};
 ghost use Rattle.sheet_types.specs.Answers.{sums_of};
+ghost use Rattle.package_tables.specs.declared.fault.Fault.TheVariants.{StoreFault};
 ghost use Rattle.view_history.specs.Stores.{AreAtRest, AsksStores};
 ghost use Rattle.sheet_types.specs.World.{receipts_of};
 ghost use Rattle.view_history.specs.Told.{moment_of};
 ghost use Rattle.world.specs.Worlds.{StandsFor, TellsOf};
 ghost use Rattle.view_world.specs.Kept.{AreAsked, AreKept};
-ghost use Rattle.view_world.specs.Looks.{Asks, IsLookedAt, LooksInto};
+ghost use Rattle.view_world.specs.Looks.{Asks, IsLookedAt, LeavesOpen, LooksInto};
 ghost use Rattle.view_world.specs.Told.{package_rows, status_text};
 
 use crate::asking::ask_each;
@@ -57,10 +58,11 @@ fn sums_of<S: Alter + Drop>(
 ///
 /// # Errors
 ///
-/// Want of memory, or a world that has failed.
+/// Want of memory, or a world that has failed: that is a store fault.
 pub fn kept_of<S: Alter + Drop>(alloc: Global, world: &World<S>) -> Result<Kept, Fault>
-    ensures { IfOk result (λ kept. (w : ModelWorld) → StandsFor S.Store world.now w
+    ensures kept { IfOk result (λ kept. (w : ModelWorld) → StandsFor S.Store world.now w
         → AreKept w kept.sights.items kept.sums.items) }
+    ensures failed { world.now.has_failed ≡ true → result ≡ Err StoreFault }
 {
     usable(world)?;
     let sights = world.packages(alloc)?;
@@ -190,6 +192,7 @@ fn moment_in<S: Alter + Drop>(
 ) -> Result<Option<Text>, Fault>
     ensures told { TellsOf S.Store (λ w found. found ≡ moment_of (receipts_of w) number) world.old world.new result }
     ensures read { IsLookedAt S.Store world.old world.new }
+    ensures opens { LeavesOpen S.Store world.old world.new result }
 {
     let found = ask_each(alloc, world, &MomentOf { number })?;
     Ok(first_found(found))
@@ -205,6 +208,7 @@ fn moments_in<S: Alter + Drop>(
         (λ w moments. moments.items ≡ map (moment_of (receipts_of w)) numbers.now) world.old
         world.new result }
     ensures read { IsLookedAt S.Store world.old world.new }
+    ensures opens { LeavesOpen S.Store world.old world.new result }
 {
     let mut moments = Vec::new(alloc);
     for at in 0..numbers.len() {
@@ -228,6 +232,7 @@ pub fn status_text_in<S: Alter + Drop>(
     ensures told { TellsOf S.Store (λ w text. string_bytes text ≡ status_text form w strays) world.old
         world.new result }
     ensures read { IsLookedAt S.Store world.old world.new }
+    ensures opens { LeavesOpen S.Store world.old world.new result }
 {
     let kept = kept_of(alloc, world)?;
     let loans: Vec<u64> = ask_each(alloc, world, &LoanOf)?;

@@ -2,6 +2,7 @@
 ghost use Rattle.std.specs.Prelude.{◌≡◌, ◌++◌, ◌∷◌, [], option_map, string_bytes, IfOk};
 ghost use Rattle.desk_replies.specs.Bodies.{receipt_text};
 ghost use Rattle.world.specs.Worlds.{IsRead, TellsOf};
+ghost use Rattle.view_world.specs.Looks.{LeavesOpen};
 ghost use Rattle.view_world.specs.Told.{receipt_line};
 
 use desk_replies::bodies::receipt_body;
@@ -35,6 +36,7 @@ pub fn receipt_line<S: Alter + Drop>(
     ensures told { TellsOf S.Store (λ w found. option_map string_bytes found ≡ receipt_line w request)
         world.old world.new result }
     ensures read { IsRead S.Store world.old world.new }
+    ensures opens { LeavesOpen S.Store world.old world.new result }
 {
     match world.receipt(alloc, request)? {
         Some(receipt) => match body_line(alloc, &receipt) {

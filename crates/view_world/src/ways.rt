@@ -6,7 +6,7 @@ ghost use Rattle.view_history.specs.Stores.{AreAtRest, AsksStores};
 ghost use Rattle.view_history.specs.Told.{ledger_of};
 ghost use Rattle.view_json.specs.Forms.{told_way};
 ghost use Rattle.view_text.specs.Ways.{speaks_of};
-ghost use Rattle.view_world.specs.Looks.{Asks, IsLookedAt, LooksInto};
+ghost use Rattle.view_world.specs.Looks.{Asks, IsLookedAt, LeavesOpen, LooksInto};
 ghost use Rattle.world.specs.Worlds.{TellsOf};
 ghost use Rattle.view_world.specs.Told.{way_answer};
 
@@ -94,6 +94,7 @@ pub fn way_text_in<S: Alter + Drop>(
     ensures told { TellsOf S.Store (λ w found. option_map string_bytes found ≡ way_answer form w identity)
         world.old world.new result }
     ensures read { IsLookedAt S.Store world.old world.new }
+    ensures opens { LeavesOpen S.Store world.old world.new result }
 {
     let ledger = ledger_in(alloc, world)?;
     let found = told_way(alloc, form, &ledger, identity)?;

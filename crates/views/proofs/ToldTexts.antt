@@ -6,7 +6,7 @@ use Rattle.sqlite.specs.Store.{Ghosts}
 use Rattle.package_tables.specs.declared.fault.Fault.{Fault}
 use Rattle.sheet_types.specs.World.{World}
 use Rattle.world.specs.Worlds.{Seen, TellsOf}
-use Rattle.view_world.specs.Looks.{LooksInto}
+use Rattle.view_world.specs.Looks.{LeavesOpen, LooksInto}
 use Rattle.views.specs.Showing.{told, told_if}
 
 module _ {S : Type 0} (g : Ghosts S) {T : Type 0} (bytes : T → List ℕ) where
@@ -32,3 +32,14 @@ module _ {S : Type 0} (g : Ghosts S) {T : Type 0} (bytes : T → List ℕ) where
       → TellsOf g (λ w found. found ≡ text w) old new (told_if bytes r)
   tells_told_if text old new (Ok found) it = it
   tells_told_if text old new (Err fault) it = λ clean. tt
+
+  -- and it leaves open what that left open
+  pub opens_told : (old new : Seen S) (r : Result T Fault) → LeavesOpen g old new r
+      → LeavesOpen g old new (told bytes r)
+  opens_told old new (Ok t) it = it
+  opens_told old new (Err fault) it = λ clean. tt
+
+  pub opens_told_if : (old new : Seen S) (r : Result (Option T) Fault) → LeavesOpen g old new r
+      → LeavesOpen g old new (told_if bytes r)
+  opens_told_if old new (Ok found) it = it
+  opens_told_if old new (Err fault) it = λ clean. tt

@@ -5,6 +5,7 @@ use Rattle.world.specs.Worlds.{IsRead, Seen}
 use Rattle.manifest_csv.specs.declared.package_manifests.ManifestFault.{ManifestFault}
 use Rattle.command_folder.specs.Endings.{manifest_ending}
 use Rattle.command_folder.specs.declared.endings.Ending.{Ending}
+use Rattle.view_world.specs.Looks.{LeavesOpen}
 use Rattle.views.specs.Written.{IsExport, LeavesUnknown}
 
 module _ {S : Type 0} (g : Ghosts S) {W : Type 0} (p : List ℕ) (old new : Seen S) (writer writer' : W) where
@@ -13,3 +14,4 @@ module _ {S : Type 0} (g : Ghosts S) {W : Type 0} (p : List ℕ) (old new : Seen
   EndsExport before after ending =
       (r : Result (Unit {0}) ManifestFault) × (ending ≡ manifest_ending r)
       × IsRead g old new × IsExport g p old new before after r × LeavesUnknown writer writer' r
+      × LeavesOpen g old new r

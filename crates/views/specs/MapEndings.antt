@@ -6,6 +6,7 @@ use Rattle.command_words.specs.Failures.{of_fault}
 use Rattle.command_words.specs.declared.statuses.Outcome.TheVariants.{Stopped}
 use Rattle.command_folder.specs.Endings.{done, failed}
 use Rattle.command_folder.specs.declared.endings.Ending.TheVariants as usual
+use Rattle.view_world.specs.Looks.{LeavesOpen}
 use Rattle.views.specs.Printed.{IsPrinted, IsUntouched, LeavesUnprinted}
 use Rattle.views.specs.declared.endings.Ending.{Ending}
 use Rattle.views.specs.declared.endings.Ending.TheVariants as ending
@@ -26,5 +27,6 @@ module _ {S : Type 0} (g : Ghosts S) where
     pub outcome : Result (Unit {0}) MapFault
     pub ends : is ≡ map_ending outcome
     pub read : IsUntouched g old new
+    pub opens : LeavesOpen g old new outcome
     pub printed : IsPrinted g asked old new before after outcome
     pub unprinted : LeavesUnprinted writer writer' outcome

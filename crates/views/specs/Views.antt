@@ -4,7 +4,7 @@ use Rattle.sqlite.specs.Held.{Held}
 use Rattle.sqlite.specs.Store.{Ghosts}
 use Rattle.package_tables.specs.declared.fault.Fault.{Fault}
 use Rattle.world.specs.Worlds.{IsRead, Seen, TellsOf}
-use Rattle.view_world.specs.Looks.{IsLookedAt, LooksInto}
+use Rattle.view_world.specs.Looks.{IsLookedAt, LeavesOpen, LooksInto}
 use Rattle.view_json.specs.declared.forms.Form.{Form}
 use Rattle.view_text.specs.declared.ledgers.Excerpt.{Excerpt}
 use Rattle.view_world.specs.Told.{log_text, receipt_line, status_text, way_answer}
@@ -40,6 +40,7 @@ module _ {S : Type 0} (g : Ghosts S) where
     pub found : Result (Option (List ℕ)) Fault
     pub told : TellsOf g (λ w text. text ≡ receipt_line w id) old new found
     pub read : IsRead g old new
+    pub opens : LeavesOpen g old new found
     pub shown : Shows found NoSuchRequest writer writer' before after ending
 
   -- The same of a world that stays: the packages,
@@ -48,6 +49,7 @@ module _ {S : Type 0} (g : Ghosts S) where
     pub found : Result (List ℕ) Fault
     pub told : TellsOf g (λ w text. text ≡ status_text form w strays) old new found
     pub read : IsLookedAt g old new
+    pub opens : LeavesOpen g old new found
     pub shown : ShowsText found writer writer' before after ending
 
   -- the receipts that are asked for,
@@ -56,6 +58,7 @@ module _ {S : Type 0} (g : Ghosts S) where
     pub found : Result (List ℕ) Fault
     pub told : TellsOf g (λ w text. text ≡ log_text form w excerpt) old new found
     pub read : IsLookedAt g old new
+    pub opens : LeavesOpen g old new found
     pub shown : ShowsText found writer writer' before after ending
 
   -- and the way of an item.
@@ -64,4 +67,5 @@ module _ {S : Type 0} (g : Ghosts S) where
     pub found : Result (Option (List ℕ)) Fault
     pub told : TellsOf g (λ w text. text ≡ way_answer form w id) old new found
     pub read : IsLookedAt g old new
+    pub opens : LeavesOpen g old new found
     pub shown : Shows found NoSuchIdentity writer writer' before after ending

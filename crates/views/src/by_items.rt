@@ -11,6 +11,7 @@ ghost use Rattle.view_export.specs.Numbers.{AreNumbersOf, no_counts};
 ghost use Rattle.world.specs.Worlds.{IsRead};
 ghost use Rattle.manifest_csv.specs.Sent.{WentOut};
 ghost use Rattle.view_items.specs.Parts.{OfTold};
+ghost use Rattle.view_world.specs.Looks.{LeavesOpen};
 ghost use Rattle.views.specs.ByItems.{IsBareOf};
 ghost use Rattle.views.specs.Printed.{IsUntouched};
 ghost use Rattle.views.specs.Written.{Began, IsExport, IsOfLive, LeavesUnknown};
@@ -112,6 +113,7 @@ fn send_told<S: Alter + Drop, W: Write>(
     ensures err { OnErr result (OfTold S.Store «package» told.now world.old world.new (λ items.
         Began (W.contents writer.old) (W.contents writer.new) (items_behind frame.now no_counts items))) }
     ensures live { IsOfLive result }
+    ensures opens { LeavesOpen S.Store world.old world.new result }
 {
     let mut counts = Counts::none();
     for moved in told {
@@ -143,6 +145,7 @@ fn send_by_items<S: Alter + Drop, W: Write>(
         WentOut (W.contents writer.old) (W.contents writer.new)
         (export_text frame.now «package» ticket items links.now))) }
     ensures live { IsOfLive result }
+    ensures opens { LeavesOpen S.Store world.old world.new result }
 {
     let numbers = numbers_told(alloc, told)?;
     let head = opening(alloc, frame, package, ticket)?;
@@ -165,6 +168,7 @@ pub(crate) fn write_by_items<S: Alter + Drop, W: Write>(
     ensures written { IsExport S.Store «package» world.old world.new (W.contents writer.old) (W.contents writer.new)
         result }
     ensures unknown { LeavesUnknown writer.old writer.new result }
+    ensures opens { LeavesOpen S.Store world.old world.new result }
 {
     let frame = world.frame();
     let Some((told, links)) = world.ask(alloc, package, &ToldHoldings)? else {

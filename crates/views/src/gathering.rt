@@ -2,6 +2,7 @@
 ghost use Rattle.std.specs.List.{AllZip};
 ghost use Rattle.std.specs.Prelude.{map};
 ghost use Rattle.view_map.specs.Worlds.{AreHolders, IsHolder};
+ghost use Rattle.view_world.specs.Looks.{LeavesOpen};
 ghost use Rattle.world.specs.Reading.{sight_of};
 ghost use Rattle.world.specs.Worlds.{IsRead, TellsOf};
 ghost use Rattle.views.specs.Printed.{IsUntouched};
@@ -46,6 +47,7 @@ fn holder_of<S: Alter + Drop>(
 ) -> Result<Holder, Fault>
     ensures told { TellsOf S.Store (λ w holder. IsHolder w zoom (sight_of sight) holder) world.old world.new result }
     ensures read { IsRead S.Store world.old world.new }
+    ensures opens { LeavesOpen S.Store world.old world.new result }
 {
     let uuid: Uuid = sight.uuid;
     let (places, _links) = parts_in(alloc, world, uuid, &PlaceAt { zoom })?;
@@ -66,6 +68,7 @@ fn holders_among<S: Alter + Drop>(
     ensures told { TellsOf S.Store (λ w holders. AllZip (IsHolder w zoom) (map sight_of sights.now) holders.items)
         world.old world.new result }
     ensures read { IsUntouched S.Store world.old world.new }
+    ensures opens { LeavesOpen S.Store world.old world.new result }
 {
     let mut holders = Vec::new(alloc);
     for sight in sights {
@@ -87,6 +90,7 @@ pub fn holders_of<S: Alter + Drop>(
 ) -> Result<Vec<Holder>, Fault>
     ensures told { TellsOf S.Store (λ w holders. AreHolders w zoom holders.items) world.old world.new result }
     ensures read { IsUntouched S.Store world.old world.new }
+    ensures opens { LeavesOpen S.Store world.old world.new result }
 {
     let sights = world.packages(alloc)?;
     holders_among(alloc, world, zoom, sights.as_slice())

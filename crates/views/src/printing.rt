@@ -2,6 +2,7 @@
 ghost use Rattle.std.specs.Prelude.{◌≡◌, IsTrue, string_bytes};
 ghost use Rattle.sheet_types.specs.Matrix.{has_level, is_good_frame};
 ghost use Rattle.view_map.specs.Worlds.{IsWorldMap};
+ghost use Rattle.view_world.specs.Looks.{LeavesOpen};
 ghost use Rattle.world.specs.Worlds.{TellsOf};
 ghost use Rattle.views.specs.Printed.{IsPrinted, IsUntouched, LeavesUnprinted};
 
@@ -47,6 +48,7 @@ fn world_map<S: Alter + Drop>(
     requires level { IsTrue (has_level frame.now zoom) }
     ensures told { TellsOf S.Store (λ w text. IsWorldMap w zoom (string_bytes text)) world.old world.new result }
     ensures read { IsUntouched S.Store world.old world.new }
+    ensures opens { LeavesOpen S.Store world.old world.new result }
 {
     let holders = holders_of(alloc, world, zoom)?;
     match map_text(alloc, frame, zoom, holders.as_slice()) {
@@ -71,6 +73,7 @@ pub fn print_map<S: Alter + Drop, W: Write>(
     ensures printed { IsPrinted S.Store asked world.old world.new (W.contents writer.old) (W.contents writer.new)
         result }
     ensures unprinted { LeavesUnprinted writer.old writer.new result }
+    ensures opens { LeavesOpen S.Store world.old world.new result }
 {
     let frame = world.frame();
     // The frame of a world is good, and is asked for that here since no call says so.

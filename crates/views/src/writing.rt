@@ -12,6 +12,7 @@ ghost use Rattle.world.specs.Worlds.{IsRead, StandsFor};
 ghost use Rattle.view_export.specs.Exports.{export_text, items_behind, link_row};
 ghost use Rattle.view_export.specs.Numbers.{AreNumbersOf, no_counts};
 ghost use Rattle.manifest_csv.specs.Sent.{WentOut};
+ghost use Rattle.view_world.specs.Looks.{LeavesOpen};
 ghost use Rattle.views.specs.Written.{Began, IsExport, IsOfLive, LeavesUnknown};
 
 use crate::by_items::write_by_items;
@@ -152,6 +153,7 @@ pub fn write_export<S: Alter + Drop, W: Write>(
     ensures written { IsExport S.Store «package» world.old world.new (W.contents writer.old) (W.contents writer.new)
         result }
     ensures unknown { LeavesUnknown writer.old writer.new result }
+    ensures opens { LeavesOpen S.Store world.old world.new result }
 {
     if is_large(world, package) {
         return write_by_items(alloc, world, package, writer);

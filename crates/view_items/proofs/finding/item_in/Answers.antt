@@ -11,3 +11,6 @@ returns-in-Some-Some-clause-told g c = λ clean w stands.
     let live = subst (IsAnswer (λ p found. IsItemOf p c.args.identity found) w c.args.package) c.in-Some-Some.is
     told in
     subst (IsItemOf (holdings w c.args.package) c.args.identity) c.in-Some-Some.field-0-is live.1
+
+pub returns-in-Some-Some-clause-opens : goal.returns-in-Some-Some-clause-opens
+returns-in-Some-Some-clause-opens g c = c.in_ok-item.ensures.opens

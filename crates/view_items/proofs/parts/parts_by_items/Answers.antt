@@ -23,3 +23,14 @@ returns-clause-told g c = λ clean w stands.
     let told = subst (IsAnswer (λ p held. AreTold p held.0.items held.1.items) w c.args.package) c.in-Some.is
     (c.in_ok-told.ensures.told before w stands) in
     (c.in_ok-kept.ensures.kept clean w now (c.as_slice.ensures.value ∙ told.1.0), told.1.1)
+
+pub returns-clause-opens : goal.returns-clause-opens
+returns-clause-opens g c = λ clean was_open. c.in_ok-kept.ensures.opens clean (c.in_ok-told.ensures.opens
+    (looked_clean g.S.Store c.ask.new.self c.parts_told.new.world c.in_ok-kept.ensures.read clean) was_open)
+
+pub returns-clause-live : goal.returns-clause-live
+returns-clause-live g c = λ clean w stands.
+    let before = looked_clean g.S.Store c.ask.new.self c.parts_told.new.world c.in_ok-kept.ensures.read clean in
+    let told = subst (IsAnswer (λ p held. AreTold p held.0.items held.1.items) w c.args.package) c.in-Some.is
+    (c.in_ok-told.ensures.told before w stands) in
+    told.0

@@ -20,6 +20,8 @@ pub loop-moved-preserved : goal.loop-moved-preserved
 loop-moved-preserved g c = record {
   read = looked_then g.S.Store c.args.world.now c.loop-moved.world c.item_in.new.world c.loop-moved.invariant.read
       (inr c.in_ok-item.ensures.read);
+  opens = λ clean was_open. c.in_ok-item.ensures.opens clean
+      (c.loop-moved.invariant.opens (c.in_ok-item.ensures.read.clean clean) was_open);
   kept = λ clean w stands all.
       let items = (holdings w c.args.package).items in
       let now = looked_stands g.S.Store c.args.world.now c.loop-moved.world c.loop-moved.invariant.read w stands in
@@ -38,3 +40,6 @@ returns-clause-kept g c = λ clean w stands all.
     c.loop-moved.invariant.kept clean w stands all
     ∙ ap (flat_map (g.P.Part.parts c.args.part.now)) (all_past items c.args.told.now c.loop-moved.moved-index all
     past)
+
+pub returns-clause-opens : goal.returns-clause-opens
+returns-clause-opens g c = c.loop-moved.invariant.opens

@@ -8,7 +8,7 @@ use Rattle.view_page.proofs.registers.look_over.Goals as goal
 
 pub returns-clause-told : goal.returns-clause-told
 returns-clause-told g c = λ clean w stands.
-    let kept = c.in_ok-kept.ensures w stands in
+    let kept = c.in_ok-kept.ensures.kept w stands in
     let order : map sight_of c.in_ok-ordered.ordered.items ≡ by_depth (map sight_of c.in_ok-kept.kept.sights.items) =
     c.in_ok-ordered.ensures ∙ ap (λ l. by_depth (map sight_of l)) c.as_slice.ensures.value in
     let held : AreContents w (λ (s : PackageSight). s.uuid) c.in_ok-ordered.ordered.items c.in_ok-contents.contents =

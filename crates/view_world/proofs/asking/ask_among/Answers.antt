@@ -20,6 +20,8 @@ pub loop-sight-preserved : goal.loop-sight-preserved
 loop-sight-preserved g c = record {
   read = looked_then g.S.Store c.args.world.now c.loop-sight.world c.ask_one.new.world c.loop-sight.invariant.read
       (inr c.in_ok-answer.ensures.read);
+  opens = λ clean was_open. c.in_ok-answer.ensures.opens clean
+      (c.loop-sight.invariant.opens (c.in_ok-answer.ensures.read.clean clean) was_open);
   told = λ clean w stands.
       let before = c.in_ok-answer.ensures.read.clean clean in
       let now = looked_stands g.S.Store c.args.world.now c.loop-sight.world c.loop-sight.invariant.read w stands in
@@ -38,3 +40,6 @@ returns-clause-told g c = λ clean w stands.
     subst (λ l. AllZip (IsToldOf (g.Q.Question.tells c.args.question.now) w) l c.loop-sight.answers.items)
     (take_all c.loop-sight.sight-index c.args.sights.now c.loop-sight-test.false)
     (c.loop-sight.invariant.told clean w stands)
+
+pub returns-clause-opens : goal.returns-clause-opens
+returns-clause-opens g c = c.loop-sight.invariant.opens

@@ -11,3 +11,6 @@ returns-clause-told g c = λ clean w stands.
     ∙ ap (arranged receipt_key) (c.in_ok-all.ensures
     ∙ zip_lists (λ list. list.items) w.packages c.in_ok-lists.lists.items
     (c.in_ok-lists.ensures.told clean w stands))
+
+pub returns-clause-opens : goal.returns-clause-opens
+returns-clause-opens g c = c.in_ok-lists.ensures.opens

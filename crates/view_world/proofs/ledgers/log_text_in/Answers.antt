@@ -7,3 +7,6 @@ pub returns-clause-told : goal.returns-clause-told
 returns-clause-told g c = λ clean w stands.
     c.in_ok-told.ensures ∙ ap (λ l. told_excerpt c.args.form l c.args.excerpt.now) (c.deref.ensures.value
     ∙ c.in_ok-ledger.ensures.told clean w stands)
+
+pub returns-clause-opens : goal.returns-clause-opens
+returns-clause-opens g c = c.in_ok-ledger.ensures.opens

@@ -7,3 +7,6 @@ pub returns-clause-told : goal.returns-clause-told
 returns-clause-told g c = λ clean w stands.
     c.first_found.ensures ∙ moment_among c.args.number w.packages c.in_ok-found.found.items
     (c.in_ok-found.ensures.told clean w stands)
+
+pub returns-clause-opens : goal.returns-clause-opens
+returns-clause-opens g c = c.in_ok-found.ensures.opens

@@ -9,7 +9,11 @@ use Rattle.view_world.proofs.Looked.{looked_clean, looked_stands, looked_then}
 use Rattle.view_world.proofs.packages.moments_in.Goals as goal
 
 pub loop-at-init : goal.loop-at-init
-loop-at-init g c = record { read = inl refl; told = λ clean w stands. c.new-moments.ensures.items }
+loop-at-init g c = record {
+  read = inl refl;
+  opens = λ clean was_open. was_open;
+  told = λ clean w stands. c.new-moments.ensures.items;
+}
 
 pub returns-in_err-moment-clause-read : goal.returns-in_err-moment-clause-read
 returns-in_err-moment-clause-read g c =
@@ -25,6 +29,8 @@ pub loop-at-preserved : goal.loop-at-preserved
 loop-at-preserved g c = record {
   read = looked_then g.S.Store c.args.world.now c.loop-at.world c.moment_in.new.world c.loop-at.invariant.read
       c.in_ok-moment.ensures.read;
+  opens = λ clean was_open. c.in_ok-moment.ensures.opens clean (c.loop-at.invariant.opens
+      (looked_clean g.S.Store c.loop-at.world c.moment_in.new.world c.in_ok-moment.ensures.read clean) was_open);
   told = λ clean w stands.
       let before = looked_clean g.S.Store c.loop-at.world c.moment_in.new.world c.in_ok-moment.ensures.read clean in
       let now = looked_stands g.S.Store c.args.world.now c.loop-at.world c.loop-at.invariant.read w stands in
@@ -38,3 +44,6 @@ returns-clause-told g c = λ clean w stands.
     let past : length c.args.numbers.now ≤ c.loop-at.at = omega (arith, c.loop-at-test.false) in
     c.loop-at.invariant.told clean w stands
     ∙ ap (map (moment_of (receipts_of w))) (take_all c.loop-at.at c.args.numbers.now past)
+
+pub returns-clause-opens : goal.returns-clause-opens
+returns-clause-opens g c = c.loop-at.invariant.opens

@@ -16,8 +16,8 @@ returns g c =
     (length (held g.S.Store c.args.world))
     (rw c.into_stores-stores.ensures at c.table_of-text.ensures.counted)
     (if_ok_so _ _ c.kept_of-kept.result (λ k so w stands. long_seen w k.sights.items (so w stands).seen)
-    c.kept_of-kept.ensures))
+    c.kept_of-kept.ensures.kept))
     (λ w text stands given. given w refl
     (if_ok_so _ (λ k. AreKept w k.sights.items k.sums.items) c.kept_of-kept.result (λ k so. so w stands)
-    c.kept_of-kept.ensures))
+    c.kept_of-kept.ensures.kept))
     (rw c.into_stores-stores.ensures at c.table_of-text.ensures.asked)

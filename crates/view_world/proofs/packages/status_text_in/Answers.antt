@@ -30,9 +30,14 @@ returns-clause-read g c =
     looked_then g.S.Store c.args.world.now c.ask_each.new.world c.moments_in.new.world c.in_ok-loans.ensures.read
     c.in_ok-moments.ensures.read
 
+pub returns-clause-opens : goal.returns-clause-opens
+returns-clause-opens g c = λ clean was_open. c.in_ok-moments.ensures.opens clean (c.in_ok-loans.ensures.opens
+    (looked_clean g.S.Store c.ask_each.new.world c.moments_in.new.world c.in_ok-moments.ensures.read clean) was_open)
+
 pub returns-clause-told : goal.returns-clause-told
 returns-clause-told g c = λ clean w stands.
-    let kept : AreKept w c.in_ok-kept.kept.sights.items c.in_ok-kept.kept.sums.items = c.in_ok-kept.ensures w stands in
+    let kept : AreKept w c.in_ok-kept.kept.sights.items c.in_ok-kept.kept.sums.items =
+    c.in_ok-kept.ensures.kept w stands in
     let between = looked_clean g.S.Store c.ask_each.new.world c.moments_in.new.world c.in_ok-moments.ensures.read
     clean in
     let now = looked_stands g.S.Store c.args.world.now c.ask_each.new.world c.in_ok-loans.ensures.read w stands in

@@ -15,3 +15,6 @@ returns-clause-told g c = λ clean w stands.
     (c.deref.ensures.value ∙ c.in_ok-ledger.ensures.told clean w stands)
     (text_or_none (λ t. string_bytes t) c.in_ok-found.found (list_any (speaks_of c.args.identity) c.deref.result.now)
     (told_way c.args.form c.args.identity c.deref.result.now) c.in_ok-found.ensures)
+
+pub returns-clause-opens : goal.returns-clause-opens
+returns-clause-opens g c = c.in_ok-ledger.ensures.opens

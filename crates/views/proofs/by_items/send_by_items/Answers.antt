@@ -89,3 +89,6 @@ returns-clause-ok g c = λ clean w stands all.
     (c.in_ok-send_told.ensures.ok clean w stands all)
     (c.in_ok-send_links.ensures.ok items (c.in_ok-numbers.ensures items all))
     (subst (Appends _ _) (c.as_bytes-2.ensures.value ∙ c.closing.ensures) c.in_ok-send-2.ensures.ok)
+
+pub returns-clause-opens : goal.returns-clause-opens
+returns-clause-opens g c = c.in_ok-send_told.ensures.opens

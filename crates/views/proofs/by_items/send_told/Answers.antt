@@ -84,6 +84,8 @@ loop-moved-preserved g c =
     record {
       read = untouched_then g.S.Store c.args.world.now c.loop-moved.world c.item_in.new.world inv.read
           c.in_ok-item.ensures.read;
+      opens = λ clean was_open. c.in_ok-item.ensures.opens clean
+          (inv.opens (c.in_ok-item.ensures.read.clean clean) was_open);
       tiles = subst (λ k. k.tiles ≤ i + 1) (sym made_of) within.0;
       media = subst (λ k. k.media ≤ i + 1) (sym made_of) within.1;
       rows = subst (λ k. k.rows ≤ i + 1) (sym made_of) within.2;
@@ -107,3 +109,6 @@ returns-clause-ok g c = λ clean w stands all.
     (items_behind c.args.frame.now no_counts is))
     (all_past items c.args.told.now c.loop-moved.moved-index all past)
     (c.loop-moved.invariant.sent clean w stands all).1
+
+pub returns-clause-opens : goal.returns-clause-opens
+returns-clause-opens g c = c.loop-moved.invariant.opens

@@ -4,6 +4,7 @@ use Rattle.world.specs.Questions.{IsAnswer}
 use Rattle.manifest_csv.specs.ByItems.{AreTold}
 use Rattle.views.proofs.ExportedByItems.{clean_untouched, given_err, given_ok, told_written, untouched_read}
 use Rattle.views.proofs.Exported.{HasFailed, failed_written}
+use Rattle.views.proofs.Untouched.{opens_behind}
 use Rattle.views.proofs.by_items.write_by_items.Goals as goal
 
 pub returns-in_err-ticket-clause-written : goal.returns-in_err-ticket-clause-written
@@ -20,6 +21,13 @@ returns-in_err-ticket-clause-read g c = c.in_ok-told.ensures.read
 pub returns-clause-read : goal.returns-clause-read
 returns-clause-read g c = untouched_read g.S.Store c.args.world.now c.ask.new.self c.send_by_items.new.world
     c.in_ok-told.ensures.read c.send_by_items.ensures.read
+
+pub returns-clause-opens : goal.returns-clause-opens
+returns-clause-opens g c =
+    opens_behind g.S.Store c.args.world.now c.ask.new.self c.send_by_items.new.world c.send_by_items.result
+    c.in_ok-told.ensures.opens
+    (clean_untouched g.S.Store c.ask.new.self c.send_by_items.new.world c.send_by_items.ensures.read)
+    c.send_by_items.ensures.opens
 
 pub returns-clause-written : goal.returns-clause-written
 returns-clause-written g c = λ clean w stands.

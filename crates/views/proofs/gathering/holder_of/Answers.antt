@@ -12,3 +12,6 @@ returns-clause-told g c = λ clean w stands.
       depth = refl;
       places = held ∙ places_one_by_one c.args.zoom (holdings w c.args.sight.uuid).items;
     }
+
+pub returns-clause-opens : goal.returns-clause-opens
+returns-clause-opens g c = c.in_ok-places.ensures.opens

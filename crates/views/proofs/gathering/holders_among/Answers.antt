@@ -20,6 +20,8 @@ pub loop-sight-preserved : goal.loop-sight-preserved
 loop-sight-preserved g c = record {
   read = untouched_then g.S.Store c.args.world.now c.loop-sight.world c.holder_of.new.world
       c.loop-sight.invariant.read c.in_ok-holder.ensures.read;
+  opens = λ clean was_open. c.in_ok-holder.ensures.opens clean
+      (c.loop-sight.invariant.opens (c.in_ok-holder.ensures.read.clean clean) was_open);
   drawn = λ clean w stands.
       let before = c.in_ok-holder.ensures.read.clean clean in
       let now = stands_after g.S.Store c.args.world.now c.loop-sight.world c.loop-sight.invariant.read w stands in
@@ -38,3 +40,6 @@ returns-clause-told g c = λ clean w stands.
     all_drawn w c.args.zoom c.args.sights.now c.loop-sight.holders.items
     (subst (λ l. AllZip (IsDrawn w c.args.zoom) l c.loop-sight.holders.items)
     (take_all c.loop-sight.sight-index c.args.sights.now c.loop-sight-test.false) each)
+
+pub returns-clause-opens : goal.returns-clause-opens
+returns-clause-opens g c = c.loop-sight.invariant.opens

@@ -9,3 +9,6 @@ returns-clause-told g c = λ clean.
     of_world g.S.Store (λ v. v.items) c.args.zoom c.args.world.now c.as_slice.result.now c.holders_among.result
     (λ w stands. ap (map sight_of) c.as_slice.ensures.value ∙ c.in_ok-sights.ensures w stands)
     (simp (to_z-of_z, c.ranges.zoom) at c.holders_among.ensures.told clean)
+
+pub returns-clause-opens : goal.returns-clause-opens
+returns-clause-opens g c = c.holders_among.ensures.opens

@@ -7,6 +7,7 @@ returns-in-Ok g c = record {
   outcome = Ok c.in-Ok.field-0;
   ends = refl;
   read = c.in-Ok.ensures.read;
+  opens = c.in-Ok.ensures.opens;
   printed = c.in-Ok.ensures.printed;
   unprinted = c.in-Ok.ensures.unprinted;
 }
@@ -16,6 +17,7 @@ returns-in-Err g c = record {
   outcome = Err c.in-Err.fault;
   ends = c.end_of_map.ensures;
   read = c.in-Err.ensures.read;
+  opens = c.in-Err.ensures.opens;
   printed = c.in-Err.ensures.printed;
   unprinted = c.in-Err.ensures.unprinted;
 }

@@ -31,3 +31,6 @@ returns-clause-printed g c = λ clean w stands.
         c.in-Err-send.ensures.err,
       ),
     )
+
+pub returns-in-Ok-send-clause-opens : goal.returns-in-Ok-send-clause-opens
+returns-in-Ok-send-clause-opens g c = c.in-Ok.ensures.opens

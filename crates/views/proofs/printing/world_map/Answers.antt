@@ -10,3 +10,6 @@ returns-in-Ok-clause-told g c = λ clean w stands.
     let made = simp (to_z-of_z, c.ranges.zoom) at c.in-Ok.ensures in
     made_of w c.args.frame.now c.args.zoom c.in_ok-holders.holders.items _ (c.requires.own ∙ stands.frame) are
     (made ∙ ap (λ hs. map_text c.args.frame.now c.args.zoom hs) c.as_slice.ensures.value)
+
+pub returns-in-Ok-clause-opens : goal.returns-in-Ok-clause-opens
+returns-in-Ok-clause-opens g c = c.in_ok-holders.ensures.opens

@@ -2,6 +2,7 @@
 use Rattle.std.proofs.Common.{◌≡◌, ◌∙◌, Some, rules, inl, refl}
 use Rattle.sheet_types.specs.Answers.{holdings_answer}
 use Rattle.views.proofs.Exported.{HasFailed, failed_written, found_written}
+use Rattle.views.proofs.Untouched.{opens_then}
 use Rattle.views.proofs.writing.write_export.Goals as goal
 
 pub returns-in_err-items-clause-written : goal.returns-in_err-items-clause-written
@@ -16,6 +17,10 @@ returns-in_err-ticket-clause-written g c =
 
 pub returns-in_err-ticket-clause-read : goal.returns-in_err-ticket-clause-read
 returns-in_err-ticket-clause-read g c = c.in_ok-items.ensures.read
+
+pub returns-clause-opens : goal.returns-clause-opens
+returns-clause-opens g c =
+    opens_then g.S.Store c.args.world.now c.holdings.new.self c.send_export.result c.in_ok-items.ensures.opens
 
 pub returns-clause-written : goal.returns-clause-written
 returns-clause-written g c = λ clean w stands.
