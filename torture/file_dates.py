@@ -68,7 +68,9 @@ def differences(before, after, changed, moment):
 
 
 def main():
-    requests, seed = (int(word) for word in (sys.argv[1:] + ["400", "1"][len(sys.argv) - 1:]))
+    if len(sys.argv) > 3 or not all(word.isdecimal() for word in sys.argv[1:]):
+        sys.exit(__doc__)
+    requests, seed = (int(word) for word in sys.argv[1:] + ["400", "1"][len(sys.argv) - 1:])
     lists, counts = Lists(seed), Counter()
     lists.begin(FRAME)
     room = tempfile.mkdtemp()
