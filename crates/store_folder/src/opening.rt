@@ -64,11 +64,12 @@ const MOST_PAGES: usize = 2_000;
 /// How many a store has at least.
 const FEW_PAGES: usize = 40;
 
-/// How many pages the stores of a folder have in memory together, where each has at least a few.
-const ALL_PAGES: usize = 48_000;
+/// How many pages the stores of a folder have in memory together, where each has at least a few: 16
+/// MB of them.
+const ALL_PAGES: usize = 4_000;
 
 /// How many they share however small their files are, so that a new store may grow.
-const SPARE_PAGES: usize = 8_000;
+const SPARE_PAGES: usize = 2_000;
 
 /// The bytes of a page.
 const PAGE_BYTES: u64 = 4_096;
