@@ -1,4 +1,4 @@
--- Items that are not as they were added: what is listed of sights is what is altered in the world.
+-- Items that are not as they were added: what is listed of holders is what is altered in the world.
 use Rattle.std.specs.Prelude.{◌≡◌, ◌⊎◌, ℕ, Bool, true, false, cond, not, ◌&&◌, List, [], ◌∷◌}
 use Rattle.std.specs.Prelude.{filter, find, flat_map}
 use Rattle.std.specs.Prelude.{Option, Some, None, unwrap_or, bytes_eq, Contains, refl}
@@ -19,8 +19,8 @@ use Rattle.sheet_types.specs.declared.receipt.Receipt.{Receipt}
 use Rattle.std.proofs.lemmas.Slice.Eq.{bytes_eq-Decides}
 use Rattle.sheet_types.proofs.Basics.{not_true, before_not_after, before_other_way}
 use Rattle.sheet_types.proofs.Same.{In, In-filter, In-map, In-of_map, In-flat_map, In-of_flat_map, Contains-In}
-use Rattle.sheet_balance.specs.declared.sights.Sight.{Sight}
-use Rattle.sheet_balance.specs.Sights.{IsSightOf, AreSightsOf, IsSeenWith}
+use Rattle.sheet_balance.specs.declared.holders.Holder.{Holder}
+use Rattle.sheet_balance.specs.Holders.{IsHolderOf, AreHoldersOf, IsHeldWith}
 use Rattle.opening_faults.specs.Altered.{item_said, adds_item, IsAlteredIn}
 use Rattle.opening_faults.specs.Foreign.{Adds}
 use Rattle.opening_faults.specs.Least.{IsLeastOf}
@@ -112,27 +112,27 @@ one_least xs ys (Some j) (Some k) to fro h g = ap Some (neither_before j k (g.1 
       | false ↦ λ e. absurd (true≢false (sym (before_other_way m n a e) ∙ b))
     ] refl
 
--- ---- packages and their sights
+-- ---- packages and their holders
 
-package_of : (ss : List Sight) (ps : List Package) (s : Sight) → AreSightsOf ss ps → In s ss → (p : Package)
+package_of : (ss : List Holder) (ps : List Package) (s : Holder) → AreHoldersOf ss ps → In s ss → (p : Package)
     × In p ps
-    × IsSightOf s p
+    × IsHolderOf s p
 package_of [] ps s h i = absurd i
 package_of (t ∷ ts) [] s h i = absurd h
 package_of (t ∷ ts) (p ∷ ps) s h i = elim i [
-  | inl e ↦ (p, inl refl, subst (λ v. IsSightOf v p) e h.0)
-  | inr later ↦ let r : (q : Package) × In q ps × IsSightOf s q =
+  | inl e ↦ (p, inl refl, subst (λ v. IsHolderOf v p) e h.0)
+  | inr later ↦ let r : (q : Package) × In q ps × IsHolderOf s q =
       package_of ts ps s h.1 later in (r.0, inr r.1, r.2)
 ]
 
-sight_of : (ss : List Sight) (ps : List Package) (p : Package) → AreSightsOf ss ps → In p ps → (s : Sight)
+holder_of : (ss : List Holder) (ps : List Package) (p : Package) → AreHoldersOf ss ps → In p ps → (s : Holder)
     × In s ss
-    × IsSightOf s p
-sight_of ss [] p h i = absurd i
-sight_of [] (q ∷ ps) p h i = absurd h
-sight_of (t ∷ ts) (q ∷ ps) p h i = elim i [
-  | inl e ↦ (t, inl refl, subst (IsSightOf t) e h.0)
-  | inr later ↦ let r : (s : Sight) × In s ts × IsSightOf s p = sight_of ts ps p h.1 later in (r.0, inr r.1, r.2)
+    × IsHolderOf s p
+holder_of ss [] p h i = absurd i
+holder_of [] (q ∷ ps) p h i = absurd h
+holder_of (t ∷ ts) (q ∷ ps) p h i = elim i [
+  | inl e ↦ (t, inl refl, subst (IsHolderOf t) e h.0)
+  | inr later ↦ let r : (s : Holder) × In s ts × IsHolderOf s p = holder_of ts ps p h.1 later in (r.0, inr r.1, r.2)
 ]
 
 -- ---- what additions say
@@ -150,17 +150,17 @@ added_same ledger i = any_alike (adds_item (item_said (item_moved i)))
     (λ r. is_add r && list_any (names_as i) r.items) (λ r. ap (λ b. is_add r && b)
     (any_alike (λ m. bytes_eq (item_said m) (item_said (item_moved i))) (names_as i) (said_same i) r.items)) ledger
 
-module _ (ledger : List Receipt) (sights : List Sight) (w : World) (seen : IsSeenWith ledger sights w)
+module _ (ledger : List Receipt) (holders : List Holder) (w : World) (seen : IsHeldWith ledger holders w)
     (added : BTreeSet (List ℕ)) (noted : (key : List ℕ) → contains (slice_cmp nat_cmp) added key
     ≡ list_any (adds_item key) ledger) where
   is_as_added : (i : Item) → contains (slice_cmp nat_cmp) added (item_said (item_moved i))
       ≡ is_unaltered (receipts_of w) i
   is_as_added i = noted (item_said (item_moved i)) ∙ added_same ledger i ∙ ap (λ rs. is_unaltered rs i) seen.whole
 
-  altered_to : (id : List ℕ) → IsAlteredIn added sights id → Contains (altered w) id
+  altered_to : (id : List ℕ) → IsAlteredIn added holders id → Contains (altered w) id
   altered_to id (s, there, (m, here, (differs, named))) =
-      let p : (p : Package) × In p w.packages × IsSightOf s p =
-      package_of sights w.packages s seen.seen.packages (contained sights s there) in
+      let p : (p : Package) × In p w.packages × IsHolderOf s p =
+      package_of holders w.packages s seen.held.packages (contained holders s there) in
       let i : (i : Item) × In i p.0.items × (item_moved i ≡ m) =
       In-of_map item_moved m p.0.items (subst (In m) p.2.items (contained s.items m here)) in
       let fact : not (is_unaltered (receipts_of w) i.0) ≡ true =
@@ -172,7 +172,7 @@ module _ (ledger : List Receipt) (sights : List Sight) (w : World) (seen : IsSee
       (In-flat_map (λ q. filter (λ x. not (is_unaltered (receipts_of w) x)) q.items) p.0 i.0 w.packages p.1
       (In-filter (λ x. not (is_unaltered (receipts_of w) x)) i.0 p.0.items i.1 fact))))
 
-  altered_fro : (id : List ℕ) → Contains (altered w) id → IsAlteredIn added sights id
+  altered_fro : (id : List ℕ) → Contains (altered w) id → IsAlteredIn added holders id
   altered_fro id h =
       let i : (i : Item) × In i (flat_map (λ q. filter (λ x. not (is_unaltered (receipts_of w) x)) q.items)
       w.packages) × (i.identity ≡ id) = In-of_map (λ x. x.identity) id
@@ -181,9 +181,10 @@ module _ (ledger : List Receipt) (sights : List Sight) (w : World) (seen : IsSee
       let p = In-of_flat_map (λ q. filter (λ x. not (is_unaltered (receipts_of w) x)) q.items) i.0 w.packages i.1 in
       let t : In i.0 p.0.items × (not (is_unaltered (receipts_of w) i.0) ≡ true) =
       of_filter (λ x. not (is_unaltered (receipts_of w) x)) i.0 p.0.items p.2 in
-      let s : (s : Sight) × In s sights × IsSightOf s p.0 = sight_of sights w.packages p.0 seen.seen.packages p.1 in (
+      let s : (s : Holder) × In s holders × IsHolderOf s p.0 =
+      holder_of holders w.packages p.0 seen.held.packages p.1 in (
         s.0,
-        Contains-In s.0 sights s.1,
+        Contains-In s.0 holders s.1,
         (
           item_moved i.0,
           Contains-In (item_moved i.0) s.0.items
@@ -192,8 +193,8 @@ module _ (ledger : List Receipt) (sights : List Sight) (w : World) (seen : IsSee
         ),
       )
 
-  pub least_altered_is : (ids : List (List ℕ)) (o : Option (List ℕ)) → Adds (IsAlteredIn added sights) [] ids
+  pub least_altered_is : (ids : List (List ℕ)) (o : Option (List ℕ)) → Adds (IsAlteredIn added holders) [] ids
       → IsLeastOf o ids → least (altered w) ≡ o
   least_altered_is ids o all h = one_least (altered w) ids (least (altered w)) o
       (λ id a. all.whole id (altered_fro id a)) (λ id c. altered_to id
-      (listed (IsAlteredIn added sights) ids all id c)) (least_of_list (altered w)) h
+      (listed (IsAlteredIn added holders) ids all id c)) (least_of_list (altered w)) h

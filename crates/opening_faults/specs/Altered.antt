@@ -8,7 +8,7 @@ use Rattle.sheet_types.specs.Custody.{is_add}
 use Rattle.sheet_types.specs.Ordered.{has}
 use Rattle.sheet_types.specs.declared.receipt.Moved.{Moved}
 use Rattle.sheet_types.specs.declared.receipt.Receipt.{Receipt}
-use Rattle.sheet_balance.specs.declared.sights.Sight.{Sight}
+use Rattle.sheet_balance.specs.declared.holders.Holder.{Holder}
 
 -- the size, then the identity behind its length, then the digest
 abbrev pub item_bytes : ℕ → List ℕ → Option (List ℕ) → List ℕ
@@ -29,8 +29,8 @@ IsAlteredAt added m id = (contains (slice_cmp nat_cmp) added (item_said m) ≡ f
 abbrev pub IsAlteredAmong : BTreeSet (List ℕ) → List Moved → List ℕ → Type 0
 IsAlteredAmong added things id = (m : Moved) × Contains things m × IsAlteredAt added m id
 
-abbrev pub IsAlteredOf : BTreeSet (List ℕ) → Sight → List ℕ → Type 0
-IsAlteredOf added s id = IsAlteredAmong added s.items id
+abbrev pub IsAlteredOf : BTreeSet (List ℕ) → Holder → List ℕ → Type 0
+IsAlteredOf added h id = IsAlteredAmong added h.items id
 
-abbrev pub IsAlteredIn : BTreeSet (List ℕ) → List Sight → List ℕ → Type 0
-IsAlteredIn added sights id = (s : Sight) × Contains sights s × IsAlteredOf added s id
+abbrev pub IsAlteredIn : BTreeSet (List ℕ) → List Holder → List ℕ → Type 0
+IsAlteredIn added holders id = (h : Holder) × Contains holders h × IsAlteredOf added h id

@@ -7,13 +7,13 @@ ghost use Rattle.std.specs.BTreeSet.{contains};
 ghost use Rattle.sheet_types.specs.Balance.{altered};
 ghost use Rattle.sheet_types.specs.Ordered.{has, least};
 ghost use Rattle.sheet_types.specs.World.{World};
-ghost use Rattle.sheet_balance.specs.Sights.{IsSeenWith};
+ghost use Rattle.sheet_balance.specs.Holders.{IsHeldWith};
 ghost use Rattle.opening_faults.specs.Altered.{item_said, adds_item, IsAlteredAt, IsAlteredAmong, IsAlteredIn};
 ghost use Rattle.opening_faults.specs.Foreign.{Adds};
 
 use crate::item_keys::ItemKey;
 use crate::least::least_of;
-use sheet_balance::sights::Sight;
+use sheet_balance::holders::Holder;
 use sheet_ledger::loans::is_add;
 use sheet_types::error::OutOfMemory;
 use sheet_types::receipt::{Moved, Receipt};
@@ -29,13 +29,13 @@ use uuid::Uuid;
 pub fn least_altered(
     alloc: Global,
     ledger: &[Receipt],
-    sights: &[Sight],
+    holders: &[Holder],
 ) -> Result<Option<Uuid>, OutOfMemory>
-    ensures { IfOk result (λ found. (w : World) → IsSeenWith ledger.now sights.now w
+    ensures { IfOk result (λ found. (w : World) → IsHeldWith ledger.now holders.now w
         → least (altered w) ≡ found) }
 {
     let added = additions(alloc, ledger)?;
-    let ids = altered_ids(alloc, &added, sights)?;
+    let ids = altered_ids(alloc, &added, holders)?;
     Ok(least_of(ids.as_slice()))
 }
 
@@ -87,13 +87,13 @@ fn note_item(added: &mut BTreeSet<ItemKey>, moved: &Moved) -> Result<(), AllocEr
 fn altered_ids(
     alloc: Global,
     added: &BTreeSet<ItemKey>,
-    sights: &[Sight],
+    holders: &[Holder],
 ) -> Result<Vec<Uuid>, AllocError>
-    ensures { IfOk result (λ ids. Adds (IsAlteredIn added.now sights.now) [] ids.items) }
+    ensures { IfOk result (λ ids. Adds (IsAlteredIn added.now holders.now) [] ids.items) }
 {
     let mut ids = Vec::new(alloc);
-    for sight in sights {
-        push_altered(&mut ids, added, sight.items.as_slice())?;
+    for holder in holders {
+        push_altered(&mut ids, added, holder.items.as_slice())?;
     }
     Ok(ids)
 }

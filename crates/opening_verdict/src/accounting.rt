@@ -3,18 +3,20 @@ ghost use Rattle.std.specs.Prelude.{◌≡◌, [], length, IfOk, IfErr};
 ghost use Rattle.sheet_types.specs.Balance.{Balanced, altered};
 ghost use Rattle.sheet_types.specs.Ordered.{arranged, IsArranged};
 ghost use Rattle.sheet_types.specs.World.{World};
-ghost use Rattle.sheet_balance.specs.Sights.{IsSeenWith};
+ghost use Rattle.sheet_balance.specs.Accounts.{IsAccountOf};
 ghost use Rattle.opening_verdict.specs.Accounts.{sight_key, taken, IsWorldOf, IsInAccount, IsLastOf};
 
 use crate::arranging::{arranged_live, do_rise};
 use opening_faults::altered::least_altered;
 use opening_faults::faults::RecoverFault;
-use sheet_balance::judging::judge_ledger;
-use sheet_balance::sights::{Sight as PackageSight, ledger_of};
+use sheet_balance::accounts::{Account, account_of};
+use sheet_balance::judging::judge_account;
+use sheet_balance::sights::Sight as PackageSight;
 use sheet_types::receipt::Receipt;
 use std::alloc::Global;
 
 /// The ledger of the live packages, where none of the last two faults holds; else the first that does.
+/// Their receipts are moved into it.
 ///
 /// # Errors
 ///
@@ -32,12 +34,11 @@ pub(crate) fn ledger_in_account(
         → IsLastOf w fault) }
 {
     let sorted = arranged_live(alloc, held, live)?;
-    let sights = sorted.as_slice();
-    check_apart(sights)?;
-    let ledger = ledger_of(alloc, sights)?;
-    check_balance(alloc, ledger.as_slice(), sights)?;
-    check_altered(alloc, ledger.as_slice(), sights)?;
-    Ok(ledger)
+    check_apart(sorted.as_slice())?;
+    let account = account_of(alloc, sorted)?;
+    check_balance(alloc, &account)?;
+    check_altered(alloc, &account)?;
+    Ok(account.ledger)
 }
 
 // That no two packages have one UUID.
@@ -52,31 +53,23 @@ fn check_apart(sights: &[PackageSight]) -> Result<(), RecoverFault>
 }
 
 // That the ledger accounts for the packages.
-fn check_balance(
-    alloc: Global,
-    ledger: &[Receipt],
-    sights: &[PackageSight],
-) -> Result<(), RecoverFault>
-    ensures balanced { IfOk result (λ _. (w : World) → IsSeenWith ledger.now sights.now w → Balanced w) }
-    ensures fault { IfErr result (λ fault. (w : World) → IsSeenWith ledger.now sights.now w → IsLastOf w fault) }
+fn check_balance(alloc: Global, account: &Account) -> Result<(), RecoverFault>
+    ensures balanced { IfOk result (λ _. (w : World) → IsAccountOf account.now w → Balanced w) }
+    ensures fault { IfErr result (λ fault. (w : World) → IsAccountOf account.now w → IsLastOf w fault) }
 {
-    if !judge_ledger(alloc, ledger, sights)? {
+    if !judge_account(alloc, account)? {
         return Err(RecoverFault::OutOfAccount);
     }
     Ok(())
 }
 
 // That each item is as it was added.
-fn check_altered(
-    alloc: Global,
-    ledger: &[Receipt],
-    sights: &[PackageSight],
-) -> Result<(), RecoverFault>
-    ensures unaltered { IfOk result (λ _. (w : World) → IsSeenWith ledger.now sights.now w → altered w ≡ []) }
-    ensures fault { IfErr result (λ fault. (w : World) → IsSeenWith ledger.now sights.now w → Balanced w
+fn check_altered(alloc: Global, account: &Account) -> Result<(), RecoverFault>
+    ensures unaltered { IfOk result (λ _. (w : World) → IsAccountOf account.now w → altered w ≡ []) }
+    ensures fault { IfErr result (λ fault. (w : World) → IsAccountOf account.now w → Balanced w
         → IsLastOf w fault) }
 {
-    match least_altered(alloc, ledger, sights)? {
+    match least_altered(alloc, account.ledger.as_slice(), account.holders.as_slice())? {
         Some(id) => Err(RecoverFault::Altered(id)),
         None => Ok(()),
     }

@@ -25,10 +25,10 @@ use Rattle.sheet_laws.proofs.Facts.{ledger_arranged, ledger_entered}
 use Rattle.sheet_laws.proofs.Ledger.{by_entry}
 use Rattle.sheet_ledger.specs.Parts.{AreAtHome, IsEntered}
 use Rattle.sheet_ledger.proofs.Maps.{at_key}
-use Rattle.sheet_balance.specs.declared.sights.Sight.{Sight}
+use Rattle.sheet_balance.specs.declared.holders.Holder.{Holder}
+use Rattle.sheet_balance.specs.Holders.{IsHolderOf, IsHeldWith}
 use Rattle.sheet_balance.specs.Homes.{AreInTurn, HasHome, StandsBy, home_in}
-use Rattle.sheet_balance.specs.Sights.{IsSightOf, IsSeenWith}
-use Rattle.sheet_balance.proofs.Each.{all_flat, all_where, seen_where}
+use Rattle.sheet_balance.proofs.Each.{all_flat, all_map, all_where, seen_where}
 use Rattle.sheet_balance.proofs.Seen.{same_answer}
 
 -- ---- the receipts after one of a ledger whose numbers rise
@@ -183,14 +183,14 @@ comes_home merged new r source target home m from to is put p =
 in_turn : (archive : List ℕ) (rs : List Receipt) → IsLedger archive [] rs → AreInTurn rs
 in_turn archive rs h = record { entered = ledger_entered archive [] rs h; rise = ledger_arranged archive [] rs h }
 
-pub homes_answer : (homes : BTreeMap ℕ (List ℕ)) (ledger : List Receipt) (ss : List Sight) (a : Bool)
+pub homes_answer : (homes : BTreeMap ℕ (List ℕ)) (ledger : List Receipt) (hs : List Holder) (a : Bool)
     → (AreInTurn ledger → AllByRecursion (HasHome homes ledger) ledger)
-    → IsTrue a ↔ AllByRecursion (λ s. AllByRecursion (StandsBy homes s.uuid) s.receipts.items) ss → (w : World)
-    → IsSeenWith ledger ss w → IsLedger (archive_of w) [] ledger → IsTrue a ↔ AreAtHome w
-homes_answer homes ledger ss a has f w h sound =
-    same_answer f (seen_where (λ p. AllByRecursion (HasHome homes (receipts_of w)) p.receipts)
-    (λ s. AllByRecursion (StandsBy homes s.uuid) s.receipts.items) (λ p. AllByRecursion (IsHome w p) p.receipts)
-    of_package ss w.packages h.seen.packages known)
+    → IsTrue a ↔ AllByRecursion (λ x. AllByRecursion (StandsBy homes x.uuid) x.numbers.items) hs → (w : World)
+    → IsHeldWith ledger hs w → IsLedger (archive_of w) [] ledger → IsTrue a ↔ AreAtHome w
+homes_answer homes ledger hs a has f w h sound =
+    same_answer f (seen_where IsHolderOf (λ p. AllByRecursion (HasHome homes (receipts_of w)) p.receipts)
+    (λ x. AllByRecursion (StandsBy homes x.uuid) x.numbers.items) (λ p. AllByRecursion (IsHome w p) p.receipts)
+    of_package hs w.packages h.held.packages known)
   where
     known : AllByRecursion (λ p. AllByRecursion (HasHome homes (receipts_of w)) p.receipts) w.packages
     known = (all_flat (HasHome homes (receipts_of w)) (λ p. p.receipts) w.packages).0
@@ -198,7 +198,7 @@ homes_answer homes ledger ss a has f w h sound =
         (subst (λ rs. AllByRecursion (HasHome homes rs) rs) h.whole (has (in_turn (archive_of w) ledger sound))))
 
     one : (u : List ℕ) (p : Package) → u ≡ p.uuid → (r : Receipt) → HasHome homes (receipts_of w) r
-        → StandsBy homes u r ↔ IsHome w p r
+        → StandsBy homes u r.seq ↔ IsHome w p r
     one u p same r home = (
       (λ at. (home.0, home.1, sym same ∙ some_same (sym at ∙ home.2))),
       (λ is. home.2 ∙ ap (λ e. Some (home_after (after r.seq (receipts_of w)) (stands_in e)))
@@ -206,9 +206,10 @@ homes_answer homes ledger ss a has f w h sound =
           ∙ ap (λ x. Some x) (sym same)),
     )
 
-    of_package : (s : Sight) (p : Package) → IsSightOf s p → AllByRecursion (HasHome homes (receipts_of w))
-        p.receipts → AllByRecursion (StandsBy homes s.uuid) s.receipts.items ↔ AllByRecursion (IsHome w p)
+    of_package : (x : Holder) (p : Package) → IsHolderOf x p → AllByRecursion (HasHome homes (receipts_of w))
+        p.receipts → AllByRecursion (StandsBy homes x.uuid) x.numbers.items ↔ AllByRecursion (IsHome w p)
         p.receipts
-    of_package s p k all = subst (λ rs. AllByRecursion (StandsBy homes s.uuid) rs ↔ AllByRecursion (IsHome w p)
-        p.receipts) (sym k.receipts) (all_where (HasHome homes (receipts_of w)) (StandsBy homes s.uuid) (IsHome w p)
-        (one s.uuid p k.uuid) p.receipts all)
+    of_package x p k all = subst (λ ns. AllByRecursion (StandsBy homes x.uuid) ns ↔ AllByRecursion (IsHome w p)
+        p.receipts) (sym k.numbers) (same_answer (all_map (StandsBy homes x.uuid) (λ r. r.seq) p.receipts)
+        (all_where (HasHome homes (receipts_of w)) (λ r. StandsBy homes x.uuid r.seq) (IsHome w p)
+        (one x.uuid p k.uuid) p.receipts all))

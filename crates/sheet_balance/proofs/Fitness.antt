@@ -1,6 +1,6 @@
 -- A register is a balanced world that is fit.
 use Rattle.std.specs.Prelude.{◌≡◌, ◌↔◌, ◌&&◌, ◌==◌, ◌+◌, ◌≤◌, ⊤, ℕ, pos, Bool, true}
-use Rattle.std.specs.Prelude.{false, List, [], ◌∷◌, Option, Some, None, MatchOption, bytes_eq, find, refl}
+use Rattle.std.specs.Prelude.{false, List, [], Option, Some, None, MatchOption, bytes_eq, find, refl}
 use Rattle.std.proofs.Common.{sym, ap, subst, ◌∙◌}
 use Rattle.std.proofs.lemmas.Bool.{and_parts, false≢true}
 use Rattle.std.proofs.lemmas.Slice.Eq.{bytes_eq-Decides}

@@ -9,8 +9,10 @@ use Rattle.sheet_types.specs.declared.receipt.Receipt.{Receipt}
 use Rattle.sheet_types.proofs.Basics.{None≢Some, some_same}
 use Rattle.sheet_ledger.specs.Parts.{HoldsWhatIsKept, SumsAddUp, AreLoans, AreAtHome, AreTogether, HasParts}
 use Rattle.sheet_ledger.proofs.Parts.{sound_is_its_parts, balanced_is_its_parts}
-use Rattle.sheet_balance.specs.declared.sights.Sight.{Sight}
-use Rattle.sheet_balance.specs.Sights.{IsSeen, IsSeenWith, IsAccounted}
+use Rattle.sheet_balance.specs.declared.accounts.Account.{Account}
+use Rattle.sheet_balance.specs.declared.holders.Holder.{Holder}
+use Rattle.sheet_balance.specs.Accounts.{IsAccountOf, IsAccounted}
+use Rattle.sheet_balance.specs.Holders.{IsHeldWith}
 
 -- five answers together
 pub five_parts : (a b c d e : Bool) (w : World) → IsTrue a ↔ HoldsWhatIsKept w → IsTrue b ↔ SumsAddUp w
@@ -47,29 +49,30 @@ seen_one archive o w is seen = some_same (sym is ∙ seen)
 pub none_seen : (o : Option (List ℕ)) (w : World) → o ≡ None → o ≡ Some (archive_of w) → ⊥
 none_seen o w is seen = None≢Some (sym is ∙ seen)
 
--- the ledger that is seen, and a slice of it
-pub seen_with : (ledger slice : List Receipt) (ss : List Sight) (w : World) → IsSeen ss w
-    → ledger ≡ receipts_of w → slice ≡ ledger → IsSeenWith slice ss w
-seen_with ledger slice ss w seen whole same = record { seen = seen; whole = same ∙ whole }
+-- slices of an account
+pub held_by : (a : Account) (ledger : List Receipt) (hs : List Holder) (w : World) → IsAccountOf a w
+    → ledger ≡ a.ledger.items → hs ≡ a.holders.items → IsHeldWith ledger hs w
+held_by a ledger hs w is first second =
+    subst (λ rs. IsHeldWith rs hs w) (sym first) (subst (λ xs. IsHeldWith a.ledger.items xs w) (sym second) is.seen)
 
 -- the ledger of a balanced world is sound
-pub not_sound : (w : World) (archive : List ℕ) (ledger : List Receipt) (ss : List Sight) (sound : Bool)
-    → archive ≡ archive_of w → IsSeenWith ledger ss w → IsTrue sound ↔ IsLedger archive [] ledger
+pub not_sound : (w : World) (archive : List ℕ) (ledger : List Receipt) (sound : Bool)
+    → archive ≡ archive_of w → ledger ≡ receipts_of w → IsTrue sound ↔ IsLedger archive [] ledger
     → sound ≡ false → Balanced w → ⊥
-not_sound w archive ledger ss sound is seen f denies b =
-    false≢true (sym denies ∙ f.1 (subst (λ rs. IsLedger archive [] rs) (sym seen.whole)
+not_sound w archive ledger sound is whole f denies b =
+    false≢true (sym denies ∙ f.1 (subst (λ rs. IsLedger archive [] rs) (sym whole)
     (subst (λ p. IsLedger p [] (receipts_of w)) (sym is) b.ledger)))
 
 -- a sound ledger that accounts for what is held balances the world
-pub judged : (w : World) (archive : List ℕ) (ledger : List Receipt) (ss : List Sight) (sound accounted : Bool)
-    → archive ≡ archive_of w → IsSeenWith ledger ss w → IsTrue sound ↔ IsLedger archive [] ledger
+pub judged : (w : World) (archive : List ℕ) (ledger : List Receipt) (sound accounted : Bool)
+    → archive ≡ archive_of w → ledger ≡ receipts_of w → IsTrue sound ↔ IsLedger archive [] ledger
     → sound ≡ true
     → (IsLedger (archive_of w) [] ledger → IsTrue accounted ↔ IsAccounted w) → IsTrue accounted ↔ Balanced w
-judged w archive ledger ss sound accounted is seen f holds answer = (
+judged w archive ledger sound accounted is whole f holds answer = (
   (λ e. let k : IsAccounted w = (answer of_world).0 e in
       (balanced_is_its_parts w).1 (record {
         ledger = (sound_is_its_parts (archive_of w) (receipts_of w)).0
-            (subst (λ rs. IsLedger (archive_of w) [] rs) seen.whole of_world);
+            (subst (λ rs. IsLedger (archive_of w) [] rs) whole of_world);
         custody_is = k.custody_is;
         sums = k.sums;
         loans = k.loans;

@@ -1,4 +1,4 @@
--- What is held is what custody says, of sights and of the packages that are seen so.
+-- What is held is what custody says, of holders and of their packages.
 use Rattle.std.specs.Prelude.{◌≡◌, ◌↔◌, ◌&&◌, ◌||◌, ℕ, Bool, true, false, cond, IsTrue, List}
 use Rattle.std.specs.Prelude.{[], ◌∷◌, map, Option, Some, None, is_some, unwrap_or, bytes_eq, refl}
 use Rattle.std.proofs.Common.{sym, ap, subst, ◌∙◌}
@@ -25,8 +25,8 @@ use Rattle.sheet_laws.proofs.Packages.{each_found}
 use Rattle.sheet_laws.proofs.Shifting.{thing_item, thing_link}
 use Rattle.sheet_ledger.specs.Accounts.{place_in, KeepsCustody}
 use Rattle.sheet_ledger.specs.Parts.{HoldsWhatIsKept}
-use Rattle.sheet_balance.specs.declared.sights.Sight.{Sight}
-use Rattle.sheet_balance.specs.Sights.{IsSightOf, AreSightsOf, IsSeenWith, Stands, has_seen}
+use Rattle.sheet_balance.specs.declared.holders.Holder.{Holder}
+use Rattle.sheet_balance.specs.Holders.{IsHolderOf, AreHoldersOf, IsHeldWith, Stands, has_seen}
 
 pub or_assoc : (a b c : Bool) → ((a || b) || c) ≡ (a || (b || c))
 or_assoc true b c = refl
@@ -35,11 +35,11 @@ or_assoc false b c = refl
 -- ---- a map of places
 
 -- a thing stands nowhere, or is held
-abbrev pub IsHeld : BTreeSet (List ℕ) → List ℕ × Option (List ℕ) → Type 0
-IsHeld held e = is_some e.1 ≡ true → contains (slice_cmp nat_cmp) held e.0 ≡ true
+abbrev pub IsFound : BTreeSet (List ℕ) → List ℕ × Option (List ℕ) → Type 0
+IsFound held e = is_some e.1 ≡ true → contains (slice_cmp nat_cmp) held e.0 ≡ true
 
 pub found_held : (held : BTreeSet (List ℕ)) (es : List (List ℕ × Option (List ℕ)))
-    → AllByRecursion (IsHeld held) es → (thing : List ℕ) → is_some
+    → AllByRecursion (IsFound held) es → (thing : List ℕ) → is_some
     (option_and_then (λ p. p) (lookup (λ k. is_eq (slice_cmp nat_cmp thing k)) es)) ≡ true
     → contains (slice_cmp nat_cmp) held thing ≡ true
 found_held held [] h thing some = absurd (false≢true some)
@@ -53,7 +53,7 @@ found_held held (e ∷ es) h thing some =
       | false ↦ λ _ s. found_held held es h.1 thing s
     ] refl some
 
--- ---- a sight and its package
+-- ---- a holder and its package
 
 has_mapped : {X : Type 0} (f : X → Moved) (key : X → List ℕ) → ((x : X) → moved_thing (f x) ≡ key x)
     → (xs : List X) (thing : List ℕ) → has moved_thing thing (map f xs) ≡ has key thing xs
@@ -61,7 +61,7 @@ has_mapped f key same [] thing = refl
 has_mapped f key same (x ∷ xs) thing = ap (λ k. bytes_eq k thing || has moved_thing thing (map f xs)) (same x)
     ∙ ap (λ b. bytes_eq (key x) thing || b) (has_mapped f key same xs thing)
 
-seen_holds : (s : Sight) (p : Package) → IsSightOf s p → (thing : List ℕ) → has_seen thing s ≡ holds p thing
+seen_holds : (s : Holder) (p : Package) → IsHolderOf s p → (thing : List ℕ) → has_seen thing s ≡ holds p thing
 seen_holds s p k thing =
     ap (λ xs. has moved_thing thing xs || has moved_thing thing s.links) k.items
     ∙ ap (λ b. b || has moved_thing thing s.links) (has_mapped item_moved item_thing thing_item p.items thing)
@@ -80,7 +80,7 @@ one_stands place p (m ∷ ms) thing h e =
       | false ↦ λ _ r. one_stands place p ms thing h.1 r
     ] refl e
 
-held_stands : (place : List ℕ → Option (List ℕ)) (s : Sight) (thing : List ℕ) → Stands place s
+held_stands : (place : List ℕ → Option (List ℕ)) (s : Holder) (thing : List ℕ) → Stands place s
     → has_seen thing s ≡ true → place thing ≡ Some s.uuid
 held_stands place s thing h e =
     elim (has moved_thing thing s.items) as (λ b. has moved_thing thing s.items ≡ b
@@ -89,8 +89,8 @@ held_stands place s thing h e =
       | false ↦ λ _ r. one_stands place s.uuid s.links thing h.1 r
     ] refl e
 
--- what a package holds stands there by custody, so it does by its sight
-package_stands : (place : List ℕ → Option (List ℕ)) (s : Sight) (p : Package) → IsSightOf s p
+-- what a package holds stands there by custody, so it does by its holder
+package_stands : (place : List ℕ → Option (List ℕ)) (s : Holder) (p : Package) → IsHolderOf s p
     → ((thing : List ℕ) → holds p thing ≡ true → place thing ≡ Some p.uuid) → Stands place s
 package_stands place s p k h = (
   subst (AllByRecursion (λ m. place (moved_thing m) ≡ Some s.uuid)) (sym k.items)
@@ -105,13 +105,13 @@ package_stands place s p k h = (
       (links_held p))),
 )
 
--- ---- sights and packages in turn
+-- ---- holders and packages in turn
 
 some_same : {X : Type 0} (a b : X) → Some a ≡ Some b → a ≡ b
 some_same a b e = ap (λ o. unwrap_or o a) e
 
 -- what is held somewhere stands there
-there : (place : List ℕ → Option (List ℕ)) (ss : List Sight) (ps : List Package) → AreSightsOf ss ps
+there : (place : List ℕ → Option (List ℕ)) (ss : List Holder) (ps : List Package) → AreHoldersOf ss ps
     → AllByRecursion (Stands place) ss → (p thing : List ℕ) → holds
     (unwrap_or (entry package_key p ps) no_package) thing ≡ true → place thing ≡ Some p
 there place [] [] h all p thing e = absurd (false≢true e)
@@ -126,7 +126,7 @@ there place (s ∷ ss) (q ∷ ps) h all p thing e =
     ] refl e
 
 -- what is held by a package is seen
-seen_there : (ss : List Sight) (ps : List Package) → AreSightsOf ss ps → (p thing : List ℕ)
+seen_there : (ss : List Holder) (ps : List Package) → AreHoldersOf ss ps → (p thing : List ℕ)
     → holds (unwrap_or (entry package_key p ps) no_package) thing ≡ true → list_any (has_seen thing) ss ≡ true
 seen_there [] [] h p thing e = e
 seen_there [] (q ∷ ps) h p thing e = absurd h
@@ -143,8 +143,8 @@ seen_there (s ∷ ss) (q ∷ ps) h p thing e =
     or_true false b k = k
 
 -- what is seen, and stands in a package, is held by that
-stands_held : (place : List ℕ → Option (List ℕ)) (all : List Package) (ss : List Sight) (ps : List Package)
-    → AreSightsOf ss ps → AllByRecursion (λ x. entry package_key x.uuid all ≡ Some x) ps
+stands_held : (place : List ℕ → Option (List ℕ)) (all : List Package) (ss : List Holder) (ps : List Package)
+    → AreHoldersOf ss ps → AllByRecursion (λ x. entry package_key x.uuid all ≡ Some x) ps
     → AllByRecursion (Stands place) ss
     → (p thing : List ℕ) → place thing ≡ Some p → list_any (has_seen thing) ss ≡ true
     → holds (unwrap_or (entry package_key p all) no_package) thing ≡ true
@@ -162,9 +162,9 @@ stands_held place all (s ∷ ss) (q ∷ ps) h found stands p thing at e =
       | false ↦ λ _ r. stands_held place all ss ps h.1 found.1 stands.1 p thing at r
     ] refl e
 
--- what each package holds stands there, so it does by each sight
-each_stands : (place : List ℕ → Option (List ℕ)) (all : List Package) (ss : List Sight) (ps : List Package)
-    → AreSightsOf ss ps → AllByRecursion (λ x. entry package_key x.uuid all ≡ Some x) ps
+-- what each package holds stands there, so it does by each holder
+each_stands : (place : List ℕ → Option (List ℕ)) (all : List Package) (ss : List Holder) (ps : List Package)
+    → AreHoldersOf ss ps → AllByRecursion (λ x. entry package_key x.uuid all ≡ Some x) ps
     → ((p thing : List ℕ) → holds (unwrap_or (entry package_key p all) no_package) thing ≡ true
     → place thing ≡ Some p) → AllByRecursion (Stands place) ss
 each_stands place all [] [] h found kept = tt
@@ -189,27 +189,27 @@ some_place None e = absurd (false≢true e)
 some_place (Some p) e = (p, refl)
 
 pub kept_answer : (places : BTreeMap (List ℕ) (Option (List ℕ))) (held : BTreeSet (List ℕ))
-    (ledger : List Receipt) (ss : List Sight) (a b : Bool) → KeepsCustody places ledger
+    (ledger : List Receipt) (ss : List Holder) (a b : Bool) → KeepsCustody places ledger
     → ((thing : List ℕ) → contains (slice_cmp nat_cmp) held thing ≡ list_any (has_seen thing) ss)
     → IsTrue a ↔ AllByRecursion (Stands (place_in places)) ss
     → IsTrue b ↔ ((thing : List ℕ) → is_some (place_in places thing) ≡ true
     → contains (slice_cmp nat_cmp) held thing ≡ true)
-    → (w : World) → IsSeenWith ledger ss w → IsTrue (a && b) ↔ HoldsWhatIsKept w
+    → (w : World) → IsHeldWith ledger ss w → IsTrue (a && b) ↔ HoldsWhatIsKept w
 kept_answer places held ledger ss a b keeps has f g w h = (
   (λ e p thing.
       let parts : (a ≡ true) × (b ≡ true) = and_parts a b e in
       let stand : AllByRecursion (Stands (place_in places)) ss = f.0 parts.0 in (
-        (λ k. sym (is thing) ∙ there (place_in places) ss w.packages h.seen.packages stand p thing k),
+        (λ k. sym (is thing) ∙ there (place_in places) ss w.packages h.held.packages stand p thing k),
         (λ k. let at : place_in places thing ≡ Some p = is thing ∙ k in
-            stands_held (place_in places) w.packages ss w.packages h.seen.packages found stand p thing at
+            stands_held (place_in places) w.packages ss w.packages h.held.packages found stand p thing at
             (sym (has thing) ∙ g.0 parts.1 thing (ap is_some at))),
       )),
   (λ kept.
-      let first : a ≡ true = f.1 (each_stands (place_in places) w.packages ss w.packages h.seen.packages found
+      let first : a ≡ true = f.1 (each_stands (place_in places) w.packages ss w.packages h.held.packages found
       (λ p thing k. is thing ∙ (kept p thing).0 k)) in
       ap (λ x. x && b) first ∙ g.1 (λ thing some.
       let at = some_place (place_in places thing) some in
-      has thing ∙ seen_there ss w.packages h.seen.packages at.0 thing
+      has thing ∙ seen_there ss w.packages h.held.packages at.0 thing
       ((kept at.0 thing).1 (sym (is thing) ∙ at.1)))),
 )
   where
@@ -217,4 +217,4 @@ kept_answer places held ledger ss a b keeps has f g w h = (
     is thing = keeps.place thing ∙ ap (λ rs. custody rs thing) h.whole
 
     found : AllByRecursion (λ x. entry package_key x.uuid w.packages ≡ Some x) w.packages
-    found = each_found w.packages h.seen.in_order
+    found = each_found w.packages h.held.in_order

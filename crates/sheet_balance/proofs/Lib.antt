@@ -4,6 +4,7 @@ pub mod Summing
 pub mod Leaving
 pub mod Kept
 pub mod Each
+pub mod Parting
 pub mod Splitting
 pub mod Lending
 pub mod Undoing

@@ -1,21 +1,19 @@
 -- What is seen of a world's packages is what they are.
 use Rattle.std.specs.Prelude.{◌≡◌, ◌↔◌, ◌||◌, ◌<◌, ⊤, ℕ, suc, Bool, true, false, cond, List}
-use Rattle.std.specs.Prelude.{[], ◌∷◌, ◌++◌, length, take, flat_map, refl, find, Option, Some, None}
-use Rattle.std.specs.Prelude.{bytes_eq, is_none, unwrap_or}
+use Rattle.std.specs.Prelude.{[], ◌∷◌, ◌++◌, length, take, map, refl, find, Option, Some, None, is_none}
 use Rattle.std.specs.Option.{MatchOption, option_map, option_map_or}
-use Rattle.std.proofs.Common.{sym, subst, ap, ◌∙◌, drop, get_or}
+use Rattle.std.proofs.Common.{sym, ap, ◌∙◌, drop, get_or}
 use Rattle.std.proofs.lemmas.Bool.{true≢false}
-use Rattle.std.specs.List.{list_any, AllByRecursion}
-use Rattle.sheet_types.specs.Ordered.{entry}
+use Rattle.std.specs.List.{list_any, AllByRecursion, AllZip}
 use Rattle.sheet_types.specs.Refuse.{is_archive}
-use Rattle.sheet_types.specs.World.{World, Package, holdings, no_package, receipts_of, package_key}
-use Rattle.sheet_types.specs.Balance.{archive_of, IsLoan}
-use Rattle.sheet_types.specs.declared.receipt.Receipt.{Receipt}
-use Rattle.sheet_ledger.specs.Parts.{AreLoans}
+use Rattle.sheet_types.specs.World.{World, Package}
+use Rattle.sheet_types.specs.Balance.{archive_of}
 use Rattle.sheet_ledger.proofs.Walking.{all_around}
+use Rattle.sheet_balance.specs.declared.holders.Holder.{Holder}
 use Rattle.sheet_balance.specs.declared.sights.Sight.{Sight}
-use Rattle.sheet_balance.specs.Sights.{IsSightOf, AreSightsOf, IsSeen, IsSeenWith, archive_seen, receipts_in}
-use Rattle.sheet_balance.specs.Sights.{IsLoanSeen, has_split, is_merged_after}
+use Rattle.sheet_balance.specs.Holders.{IsHolderOf, IsHeld, IsRestOf, archive_seen}
+use Rattle.sheet_balance.specs.Sights.{IsSightOf, IsSeen}
+use Rattle.sheet_balance.proofs.Each.{zip_on}
 
 -- ---- the first that passes
 
@@ -34,41 +32,20 @@ pub first_none : {X : Type 0} (t : X → Bool) (xs : List X) → AllByRecursion 
 first_none t [] h = refl
 first_none t (x ∷ xs) h = ap (λ b. cond b (Some x) (find t xs)) h.0 ∙ first_none t xs h.1
 
--- ---- sights and packages in turn
-
--- a fact of each sight is one of each package
-pub all_seen : (P : Sight → Type 0) (Q : Package → Type 0) →
-    ((s : Sight) (p : Package) → IsSightOf s p → P s ↔ Q p) → (ss : List Sight) (ps : List Package)
-    → AreSightsOf ss ps → AllByRecursion P ss ↔ AllByRecursion Q ps
-all_seen P Q f [] [] h = ((λ _. tt), (λ _. tt))
-all_seen P Q f [] (p ∷ ps) h = absurd h
-all_seen P Q f (s ∷ ss) [] h = absurd h
-all_seen P Q f (s ∷ ss) (p ∷ ps) h =
-    let one = f s p h.0 in
-    let more = all_seen P Q f ss ps h.1 in
-    ((λ x. (one.0 x.0, more.0 x.1)), (λ x. (one.1 x.0, more.1 x.1)))
-
--- what the first sight that passes says is what the first package that passes says
-pub found_seen : {Y : Type 0} (t : Sight → Bool) (u : Package → Bool) (f : Sight → Y) (g : Package → Y)
-    → ((s : Sight) (p : Package) → IsSightOf s p → t s ≡ u p)
-    → ((s : Sight) (p : Package) → IsSightOf s p → f s ≡ g p)
-    → (ss : List Sight) (ps : List Package) → AreSightsOf ss ps
-    → option_map f (find t ss) ≡ option_map g (find u ps)
-found_seen t u f g same says [] [] h = refl
-found_seen t u f g same says [] (p ∷ ps) h = absurd h
-found_seen t u f g same says (s ∷ ss) [] h = absurd h
-found_seen t u f g same says (s ∷ ss) (p ∷ ps) h =
-    ap (λ b. option_map f (cond b (Some s) (find t ss))) (same s p h.0)
-    ∙ elim (u p) as (λ b. option_map f (cond b (Some s) (find t ss))
-    ≡ option_map g (cond b (Some p) (find u ps))) [
-      | true ↦ ap (λ y. Some y) (says s p h.0)
-      | false
-          ↦ found_seen t u f g same says ss ps h.1
+-- what the first that passes says is what the first that passes of those beside says
+found_seen : {X Y Z : Type 0} (R : X → Y → Type 0) (t : X → Bool) (u : Y → Bool) (f : X → Z) (g : Y → Z)
+    → ((x : X) (y : Y) → R x y → t x ≡ u y) → ((x : X) (y : Y) → R x y → f x ≡ g y)
+    → (xs : List X) (ys : List Y) → AllZip R xs ys → option_map f (find t xs) ≡ option_map g (find u ys)
+found_seen R t u f g same says [] [] h = refl
+found_seen R t u f g same says [] (y ∷ ys) h = absurd h
+found_seen R t u f g same says (x ∷ xs) [] h = absurd h
+found_seen R t u f g same says (x ∷ xs) (y ∷ ys) h =
+    ap (λ b. option_map f (cond b (Some x) (find t xs))) (same x y h.0)
+    ∙ elim (u y) as (λ b. option_map f (cond b (Some x) (find t xs))
+    ≡ option_map g (cond b (Some y) (find u ys))) [
+      | true ↦ ap (λ z. Some z) (says x y h.0)
+      | false ↦ found_seen R t u f g same says xs ys h.1
     ]
-
-mapped_or : {X Y : Type 0} (f : X → Y) (d : Y) (o : Option X) → option_map_or f o d ≡ unwrap_or (option_map f o) d
-mapped_or f d None = refl
-mapped_or f d (Some x) = refl
 
 -- ---- the archive
 
@@ -83,76 +60,35 @@ any_found (p ∷ ps) h = elim (is_archive p) as (λ b. (b || list_any is_archive
     → MatchOption (cond b (Some p) (find is_archive ps)) ⊥ (λ _. ⊤))
     [ true ↦ λ _. tt | false ↦ λ e. any_found ps e ] h
 
-pub seen_archive : (ss : List Sight) (w : World) → IsSeen ss w → archive_seen ss ≡ Some (archive_of w)
-seen_archive ss w h =
-    found_seen (λ s. is_none s.parent) is_archive (λ s. s.uuid) (λ p. p.uuid) (λ s p k. ap is_none k.parent)
-    (λ s p k. k.uuid) ss w.packages h.packages
+pub seen_archive : (hs : List Holder) (w : World) → IsHeld hs w → archive_seen hs ≡ Some (archive_of w)
+seen_archive hs w h =
+    found_seen IsHolderOf (λ x. is_none x.parent) is_archive (λ x. x.uuid) (λ p. p.uuid)
+    (λ x p k. ap is_none k.parent) (λ x p k. k.uuid) hs w.packages h.packages
     ∙ of_found (find is_archive w.packages) (any_found w.packages h.archive)
 
--- ---- loans
-
-held_receipts : (o : Option Package) → unwrap_or (option_map (λ p. p.receipts) o) []
-    ≡ (unwrap_or o no_package).receipts
-held_receipts None = refl
-held_receipts (Some p) = refl
-
-pub seen_receipts : (ss : List Sight) (w : World) → IsSeen ss w → (p : List ℕ)
-    → receipts_in ss p ≡ (holdings w p).receipts
-seen_receipts ss w h p =
-    mapped_or (λ s. s.receipts.items) [] (find (λ s. bytes_eq s.uuid p) ss)
-    ∙ ap (λ o. unwrap_or o []) (found_seen (λ s. bytes_eq s.uuid p) (λ x. bytes_eq (package_key x) p)
-    (λ s. s.receipts.items) (λ x. x.receipts) (λ s x k. ap (λ id. bytes_eq id p) k.uuid)
-    (λ s x k. k.receipts) ss w.packages h.packages)
-    ∙ held_receipts (entry package_key p w.packages)
-
-pub seen_loans : (ledger : List Receipt) (ss : List Sight) (w : World) → IsSeenWith ledger ss w
-    → AllByRecursion (IsLoanSeen ledger ss) ss ↔ AreLoans w
-seen_loans ledger ss w h = all_seen (IsLoanSeen ledger ss) (IsLoan w) one ss w.packages h.seen.packages
-  where
-    by_parent : (s : Sight) (o : Option (List ℕ)) → MatchOption o ⊤
-        (λ parent. (has_split (receipts_in ss parent) s.uuid s.loan ≡ true)
-        × (is_merged_after ledger s.uuid s.loan ≡ false)) ↔ MatchOption o ⊤
-        (λ parent. (has_split (holdings w parent).receipts s.uuid s.loan ≡ true)
-        × (is_merged_after (receipts_of w) s.uuid s.loan ≡ false))
-    by_parent s None = ((λ x. x), (λ x. x))
-    by_parent s (Some parent) = (
-      (λ x. (
-        sym (ap (λ rs. has_split rs s.uuid s.loan) (seen_receipts ss w h.seen parent))
-            ∙ x.0,
-        sym (ap (λ rs. is_merged_after rs s.uuid s.loan) h.whole) ∙ x.1,
-      )),
-      (λ x. (
-        ap (λ rs. has_split rs s.uuid s.loan) (seen_receipts ss w h.seen parent)
-            ∙ x.0,
-        ap (λ rs. is_merged_after rs s.uuid s.loan) h.whole ∙ x.1,
-      )),
-    )
-
-    one : (s : Sight) (p : Package) → IsSightOf s p → IsLoanSeen ledger ss s ↔ IsLoan w p
-    one s p k =
-        let said : (IsLoanSeen ledger ss s ↔ MatchOption s.parent ⊤
-        (λ parent. (has_split (holdings w parent).receipts s.uuid s.loan ≡ true)
-        × (is_merged_after (receipts_of w) s.uuid s.loan ≡ false))) = by_parent s s.parent in
-        let is_one : (MatchOption s.parent ⊤ (λ parent. (has_split (holdings w parent).receipts s.uuid s.loan
-        ≡ true) × (is_merged_after (receipts_of w) s.uuid s.loan ≡ false))) ≡ IsLoan w p =
-        ap (λ o. MatchOption o ⊤ (λ parent. (has_split (holdings w parent).receipts s.uuid s.loan ≡ true)
-        × (is_merged_after (receipts_of w) s.uuid s.loan ≡ false))) k.parent
-        ∙ ap (λ id. MatchOption p.parent ⊤ (λ parent. (has_split (holdings w parent).receipts id s.loan
-        ≡ true) × (is_merged_after (receipts_of w) id s.loan ≡ false))) k.uuid
-        ∙ ap (λ n. MatchOption p.parent ⊤ (λ parent. (has_split (holdings w parent).receipts p.uuid n ≡ true)
-        × (is_merged_after (receipts_of w) p.uuid n ≡ false))) k.loan in
-        subst (λ T. IsLoanSeen ledger ss s ↔ T) is_one said
+-- ---- answers
 
 -- an answer to one question answers another that has the same answer
 pub same_answer : {A B C : Type 0} → A ↔ B → B ↔ C → A ↔ C
 same_answer f g = ((λ a. g.0 (f.0 a)), (λ c. f.1 (g.1 c)))
 
--- ---- receipts
+-- ---- without receipts
 
-pub seen_all : (ss : List Sight) (ps : List Package) → AreSightsOf ss ps
-    → flat_map (λ s. s.receipts.items) ss ≡ flat_map (λ p. p.receipts) ps
-seen_all [] [] h = refl
-seen_all [] (p ∷ ps) h = absurd h
-seen_all (s ∷ ss) [] h = absurd h
-seen_all (s ∷ ss) (p ∷ ps) h = ap (λ rs. rs ++ flat_map (λ x. x.receipts.items) ss) h.0.receipts
-    ∙ ap (λ rs. p.receipts ++ rs) (seen_all ss ps h.1)
+-- what is left of the sights of a world's packages are their holders
+pub rests_held : (hs : List Holder) (ss : List Sight) (w : World) → AllZip IsRestOf hs ss → IsSeen ss w
+    → IsHeld hs w
+rests_held hs ss w rests h = record {
+  packages = zip_on IsRestOf IsSightOf IsHolderOf one hs ss w.packages rests h.packages;
+  in_order = h.in_order;
+  archive = h.archive;
+}
+  where
+    one : (x : Holder) (s : Sight) (p : Package) → IsRestOf x s → IsSightOf s p → IsHolderOf x p
+    one x s p k j = record {
+      uuid = k.uuid ∙ j.uuid;
+      parent = k.parent ∙ j.parent;
+      loan = k.loan ∙ j.loan;
+      items = k.items ∙ j.items;
+      links = k.links ∙ j.links;
+      numbers = k.numbers ∙ ap (map (λ r. r.seq)) j.receipts;
+    }

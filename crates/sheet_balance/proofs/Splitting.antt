@@ -10,10 +10,14 @@ use Rattle.std.specs.Ordering.{nat_cmp}
 use Rattle.std.specs.Cmp.Lexicographic.{slice_cmp}
 use Rattle.std.specs.BTreeMap.{BTreeMap, get, Updates}
 use Rattle.sheet_types.specs.Custody.{is_split, ends_at}
+use Rattle.sheet_types.specs.World.{World}
 use Rattle.sheet_types.specs.declared.receipt.Receipt.{Receipt}
 use Rattle.sheet_ledger.proofs.Maps.{at_key}
+use Rattle.sheet_balance.specs.declared.sights.Sight.{Sight}
 use Rattle.sheet_balance.specs.declared.splits.Lent.{Lent}
-use Rattle.sheet_balance.specs.Splits.{lents_in, lent_of, lents_by}
+use Rattle.sheet_balance.specs.Sights.{IsSightOf, IsSeen}
+use Rattle.sheet_balance.specs.Splits.{lents_in, lent_of, lents_by, lents_among, lents_seen, HasSplits}
+use Rattle.sheet_balance.proofs.Each.{flat_seen}
 
 abbrev pub Splits : Type 0
 Splits = BTreeMap (List ℕ) (Vec Lent Global)
@@ -64,3 +68,11 @@ pub lents_more : {X : Type 0} (f : X → List Lent) (old mid new : List Lent) (x
     → new ≡ old ++ flat_map f more
 lents_more f old mid new xs more x is was step =
     step ∙ ap (λ zs. zs ++ f x) was ∙ flat_map_more f old xs x ∙ ap (λ zs. old ++ flat_map f zs) (sym is)
+
+-- the splits that are seen are those of the world
+pub seen_splits : (splits : Splits) (ss : List Sight) (w : World) → IsSeen ss w
+    → ((p : List ℕ) → lents_in splits p ≡ lents_seen p ss) → HasSplits splits w
+seen_splits splits ss w h has p =
+    has p ∙ flat_seen IsSightOf (λ s. lents_among s.uuid p s.receipts.items) (λ x. lents_among x.uuid p x.receipts)
+    (λ s x k. ap (λ u. lents_among u p s.receipts.items) k.uuid ∙ ap (lents_among x.uuid p) k.receipts)
+    ss w.packages h.packages

@@ -27,17 +27,17 @@ use Rattle.sheet_ledger.specs.declared.flows.Flow.{Flow}
 use Rattle.sheet_ledger.specs.Parts.{SumsAddUp}
 use Rattle.sheet_ledger.specs.declared.flows.Totals.{Totals}
 use Rattle.sheet_laws.proofs.Packages.{each_found}
-use Rattle.sheet_balance.specs.declared.sights.Sight.{Sight}
-use Rattle.sheet_balance.specs.Sights.{IsSightOf, AreSightsOf, IsSeenWith, ComesUpIn}
+use Rattle.sheet_balance.specs.declared.holders.Holder.{Holder}
+use Rattle.sheet_balance.specs.Holders.{IsHolderOf, AreHoldersOf, IsHeldWith, ComesUpIn}
 
-abbrev pub is_seen : List Sight → List ℕ → Bool
+abbrev pub is_seen : List Holder → List ℕ → Bool
 is_seen ss p = list_any (λ s. bytes_eq s.uuid p) ss
 
-module _ (came left : List ℕ → ℕ) (seen : Sight → ℕ) (held : Package → ℕ)
-    (same : (s : Sight) (p : Package) → IsSightOf s p → seen s ≡ held p) (nothing : held no_package ≡ 0) where
+module _ (came left : List ℕ → ℕ) (seen : Holder → ℕ) (held : Package → ℕ)
+    (same : (s : Holder) (p : Package) → IsHolderOf s p → seen s ≡ held p) (nothing : held no_package ≡ 0) where
   -- of each that is seen what came is what left and what is held, and of no other is anything left: so it is of every
   -- UUID
-  pub sums_held : (ss : List Sight) (ps : List Package) → AreSightsOf ss ps
+  pub sums_held : (ss : List Holder) (ps : List Package) → AreHoldersOf ss ps
       → AllByRecursion (λ s. came s.uuid ≡ left s.uuid + seen s) ss → (p : List ℕ)
       → (is_seen ss p ≡ false → came p ≡ left p) → came p ≡ left p + held
       (unwrap_or (entry package_key p ps) no_package)
@@ -56,7 +56,7 @@ module _ (came left : List ℕ → ℕ) (seen : Sight → ℕ) (held : Package �
       ] refl other)
 
   -- what is not seen is not there
-  not_there : (ss : List Sight) (ps : List Package) → AreSightsOf ss ps → (p : List ℕ)
+  not_there : (ss : List Holder) (ps : List Package) → AreHoldersOf ss ps → (p : List ℕ)
       → is_seen ss p ≡ false → entry package_key p ps ≡ None
   not_there [] [] h p e = refl
   not_there [] (q ∷ ps) h p e = absurd h
@@ -69,7 +69,7 @@ module _ (came left : List ℕ → ℕ) (seen : Sight → ℕ) (held : Package �
         | false ↦ λ k. not_there ss ps h.1 p k
       ] e)
 
-  pub unseen_left : (ss : List Sight) (w : World) → AreSightsOf ss w.packages
+  pub unseen_left : (ss : List Holder) (w : World) → AreHoldersOf ss w.packages
       → ((p : List ℕ) → came p ≡ left p + held (holdings w p)) → (p : List ℕ) → is_seen ss p ≡ false
       → came p ≡ left p
   unseen_left ss w h sums p e = omega (
@@ -80,7 +80,7 @@ module _ (came left : List ℕ → ℕ) (seen : Sight → ℕ) (held : Package �
     nothing,
   )
 
-  of_each : (all : List Package) (ss : List Sight) (ps : List Package) → AreSightsOf ss ps
+  of_each : (all : List Package) (ss : List Holder) (ps : List Package) → AreHoldersOf ss ps
       → AllByRecursion (λ x. entry package_key x.uuid all ≡ Some x) ps
       → ((p : List ℕ) → came p ≡ left p + held (unwrap_or (entry package_key p all) no_package))
       → AllByRecursion (λ s. came s.uuid ≡ left s.uuid + seen s) ss
@@ -94,7 +94,7 @@ module _ (came left : List ℕ → ℕ) (seen : Sight → ℕ) (held : Package �
     of_each all ss ps h.1 found.1 sums,
   )
 
-  pub seen_each : (ss : List Sight) (w : World) → AreSightsOf ss w.packages → IsArranged package_key w.packages
+  pub seen_each : (ss : List Holder) (w : World) → AreHoldersOf ss w.packages → IsArranged package_key w.packages
       → ((p : List ℕ) → came p ≡ left p + held (holdings w p))
       → AllByRecursion (λ s. came s.uuid ≡ left s.uuid + seen s) ss
   seen_each ss w h order sums = of_each w.packages ss w.packages h (each_found w.packages order) sums
@@ -116,23 +116,23 @@ length_of_map : {X Y : Type 0} (g : X → Y) (xs : List X) → length (map g xs)
 length_of_map g [] = refl
 length_of_map g (x ∷ xs) = ap suc (length_of_map g xs)
 
-counted : (kind : MovedKind) (s : Sight) (p : Package) → IsSightOf s p
+counted : (kind : MovedKind) (s : Holder) (p : Package) → IsHolderOf s p
     → count_of kind s.items ≡ count_by (λ i. kind_is kind (kind_of i.content)) p.items
 counted kind s p k = ap (count_of kind) k.items ∙ sum_of_map (λ m. cond (kind_is kind m.kind) 1 0) item_moved p.items
 
-linked : (s : Sight) (p : Package) → IsSightOf s p → length s.links ≡ length p.links
+linked : (s : Holder) (p : Package) → IsHolderOf s p → length s.links ≡ length p.links
 linked s p k = ap length k.links ∙ length_of_map link_moved p.links
 
-sized : (s : Sight) (p : Package) → IsSightOf s p → sum_by (λ m. m.size) s.items
+sized : (s : Holder) (p : Package) → IsHolderOf s p → sum_by (λ m. m.size) s.items
     ≡ sum_by (λ i. size i.content) p.items
 sized s p k = ap (sum_by (λ m. m.size)) k.items ∙ sum_of_map (λ m. m.size) item_moved p.items
 
 -- what is seen adds up, and all that came to others left them
-pub record SumsSeen (ledger : List Receipt) (ss : List Sight) : Type 0 where
+pub record SumsSeen (ledger : List Receipt) (ss : List Holder) : Type 0 where
   pub held : AllByRecursion (ComesUpIn ledger) ss
   pub others : (p : List ℕ) → is_seen ss p ≡ false → (flow_by ledger p).came ≡ (flow_by ledger p).left
 
-module _ (ledger : List Receipt) (ss : List Sight) (w : World) (h : IsSeenWith ledger ss w) where
+module _ (ledger : List Receipt) (ss : List Holder) (w : World) (h : IsHeldWith ledger ss w) where
   abbrev came_by : (Receipt → ℕ) → List ℕ → ℕ
   came_by f p = sum_by f (filter (λ r. ends_at r.target p) ledger)
 
@@ -140,31 +140,31 @@ module _ (ledger : List Receipt) (ss : List Sight) (w : World) (h : IsSeenWith l
   left_by f p = sum_by f (filter (λ r. ends_at r.source p) ledger)
 
   -- by one measure
-  adds_up : (f : Receipt → ℕ) (seen : Sight → ℕ) (held : Package → ℕ)
-      → ((s : Sight) (p : Package) → IsSightOf s p → seen s ≡ held p) → held no_package ≡ 0
+  adds_up : (f : Receipt → ℕ) (seen : Holder → ℕ) (held : Package → ℕ)
+      → ((s : Holder) (p : Package) → IsHolderOf s p → seen s ≡ held p) → held no_package ≡ 0
       → AllByRecursion (λ s. came_by f s.uuid ≡ left_by f s.uuid + seen s) ss
       → ((p : List ℕ) → is_seen ss p ≡ false → came_by f p ≡ left_by f p) → AddsUp w f held
   adds_up f seen held same nothing all others = subst (λ rs. (p : List ℕ)
       → sum_by f (filter (λ r. ends_at r.target p) rs) ≡ sum_by f (filter (λ r. ends_at r.source p) rs) + held
       (holdings w p)) h.whole
-      (λ p. sums_held (came_by f) (left_by f) seen held same nothing ss w.packages h.seen.packages all p (others p))
+      (λ p. sums_held (came_by f) (left_by f) seen held same nothing ss w.packages h.held.packages all p (others p))
 
   summed : (f : Receipt → ℕ) (held : Package → ℕ) → AddsUp w f held → (p : List ℕ)
       → came_by f p ≡ left_by f p + held (holdings w p)
   summed f held sums = subst (λ rs. (p : List ℕ) → sum_by f (filter (λ r. ends_at r.target p) rs)
       ≡ sum_by f (filter (λ r. ends_at r.source p) rs) + held (holdings w p)) (sym h.whole) sums
 
-  each_of : (f : Receipt → ℕ) (seen : Sight → ℕ) (held : Package → ℕ)
-      → ((s : Sight) (p : Package) → IsSightOf s p → seen s ≡ held p) → held no_package ≡ 0
+  each_of : (f : Receipt → ℕ) (seen : Holder → ℕ) (held : Package → ℕ)
+      → ((s : Holder) (p : Package) → IsHolderOf s p → seen s ≡ held p) → held no_package ≡ 0
       → AddsUp w f held → AllByRecursion (λ s. came_by f s.uuid ≡ left_by f s.uuid + seen s) ss
   each_of f seen held same nothing sums = seen_each (came_by f) (left_by f) seen held same nothing ss w
-      h.seen.packages h.seen.in_order (summed f held sums)
+      h.held.packages h.held.in_order (summed f held sums)
 
-  left_of : (f : Receipt → ℕ) (seen : Sight → ℕ) (held : Package → ℕ)
-      → ((s : Sight) (p : Package) → IsSightOf s p → seen s ≡ held p) → held no_package ≡ 0
+  left_of : (f : Receipt → ℕ) (seen : Holder → ℕ) (held : Package → ℕ)
+      → ((s : Holder) (p : Package) → IsHolderOf s p → seen s ≡ held p) → held no_package ≡ 0
       → AddsUp w f held → (p : List ℕ) → is_seen ss p ≡ false → came_by f p ≡ left_by f p
   left_of f seen held same nothing sums = unseen_left (came_by f) (left_by f) seen held same nothing ss w
-      h.seen.packages (summed f held sums)
+      h.held.packages (summed f held sums)
 
   sums_there : SumsSeen ledger ss → SumsAddUp w
   sums_there s = record {
@@ -192,8 +192,8 @@ module _ (ledger : List Receipt) (ss : List Sight) (w : World) (h : IsSeenWith l
       ∙ ap (λ k. record { tiles = b.tiles; media = b.media; rows = b.rows; links = k; bytes = a.bytes }) l
       ∙ ap (λ k. record { tiles = b.tiles; media = b.media; rows = b.rows; links = b.links; bytes = k }) y
 
-  five : (t m r l b : Sight → Type 0) → ((s : Sight) → t s → m s → r s → l s → b s
-      → ComesUpIn ledger s) → (xs : List Sight) → AllByRecursion t xs → AllByRecursion m xs
+  five : (t m r l b : Holder → Type 0) → ((s : Holder) → t s → m s → r s → l s → b s
+      → ComesUpIn ledger s) → (xs : List Holder) → AllByRecursion t xs → AllByRecursion m xs
       → AllByRecursion r xs → AllByRecursion l xs → AllByRecursion b xs → AllByRecursion (ComesUpIn ledger) xs
   five t m r l b f [] _ _ _ _ _ = tt
   five t m r l b f (s ∷ xs) at am ar al ab = (
@@ -237,11 +237,11 @@ and_parts true false e = absurd (true≢false (sym e))
 and_parts false b e = absurd (true≢false (sym e))
 
 pub sums_answer : (flows : BTreeMap (List ℕ) Flow) (uuids : BTreeSet (List ℕ)) (ledger : List Receipt)
-    (ss : List Sight) (a b : Bool) → HasFlows flows ledger →
+    (ss : List Holder) (a b : Bool) → HasFlows flows ledger →
     ((p : List ℕ) → contains (slice_cmp nat_cmp) uuids p ≡ is_seen ss p)
     → IsTrue a ↔ AllByRecursion (ComesUpIn ledger) ss
     → IsTrue b ↔ ((p : List ℕ) → contains (slice_cmp nat_cmp) uuids p ≡ false
-    → (flow_in flows p).came ≡ (flow_in flows p).left) → (w : World) → IsSeenWith ledger ss w
+    → (flow_in flows p).came ≡ (flow_in flows p).left) → (w : World) → IsHeldWith ledger ss w
     → IsTrue (a && b) ↔ SumsAddUp w
 sums_answer flows uuids ledger ss a b has known f g w h = (
   (λ e. let parts : (a ≡ true) × (b ≡ true) = and_parts a b e in

@@ -11,9 +11,10 @@ use Rattle.sheet_types.specs.declared.receipt.Receipt.{Receipt}
 use Rattle.sheet_ledger.specs.Parts.{AreTogether}
 use Rattle.sheet_balance.specs.declared.sights.Sight.{Sight}
 use Rattle.sheet_balance.specs.Sights.{IsSightOf, IsSeen}
-use Rattle.sheet_balance.specs.Splits.{lents_in, lent_of, lents_by, lents_among, lents_seen, StandsBefore, UndoesBy}
-use Rattle.sheet_balance.proofs.Each.{all_flat, all_same}
-use Rattle.sheet_balance.proofs.Seen.{all_seen, same_answer}
+use Rattle.sheet_balance.specs.Splits.{lents_in, lent_of, lents_by, lents_among, lents_held, StandsBefore, UndoesBy}
+use Rattle.sheet_balance.specs.Splits.{HasSplits}
+use Rattle.sheet_balance.proofs.Each.{all_flat, all_same, all_seen}
+use Rattle.sheet_balance.proofs.Seen.{same_answer}
 use Rattle.sheet_balance.proofs.Splitting.{Splits}
 
 -- where this is a split of the target before the number, the package is this
@@ -53,37 +54,26 @@ module _ (home target : List ℕ) (seq : ℕ) where
           ] refl
 
   -- of the receipts of one package
-  package_undone : (s : Sight) (p : Package) → IsSightOf s p
-      → AllByRecursion (StandsBefore home seq) (lents_among s.uuid target s.receipts.items) ↔ AllByRecursion
-      (Undone home target seq p.uuid) p.receipts
-  package_undone s p k =
-      let each : AllByRecursion (StandsBefore home seq) (lents_among s.uuid target s.receipts.items) ↔
-      AllByRecursion (Undone home target seq s.uuid) s.receipts.items =
-      same_answer (all_flat (StandsBefore home seq) (lents_by s.uuid target) s.receipts.items)
-      (all_same (λ r. AllByRecursion (StandsBefore home seq) (lents_by s.uuid target r))
-      (Undone home target seq s.uuid) (one_undone s.uuid) s.receipts.items) in
-      subst (λ rs. AllByRecursion (StandsBefore home seq) (lents_among s.uuid target s.receipts.items) ↔
-      AllByRecursion (Undone home target seq p.uuid) rs) k.receipts
-      (subst (λ u. AllByRecursion (StandsBefore home seq) (lents_among s.uuid target s.receipts.items) ↔
-      AllByRecursion (Undone home target seq u) s.receipts.items) k.uuid each)
+  package_undone : (p : Package) → AllByRecursion (StandsBefore home seq) (lents_among p.uuid target p.receipts) ↔
+      AllByRecursion (Undone home target seq p.uuid) p.receipts
+  package_undone p = same_answer (all_flat (StandsBefore home seq) (lents_by p.uuid target) p.receipts)
+      (all_same (λ r. AllByRecursion (StandsBefore home seq) (lents_by p.uuid target r))
+      (Undone home target seq p.uuid) (one_undone p.uuid) p.receipts)
 
   -- of all packages
-  all_undone : (ss : List Sight) (w : World) → IsSeen ss w → AllByRecursion (StandsBefore home seq)
-      (lents_seen target ss) ↔ AllByRecursion (λ x. AllByRecursion (Undone home target seq x.uuid) x.receipts)
-      w.packages
-  all_undone ss w h = same_answer (all_flat (StandsBefore home seq) (λ s. lents_among s.uuid target s.receipts.items)
-      ss)
-      (all_seen (λ s. AllByRecursion (StandsBefore home seq) (lents_among s.uuid target s.receipts.items))
-      (λ x. AllByRecursion (Undone home target seq x.uuid) x.receipts) package_undone ss w.packages h.packages)
+  all_undone : (ps : List Package) → AllByRecursion (StandsBefore home seq) (lents_held target ps) ↔ AllByRecursion
+      (λ x. AllByRecursion (Undone home target seq x.uuid) x.receipts) ps
+  all_undone ps = same_answer (all_flat (StandsBefore home seq) (λ x. lents_among x.uuid target x.receipts) ps)
+      (all_same (λ x. AllByRecursion (StandsBefore home seq) (lents_among x.uuid target x.receipts))
+      (λ x. AllByRecursion (Undone home target seq x.uuid) x.receipts) package_undone ps)
 
 -- ---- the answer
 
 pub together_answer : (splits : Splits) (ss : List Sight) (a : Bool)
-    → ((p : List ℕ) → lents_in splits p ≡ lents_seen p ss)
     → IsTrue a ↔ AllByRecursion (λ s. AllByRecursion (UndoesBy splits s.uuid) s.receipts.items) ss
-    → (w : World) → IsSeen ss w → IsTrue a ↔ AreTogether w
-together_answer splits ss a lents f w h =
-    same_answer f (all_seen (λ s. AllByRecursion (UndoesBy splits s.uuid) s.receipts.items)
+    → (w : World) → IsSeen ss w → HasSplits splits w → IsTrue a ↔ AreTogether w
+together_answer splits ss a f w h lents =
+    same_answer f (all_seen IsSightOf (λ s. AllByRecursion (UndoesBy splits s.uuid) s.receipts.items)
     (λ p. AllByRecursion (UndoesHere w p) p.receipts) of_package ss w.packages h.packages)
   where
     one : (s : Sight) (p : Package) → IsSightOf s p → (m : Receipt)
@@ -97,7 +87,7 @@ together_answer splits ss a lents f w h =
         w.packages) (sym k.uuid)
         (subst (λ ls. AllByRecursion (StandsBefore p.uuid m.seq) ls ↔ AllByRecursion
         (λ x. AllByRecursion (Undone p.uuid (unwrap_or m.source []) m.seq x.uuid) x.receipts) w.packages)
-        (sym (lents (unwrap_or m.source []))) (all_undone p.uuid (unwrap_or m.source []) m.seq ss w h)) in
+        (sym (lents (unwrap_or m.source []))) (all_undone p.uuid (unwrap_or m.source []) m.seq w.packages)) in
         ((λ g e. seen.0 (g e)), (λ g e. seen.1 (g e)))
 
     of_package : (s : Sight) (p : Package) → IsSightOf s p → AllByRecursion (UndoesBy splits s.uuid)

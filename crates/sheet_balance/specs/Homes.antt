@@ -28,6 +28,6 @@ abbrev pub HasHome : BTreeMap ℕ (List ℕ) → List Receipt → Receipt → Ty
 HasHome homes rs r = (e : Entry) × (entry_from r.line ≡ Some e)
     × (get nat_cmp homes r.seq ≡ Some (home_after (after r.seq rs) (stands_in e)))
 
--- each of these stands in this package, by such a map
-abbrev pub StandsBy : BTreeMap ℕ (List ℕ) → List ℕ → Receipt → Type 0
-StandsBy homes p r = get nat_cmp homes r.seq ≡ Some p
+-- the receipt of this number stands in this package, by such a map
+abbrev pub StandsBy : BTreeMap ℕ (List ℕ) → List ℕ → ℕ → Type 0
+StandsBy homes p n = get nat_cmp homes n ≡ Some p

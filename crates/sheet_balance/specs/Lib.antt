@@ -1,4 +1,6 @@
 pub mod Sights
+pub mod Holders
 pub mod Splits
+pub mod Accounts
 pub mod Homes
 pub mod Registers

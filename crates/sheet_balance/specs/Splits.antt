@@ -8,7 +8,9 @@ use Rattle.std.specs.Cmp.Lexicographic.{slice_cmp}
 use Rattle.std.specs.BTreeMap.{BTreeMap, get}
 use Rattle.std.specs.declared.alloc.Global.{Global}
 use Rattle.sheet_types.specs.Custody.{is_split, is_merge, ends_at}
+use Rattle.sheet_types.specs.World.{World, Package}
 use Rattle.sheet_types.specs.declared.receipt.Receipt.{Receipt}
+use Rattle.sheet_balance.specs.declared.holders.Holder.{Holder}
 use Rattle.sheet_balance.specs.declared.sights.Sight.{Sight}
 use Rattle.sheet_balance.specs.declared.splits.Lent.{Lent}
 
@@ -31,14 +33,22 @@ lents_among home p rs = flat_map (lents_by home p) rs
 abbrev pub lents_seen : List ℕ → List Sight → List Lent
 lents_seen p ss = flat_map (λ s. lents_among s.uuid p s.receipts.items) ss
 
+-- the splits of this target that stand in packages
+abbrev pub lents_held : List ℕ → List Package → List Lent
+lents_held p ps = flat_map (λ x. lents_among x.uuid p x.receipts) ps
+
+-- the map has the splits of the world
+abbrev pub HasSplits : BTreeMap (List ℕ) (Vec Lent Global) → World → Type 0
+HasSplits splits w = (p : List ℕ) → lents_in splits p ≡ lents_held p w.packages
+
 -- ---- loans
 
 -- without parent, or the loan of a split that stands in its parent and that no later merge undoes, by these last
 -- merges and splits
-abbrev pub IsLoanBy : BTreeMap (List ℕ) ℕ → BTreeMap (List ℕ) (Vec Lent Global) → Sight → Type 0
-IsLoanBy merges splits s = MatchOption s.parent ⊤ (λ parent.
-    (list_any (λ l. bytes_eq l.home parent && (l.seq == s.loan)) (lents_in splits s.uuid) ≡ true)
-    × (option_map_or (nat_lt s.loan) (get (slice_cmp nat_cmp) merges s.uuid) false ≡ false))
+abbrev pub IsLoanBy : BTreeMap (List ℕ) ℕ → BTreeMap (List ℕ) (Vec Lent Global) → Holder → Type 0
+IsLoanBy merges splits h = MatchOption h.parent ⊤ (λ parent.
+    (list_any (λ l. bytes_eq l.home parent && (l.seq == h.loan)) (lents_in splits h.uuid) ≡ true)
+    × (option_map_or (nat_lt h.loan) (get (slice_cmp nat_cmp) merges h.uuid) false ≡ false))
 
 -- ---- merges
 

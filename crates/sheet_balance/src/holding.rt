@@ -9,9 +9,9 @@ ghost use Rattle.sheet_types.specs.Ordered.{has};
 ghost use Rattle.sheet_types.specs.World.{World, moved_thing};
 ghost use Rattle.sheet_ledger.specs.Accounts.{place_in};
 ghost use Rattle.sheet_ledger.specs.Parts.{HoldsWhatIsKept};
-ghost use Rattle.sheet_balance.specs.Sights.{IsSeenWith, Stands, has_seen};
+ghost use Rattle.sheet_balance.specs.Holders.{IsHeldWith, Stands, has_seen};
 
-use crate::sights::Sight;
+use crate::holders::Holder;
 use sheet_ledger::places::{place_of, places};
 use sheet_ledger::things::Thing;
 use sheet_types::error::OutOfMemory;
@@ -28,35 +28,35 @@ use uuid::Uuid;
 pub fn holds_what_is_kept(
     alloc: Global,
     ledger: &[Receipt],
-    sights: &[Sight],
+    holders: &[Holder],
 ) -> Result<bool, OutOfMemory>
-    ensures { IfOk result (λ holds. (w : World) → IsSeenWith ledger.now sights.now w
+    ensures { IfOk result (λ holds. (w : World) → IsHeldWith ledger.now holders.now w
         → IsTrue holds ↔ HoldsWhatIsKept w) }
 {
     let places = places(alloc, ledger)?;
-    let held = held_by(alloc, sights)?;
-    let stand = all_stand(&places, sights);
+    let held = held_by(alloc, holders)?;
+    let stand = all_stand(&places, holders);
     Ok(stand & are_all_held(&places, &held))
 }
 
-// Whether all that the sights hold stands where it is held.
-fn all_stand(places: &BTreeMap<Thing, Option<Uuid>>, sights: &[Sight]) -> bool
-    ensures { IsTrue result ↔ AllByRecursion (Stands (place_in places.now)) sights.now }
+// Whether all that the packages hold stands where it is held.
+fn all_stand(places: &BTreeMap<Thing, Option<Uuid>>, holders: &[Holder]) -> bool
+    ensures { IsTrue result ↔ AllByRecursion (Stands (place_in places.now)) holders.now }
 {
-    for sight in sights {
-        if !stands(places, sight) {
+    for holder in holders {
+        if !stands(places, holder) {
             return false;
         }
     }
     true
 }
 
-// Whether all that the sight holds stands there.
-fn stands(places: &BTreeMap<Thing, Option<Uuid>>, sight: &Sight) -> bool
-    ensures { IsTrue result ↔ Stands (place_in places.now) sight.now }
+// Whether all that the package holds stands there.
+fn stands(places: &BTreeMap<Thing, Option<Uuid>>, holder: &Holder) -> bool
+    ensures { IsTrue result ↔ Stands (place_in places.now) holder.now }
 {
-    stand_in(places, sight.items.as_slice(), sight.uuid)
-        & stand_in(places, sight.links.as_slice(), sight.uuid)
+    stand_in(places, holder.items.as_slice(), holder.uuid)
+        & stand_in(places, holder.links.as_slice(), holder.uuid)
 }
 
 // Whether each thing that stands somewhere is held.
@@ -80,25 +80,25 @@ fn is_held(held: &BTreeSet<Thing>, thing: &Thing, place: &Option<Uuid>) -> bool
     place.is_none() || held.contains(thing)
 }
 
-// All that the sights hold.
-fn held_by(alloc: Global, sights: &[Sight]) -> Result<BTreeSet<Thing>, AllocError>
+// All that the packages hold.
+fn held_by(alloc: Global, holders: &[Holder]) -> Result<BTreeSet<Thing>, AllocError>
     ensures { IfOk result (λ held. (thing : List ℕ) → contains (slice_cmp nat_cmp) held thing
-        ≡ list_any (has_seen thing) sights.now) }
+        ≡ list_any (has_seen thing) holders.now) }
 {
     let mut held = BTreeSet::new(alloc);
-    for sight in sights {
-        note_sight(&mut held, sight)?;
+    for holder in holders {
+        note_holder(&mut held, holder)?;
     }
     Ok(held)
 }
 
-// Notes what the sight holds.
-fn note_sight(held: &mut BTreeSet<Thing>, sight: &Sight) -> Result<(), AllocError>
+// Notes what the package holds.
+fn note_holder(held: &mut BTreeSet<Thing>, holder: &Holder) -> Result<(), AllocError>
     ensures { IfOk result (λ _. (thing : List ℕ) → contains (slice_cmp nat_cmp) held.new thing
-        ≡ (contains (slice_cmp nat_cmp) held.old thing || has_seen thing sight.now)) }
+        ≡ (contains (slice_cmp nat_cmp) held.old thing || has_seen thing holder.now)) }
 {
-    note_held(held, sight.items.as_slice())?;
-    note_held(held, sight.links.as_slice())?;
+    note_held(held, holder.items.as_slice())?;
+    note_held(held, holder.links.as_slice())?;
     Ok(())
 }
 

@@ -11,9 +11,9 @@ ghost use Rattle.sheet_types.specs.Texts.{Entry};
 ghost use Rattle.sheet_types.specs.World.{World};
 ghost use Rattle.sheet_ledger.specs.Parts.{AreAtHome, IsEntered};
 ghost use Rattle.sheet_balance.specs.Homes.{AreInTurn, HasHome, StandsBy, home_in};
-ghost use Rattle.sheet_balance.specs.Sights.{IsSeenWith};
+ghost use Rattle.sheet_balance.specs.Holders.{IsHeldWith};
 
-use crate::sights::Sight;
+use crate::holders::Holder;
 use sheet_ledger::entries::read_line;
 use sheet_ledger::loans::is_merge;
 use sheet_types::error::OutOfMemory;
@@ -28,44 +28,48 @@ use uuid::Uuid;
 /// # Errors
 ///
 /// Want of memory.
-pub fn are_at_home(alloc: Global, ledger: &[Receipt], sights: &[Sight]) -> Result<bool, OutOfMemory>
-    ensures { IfOk result (λ home. (w : World) → IsSeenWith ledger.now sights.now w
+pub fn are_at_home(
+    alloc: Global,
+    ledger: &[Receipt],
+    holders: &[Holder],
+) -> Result<bool, OutOfMemory>
+    ensures { IfOk result (λ home. (w : World) → IsHeldWith ledger.now holders.now w
         → IsLedger (archive_of w) [] ledger.now → IsTrue home ↔ AreAtHome w) }
 {
     let homes = homes_of(alloc, ledger)?;
-    Ok(all_at_home(&homes, sights))
+    Ok(all_at_home(&homes, holders))
 }
 
 // Whether each receipt stands in its home.
-fn all_at_home(homes: &BTreeMap<u64, Uuid>, sights: &[Sight]) -> bool
-    ensures { IsTrue result ↔ AllByRecursion (λ s. AllByRecursion (StandsBy homes.now s.uuid) s.receipts.items)
-        sights.now }
+fn all_at_home(homes: &BTreeMap<u64, Uuid>, holders: &[Holder]) -> bool
+    ensures { IsTrue result ↔ AllByRecursion (λ h. AllByRecursion (StandsBy homes.now h.uuid) h.numbers.items)
+        holders.now }
 {
-    for sight in sights {
-        if !stand_in(homes, sight.uuid, sight.receipts.as_slice()) {
+    for holder in holders {
+        if !stand_in(homes, holder.uuid, holder.numbers.as_slice()) {
             return false;
         }
     }
     true
 }
 
-// Whether this package is the home of each of these receipts.
-fn stand_in(homes: &BTreeMap<u64, Uuid>, package: Uuid, receipts: &[Receipt]) -> bool
-    ensures { IsTrue result ↔ AllByRecursion (StandsBy homes.now «package») receipts.now }
+// Whether this package is the home of the receipts of these numbers.
+fn stand_in(homes: &BTreeMap<u64, Uuid>, package: Uuid, numbers: &[u64]) -> bool
+    ensures { IsTrue result ↔ AllByRecursion (StandsBy homes.now «package») numbers.now }
 {
-    for receipt in receipts {
-        if !stands_in(homes, package, receipt) {
+    for number in numbers {
+        if !stands_in(homes, package, *number) {
             return false;
         }
     }
     true
 }
 
-// Whether this package is the home of the receipt.
-fn stands_in(homes: &BTreeMap<u64, Uuid>, package: Uuid, receipt: &Receipt) -> bool
-    ensures { IsTrue result ↔ StandsBy homes.now «package» receipt.now }
+// Whether this package is the home of the receipt of this number.
+fn stands_in(homes: &BTreeMap<u64, Uuid>, package: Uuid, number: u64) -> bool
+    ensures { IsTrue result ↔ StandsBy homes.now «package» number }
 {
-    match homes.get(&receipt.seq) {
+    match homes.get(&number) {
         Some(home) => *home == package,
         None => false,
     }

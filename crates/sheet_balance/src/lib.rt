@@ -3,6 +3,8 @@
 //! seen of its packages. It stands on values alone and knows no store.
 #![tactic(auto)]
 
+pub mod accounts;
+pub mod holders;
 pub mod holding;
 pub mod homes;
 pub mod judging;

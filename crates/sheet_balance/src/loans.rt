@@ -3,11 +3,11 @@ ghost use Rattle.std.specs.Prelude.{◌≡◌, ◌↔◌, ◌&&◌, ◌==◌, by
 ghost use Rattle.std.specs.List.{list_any, AllByRecursion};
 ghost use Rattle.sheet_types.specs.World.{World};
 ghost use Rattle.sheet_ledger.specs.Parts.{AreLoans};
-ghost use Rattle.sheet_balance.specs.Sights.{IsSeenWith};
-ghost use Rattle.sheet_balance.specs.Splits.{IsLoanBy};
+ghost use Rattle.sheet_balance.specs.Holders.{IsHeldWith};
+ghost use Rattle.sheet_balance.specs.Splits.{HasSplits, IsLoanBy};
 
-use crate::sights::Sight;
-use crate::splits::{Lent, lents_of, splits_of};
+use crate::holders::Holder;
+use crate::splits::{Lent, lents_of};
 use sheet_ledger::loans::{is_open, last_merges};
 use sheet_types::error::OutOfMemory;
 use sheet_types::receipt::Receipt;
@@ -16,30 +16,34 @@ use std::collections::BTreeMap;
 use uuid::Uuid;
 
 /// Whether each package with a parent is the loan of a split that stands in its parent and has its
-/// number, and that no merge of a greater number undoes.
+/// number, and that no merge of a greater number undoes; by the splits that stand in the packages.
 ///
 /// # Errors
 ///
 /// Want of memory.
-pub fn are_loans(alloc: Global, ledger: &[Receipt], sights: &[Sight]) -> Result<bool, OutOfMemory>
-    ensures { IfOk result (λ loans. (w : World) → IsSeenWith ledger.now sights.now w
-        → IsTrue loans ↔ AreLoans w) }
+pub fn are_loans(
+    alloc: Global,
+    ledger: &[Receipt],
+    splits: &BTreeMap<Uuid, Vec<Lent>>,
+    holders: &[Holder],
+) -> Result<bool, OutOfMemory>
+    ensures { IfOk result (λ loans. (w : World) → IsHeldWith ledger.now holders.now w
+        → HasSplits splits.now w → IsTrue loans ↔ AreLoans w) }
 {
     let merges = last_merges(alloc, ledger)?;
-    let splits = splits_of(alloc, sights)?;
-    Ok(are_loans_seen(&merges, &splits, sights))
+    Ok(are_loans_seen(&merges, splits, holders))
 }
 
 // The same by the last merges and the splits.
 fn are_loans_seen(
     merges: &BTreeMap<Uuid, u64>,
     splits: &BTreeMap<Uuid, Vec<Lent>>,
-    sights: &[Sight],
+    holders: &[Holder],
 ) -> bool
-    ensures { IsTrue result ↔ AllByRecursion (IsLoanBy merges.now splits.now) sights.now }
+    ensures { IsTrue result ↔ AllByRecursion (IsLoanBy merges.now splits.now) holders.now }
 {
-    for sight in sights {
-        if !is_loan(merges, splits, sight) {
+    for holder in holders {
+        if !is_loan(merges, splits, holder) {
             return false;
         }
     }
@@ -47,14 +51,18 @@ fn are_loans_seen(
 }
 
 // Whether a package has no parent, or is the loan of a split that stands in its parent and that no later merge undoes.
-fn is_loan(merges: &BTreeMap<Uuid, u64>, splits: &BTreeMap<Uuid, Vec<Lent>>, sight: &Sight) -> bool
-    ensures { IsTrue result ↔ IsLoanBy merges.now splits.now sight.now }
+fn is_loan(
+    merges: &BTreeMap<Uuid, u64>,
+    splits: &BTreeMap<Uuid, Vec<Lent>>,
+    holder: &Holder,
+) -> bool
+    ensures { IsTrue result ↔ IsLoanBy merges.now splits.now holder.now }
 {
-    let Some(parent) = sight.parent else {
+    let Some(parent) = holder.parent else {
         return true;
     };
-    stands_in(lents_of(splits, sight.uuid), parent, sight.loan)
-        & is_open(merges, sight.uuid, sight.loan)
+    stands_in(lents_of(splits, holder.uuid), parent, holder.loan)
+        & is_open(merges, holder.uuid, holder.loan)
 }
 
 // Whether the split of this number that stands in this package is among these.

@@ -1,30 +1,25 @@
 //! Whether each merge stands where the split of its source stands.
-ghost use Rattle.std.specs.Prelude.{◌≡◌, ◌↔◌, [], IsTrue, IfOk};
+ghost use Rattle.std.specs.Prelude.{◌≡◌, ◌↔◌, [], IsTrue};
 ghost use Rattle.std.specs.List.{AllByRecursion};
 ghost use Rattle.sheet_types.specs.World.{World};
 ghost use Rattle.sheet_ledger.specs.Parts.{AreTogether};
 ghost use Rattle.sheet_balance.specs.Sights.{IsSeen};
-ghost use Rattle.sheet_balance.specs.Splits.{StandsBefore, UndoesBy, lents_in};
+ghost use Rattle.sheet_balance.specs.Splits.{HasSplits, StandsBefore, UndoesBy, lents_in};
 
 use crate::sights::Sight;
-use crate::splits::{Lent, lents_of, splits_of};
+use crate::splits::{Lent, lents_of};
 use sheet_ledger::loans::is_merge;
-use sheet_types::error::OutOfMemory;
 use sheet_types::receipt::Receipt;
-use std::alloc::Global;
 use std::collections::BTreeMap;
 use uuid::Uuid;
 
-/// Whether each merge stands in the package in which each split of its source before it stands.
-///
-/// # Errors
-///
-/// Want of memory.
-pub fn are_together(alloc: Global, sights: &[Sight]) -> Result<bool, OutOfMemory>
-    ensures { IfOk result (λ together. (w : World) → IsSeen sights.now w → IsTrue together ↔ AreTogether w) }
+/// Whether each merge stands in the package in which each split of its source before it stands, by
+/// the splits that stand in the packages. No split has an empty target.
+pub fn are_together(splits: &BTreeMap<Uuid, Vec<Lent>>, sights: &[Sight]) -> bool
+    requires { lents_in splits.now [] ≡ [] }
+    ensures { (w : World) → IsSeen sights.now w → HasSplits splits.now w → IsTrue result ↔ AreTogether w }
 {
-    let splits = splits_of(alloc, sights)?;
-    Ok(all_together(&splits, sights))
+    all_together(splits, sights)
 }
 
 // The same by the splits.

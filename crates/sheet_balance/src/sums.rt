@@ -9,9 +9,9 @@ ghost use Rattle.sheet_types.specs.World.{World};
 ghost use Rattle.sheet_ledger.specs.Parts.{SumsAddUp};
 ghost use Rattle.sheet_types.specs.Step.{count_of};
 ghost use Rattle.sheet_ledger.specs.Flows.{HasFlows, flow_in};
-ghost use Rattle.sheet_balance.specs.Sights.{IsSeenWith, ComesUp, ComesUpIn};
+ghost use Rattle.sheet_balance.specs.Holders.{IsHeldWith, ComesUp, ComesUpIn};
 
-use crate::sights::Sight;
+use crate::holders::Holder;
 use sheet_ledger::flows::{Flow, flow_of, flows};
 use sheet_types::error::OutOfMemory;
 use sheet_types::receipt::{Moved, MovedKind, Receipt};
@@ -24,24 +24,28 @@ use uuid::Uuid;
 /// # Errors
 ///
 /// Want of memory.
-pub fn sums_add_up(alloc: Global, ledger: &[Receipt], sights: &[Sight]) -> Result<bool, OutOfMemory>
-    ensures { IfOk result (λ up. (w : World) → IsSeenWith ledger.now sights.now w → IsTrue up ↔ SumsAddUp w) }
+pub fn sums_add_up(
+    alloc: Global,
+    ledger: &[Receipt],
+    holders: &[Holder],
+) -> Result<bool, OutOfMemory>
+    ensures { IfOk result (λ up. (w : World) → IsHeldWith ledger.now holders.now w → IsTrue up ↔ SumsAddUp w) }
 {
     let flows = flows(alloc, ledger)?;
-    let seen = are_sums_of(&flows, ledger, sights);
-    let uuids = uuids_of(alloc, sights)?;
+    let seen = are_sums_of(&flows, ledger, holders);
+    let uuids = uuids_of(alloc, holders)?;
     let unseen = all_left(&flows, &uuids);
     Ok(seen & unseen)
 }
 
 // Whether what came to each package that is seen is what left it and what it holds.
-fn are_sums_of(flows: &BTreeMap<Uuid, Flow>, ledger: &[Receipt], sights: &[Sight]) -> bool
+fn are_sums_of(flows: &BTreeMap<Uuid, Flow>, ledger: &[Receipt], holders: &[Holder]) -> bool
     requires { HasFlows flows.now ledger.now }
-    ensures { IsTrue result ↔ AllByRecursion (ComesUpIn ledger.now) sights.now }
+    ensures { IsTrue result ↔ AllByRecursion (ComesUpIn ledger.now) holders.now }
 {
-    for sight in sights {
-        let flow = flow_of(flows, sight.uuid);
-        if !adds_up(&flow, sight.items.as_slice(), sight.links.as_slice()) {
+    for holder in holders {
+        let flow = flow_of(flows, holder.uuid);
+        if !adds_up(&flow, holder.items.as_slice(), holder.links.as_slice()) {
             return false;
         }
     }
@@ -49,13 +53,13 @@ fn are_sums_of(flows: &BTreeMap<Uuid, Flow>, ledger: &[Receipt], sights: &[Sight
 }
 
 // The UUIDs of the packages that are seen.
-fn uuids_of(alloc: Global, sights: &[Sight]) -> Result<BTreeSet<Uuid>, AllocError>
+fn uuids_of(alloc: Global, holders: &[Holder]) -> Result<BTreeSet<Uuid>, AllocError>
     ensures { IfOk result (λ uuids. (p : List ℕ) → contains (slice_cmp nat_cmp) uuids p
-        ≡ has (λ s. s.uuid) p sights.now) }
+        ≡ has (λ h. h.uuid) p holders.now) }
 {
     let mut uuids = BTreeSet::new(alloc);
-    for sight in sights {
-        uuids.insert(sight.uuid)?;
+    for holder in holders {
+        uuids.insert(holder.uuid)?;
     }
     Ok(uuids)
 }

@@ -6,17 +6,18 @@ use crate::steps::{Of, Table, Told, cut, points, uuid, wrong_of};
 use opening_faults::altered::least_altered;
 use opening_verdict::holdings::sums_of;
 use opening_verdict::tickets::{last_receipts, ticket_of};
+use sheet_balance::accounts::{Account, account_of};
+use sheet_balance::holders::archive_of;
 use sheet_balance::holding::holds_what_is_kept;
 use sheet_balance::homes::are_at_home;
 use sheet_balance::judging::judge;
 use sheet_balance::loans::are_loans;
-use sheet_balance::merges::are_together;
-use sheet_balance::sights::{Sight, archive_of, ledger_of};
+use sheet_balance::sights::Sight;
 use sheet_balance::splits::{lents_of, splits_of};
 use sheet_balance::sums::sums_add_up;
 use sheet_ledger::soundness::is_sound;
 use sheet_types::error::OutOfMemory;
-use sheet_types::receipt::{Receipt, Sums};
+use sheet_types::receipt::Sums;
 use std::alloc::Global;
 use uuid::Uuid;
 
@@ -59,26 +60,24 @@ fn sights(alloc: Global, words: &str) -> Result<Vec<Sight>, OutOfMemory> {
 
 // Whether the ledger of a world is sound; whether custody, sums, loans, homes and merges are in
 // order; and what the judge says.
-fn tell_parts(
-    alloc: Global,
-    ledger: &[Receipt],
-    seen: &[Sight],
-    told: &mut Told,
-) -> Result<(), OutOfMemory> {
+fn tell_parts(alloc: Global, words: &str, told: &mut Told) -> Result<(), OutOfMemory> {
+    let account = account_of(alloc, sights(alloc, words)?)?;
+    let ledger = account.ledger.as_slice();
+    let holders = account.holders.as_slice();
     told.sign(is_sound(alloc, uuid(ARCHIVE, 0), ledger)?);
-    told.sign(holds_what_is_kept(alloc, ledger, seen)?);
-    told.sign(sums_add_up(alloc, ledger, seen)?);
-    told.sign(are_loans(alloc, ledger, seen)?);
-    told.sign(are_at_home(alloc, ledger, seen)?);
-    told.sign(are_together(alloc, seen)?);
-    told.sign(judge(alloc, seen)?);
+    told.sign(holds_what_is_kept(alloc, ledger, holders)?);
+    told.sign(sums_add_up(alloc, ledger, holders)?);
+    told.sign(are_loans(alloc, ledger, &account.splits, holders)?);
+    told.sign(are_at_home(alloc, ledger, holders)?);
+    told.sign(account.together);
+    told.sign(judge(alloc, sights(alloc, words)?)?);
     Ok(())
 }
 
 // The archive that is seen, and the numbers of the ledger in their order.
-fn tell_ledger(ledger: &[Receipt], seen: &[Sight], told: &mut Told) {
-    told.word(package_word(archive_of(seen)));
-    for receipt in ledger {
+fn tell_ledger(account: &Account, told: &mut Told) {
+    told.word(package_word(archive_of(account.holders.as_slice())));
+    for receipt in account.ledger.as_slice() {
         told.worded(" ", &receipt.seq);
     }
 }
@@ -123,9 +122,10 @@ fn tell_first(
 }
 
 // The least item that no addition says, where the addition of the tile is all that there is.
-fn tell_altered(alloc: Global, seen: &[Sight], told: &mut Told) -> Result<(), OutOfMemory> {
+fn tell_altered(alloc: Global, account: &Account, told: &mut Told) -> Result<(), OutOfMemory> {
     let ledger = receipts(alloc, "addition")?;
-    told.word(package_word(least_altered(alloc, ledger.as_slice(), seen)?));
+    let holders = account.holders.as_slice();
+    told.word(package_word(least_altered(alloc, ledger.as_slice(), holders)?));
     Ok(())
 }
 
@@ -138,11 +138,7 @@ fn tell_seen(
     let (asks, of) = asks.split_once('_').unwrap_or((asks, "-"));
     let of = uuid(package_byte(of).unwrap_or(0), 0);
     match (asks, seen.first()) {
-        ("parts", _) => tell_parts(alloc, ledger_of(alloc, seen)?.as_slice(), seen, told)?,
-        ("judged", _) => told.answer(judge(alloc, seen)?),
-        ("ledger", _) => tell_ledger(ledger_of(alloc, seen)?.as_slice(), seen, told),
         ("lents", _) => tell_lents(alloc, seen, of, told)?,
-        ("altered", _) => tell_altered(alloc, seen, told)?,
         (_, Some(first)) => tell_first(alloc, first, asks, of, told)?,
         (_, None) => told.unread("no package"),
     }
@@ -152,7 +148,15 @@ fn tell_seen(
 /// What is asked of packages, and they.
 pub(crate) fn world_of(alloc: Global, question: &str, told: &mut Told) -> Result<(), OutOfMemory> {
     let (asks, words) = cut(question);
-    tell_seen(alloc, sights(alloc, words)?.as_slice(), asks, told)
+    let seen = sights(alloc, words)?;
+    match asks {
+        "parts" => tell_parts(alloc, words, told)?,
+        "judged" => told.answer(judge(alloc, seen)?),
+        "ledger" => tell_ledger(&account_of(alloc, seen)?, told),
+        "altered" => tell_altered(alloc, &account_of(alloc, seen)?, told)?,
+        asks => tell_seen(alloc, seen.as_slice(), asks, told)?,
+    }
+    Ok(())
 }
 
 const WORLDS: Table = Table(

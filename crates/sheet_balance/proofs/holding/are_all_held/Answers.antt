@@ -6,7 +6,7 @@ use Rattle.std.specs.Cmp.Lexicographic.{nat_list_cmp_total}
 use Rattle.std.specs.Map.Iter.{deref_pair}
 use Rattle.std.proofs.lemmas.Map.Iter.{btree_map_turn, rest_all}
 use Rattle.sheet_ledger.proofs.Walking.{says_yes, says_no, denied}
-use Rattle.sheet_balance.proofs.Kept.{IsHeld, found_held}
+use Rattle.sheet_balance.proofs.Kept.{IsFound, found_held}
 use Rattle.sheet_balance.proofs.holding.are_all_held.Goals as goal
 
 pub returns-then-not-is_held : goal.returns-then-not-is_held
@@ -23,4 +23,4 @@ returns c =
     let nothing : c.loop-thing.thing-iterator ≡ [] = rest_all deref_pair c.loop-thing.thing-iterator c.next.new.self
     c.next.result c.in-None.is c.next.ensures.steps in
     says_yes (found_held c.args.held.now c.args.places.now.entries
-    (c.loop-thing.invariant.2 (subst (AllByRecursion (IsHeld c.args.held.now)) (sym nothing) tt)))
+    (c.loop-thing.invariant.2 (subst (AllByRecursion (IsFound c.args.held.now)) (sym nothing) tt)))

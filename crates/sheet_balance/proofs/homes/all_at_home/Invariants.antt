@@ -4,6 +4,6 @@ use Rattle.sheet_balance.specs.Homes.{StandsBy}
 use Rattle.sheet_balance.proofs.homes.all_at_home.Given as goal
 
 -- each so far
-abbrev pub invariant-loop-sight : goal.invariant-loop-sight
-invariant-loop-sight l = AllByRecursion (λ s. AllByRecursion (StandsBy l.homes s.uuid) s.receipts.items)
-    (take l.sight-index l.sights)
+abbrev pub invariant-loop-holder : goal.invariant-loop-holder
+invariant-loop-holder l = AllByRecursion (λ h. AllByRecursion (StandsBy l.homes h.uuid) h.numbers.items)
+    (take l.holder-index l.holders)

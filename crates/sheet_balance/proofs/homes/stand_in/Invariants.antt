@@ -4,5 +4,5 @@ use Rattle.sheet_balance.specs.Homes.{StandsBy}
 use Rattle.sheet_balance.proofs.homes.stand_in.Given as goal
 
 -- each so far
-abbrev pub invariant-loop-receipt : goal.invariant-loop-receipt
-invariant-loop-receipt l = AllByRecursion (StandsBy l.homes l.fn.package) (take l.receipt-index l.receipts)
+abbrev pub invariant-loop-number : goal.invariant-loop-number
+invariant-loop-number l = AllByRecursion (StandsBy l.homes l.fn.package) (take l.number-index l.numbers)

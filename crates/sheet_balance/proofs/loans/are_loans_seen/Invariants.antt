@@ -4,5 +4,5 @@ use Rattle.sheet_balance.specs.Splits.{IsLoanBy}
 use Rattle.sheet_balance.proofs.loans.are_loans_seen.Given as goal
 
 -- each so far
-abbrev pub invariant-loop-sight : goal.invariant-loop-sight
-invariant-loop-sight l = AllByRecursion (IsLoanBy l.merges l.splits) (take l.sight-index l.sights)
+abbrev pub invariant-loop-holder : goal.invariant-loop-holder
+invariant-loop-holder l = AllByRecursion (IsLoanBy l.merges l.splits) (take l.holder-index l.holders)

@@ -1,7 +1,6 @@
--- The splits are those of the sights.
+-- The splits are those of the world.
 use Rattle.sheet_balance.proofs.Undoing.{together_answer}
 use Rattle.sheet_balance.proofs.merges.are_together.Goals as goal
 
 pub returns : goal.returns
-returns c = together_answer c.in_ok-splits.splits c.args.sights.now c.all_together.result c.in_ok-splits.ensures.has
-    c.all_together.ensures
+returns c = together_answer c.args.splits.now c.args.sights.now c.all_together.result c.all_together.ensures

@@ -5,7 +5,7 @@ use Rattle.std.specs.BTreeSet.{contains}
 use Rattle.sheet_types.specs.Ordered.{has}
 use Rattle.sheet_balance.proofs.sums.uuids_of.Given as goal
 
--- those of the sights so far
-abbrev pub invariant-loop-sight : goal.invariant-loop-sight
-invariant-loop-sight l = (p : List ℕ) → contains (slice_cmp nat_cmp) l.uuids p
-    ≡ has (λ s. s.uuid) p (take l.sight-index l.sights)
+-- those of the packages so far
+abbrev pub invariant-loop-holder : goal.invariant-loop-holder
+invariant-loop-holder l = (p : List ℕ) → contains (slice_cmp nat_cmp) l.uuids p
+    ≡ has (λ s. s.uuid) p (take l.holder-index l.holders)

@@ -1,8 +1,0 @@
-use Rattle.std.proofs.Common.{◌≡◌, take, false}
-use Rattle.std.specs.Prelude.{is_none}
-use Rattle.std.specs.List.{AllByRecursion}
-use Rattle.sheet_balance.proofs.sights.first_archive.Given as goal
-
--- each so far has a parent
-abbrev pub invariant-loop-sight : goal.invariant-loop-sight
-invariant-loop-sight l = AllByRecursion (λ s. is_none s.parent ≡ false) (take l.sight-index l.sights)
