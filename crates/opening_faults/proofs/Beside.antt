@@ -9,6 +9,7 @@ use Rattle.sheet_types.specs.declared.frame.Frame.{Frame}
 use Rattle.opening_faults.specs.Sights.{Any, nothing_read, head_seen, claims_seen, frame_seen, is_live_store}
 use Rattle.opening_faults.specs.Sights.{NoArchive, TwoArchives, ForeignFrame}
 use Rattle.opening_faults.specs.declared.sights.Sight.{Sight}
+use Rattle.opening_faults.specs.Passages.{passages}
 use Rattle.opening_faults.proofs.Carried as carried
 use Rattle.opening_faults.proofs.Turning.{map_same, map_map}
 
@@ -81,14 +82,14 @@ module _ (Store : Type 0) (head : Store → Option Head) (claims : Store → Lis
         claims IsFormed IsTied frame_of read (λ p. p.store) (λ p. refl) (λ p. refl) (λ p. refl))
         (carried.no_archive_to Pair Sight head_of_pair claims_of_pair AnyPair AnyPair frame_of_pair read_of_pair
         head_seen claims_seen Any Any frame_seen nothing_read (λ p. p.sight) (λ p. p.beside.head_is)
-        (λ p. p.beside.claims_are) (λ p. p.beside.frame_is))
+        (λ p. ap passages p.beside.claims_are) (λ p. p.beside.frame_is))
 
     pub no_archive_said : NoArchive sights → model.NoArchive Store head claims IsFormed IsTied frame_of read stores
     no_archive_said = back (model.NoArchive Store head claims IsFormed IsTied frame_of read)
         (model.NoArchive Pair head_of_pair claims_of_pair AnyPair AnyPair frame_of_pair read_of_pair) NoArchive
         (carried.no_archive_fro Pair Sight head_of_pair claims_of_pair AnyPair AnyPair frame_of_pair read_of_pair
         head_seen claims_seen Any Any frame_seen nothing_read (λ p. p.sight) (λ p. p.beside.head_is)
-        (λ p. p.beside.claims_are) (λ p. p.beside.frame_is))
+        (λ p. ap passages p.beside.claims_are) (λ p. p.beside.frame_is))
         (carried.no_archive_to Pair Store head_of_pair claims_of_pair AnyPair AnyPair frame_of_pair read_of_pair head
         claims IsFormed IsTied frame_of read (λ p. p.store) (λ p. refl) (λ p. refl) (λ p. refl))
 
@@ -100,7 +101,7 @@ module _ (Store : Type 0) (head : Store → Option Head) (claims : Store → Lis
         head claims IsFormed IsTied frame_of read (λ p. p.store) (λ p. refl) (λ p. refl) (λ p. refl))
         (carried.two_archives_to Pair Sight head_of_pair claims_of_pair AnyPair AnyPair frame_of_pair read_of_pair
         head_seen claims_seen Any Any frame_seen nothing_read (λ p. p.sight) (λ p. p.beside.head_is)
-        (λ p. p.beside.claims_are) (λ p. p.beside.frame_is))
+        (λ p. ap passages p.beside.claims_are) (λ p. p.beside.frame_is))
 
     pub two_archives_said : TwoArchives sights → model.TwoArchives Store head claims IsFormed IsTied frame_of read
         stores
@@ -108,7 +109,7 @@ module _ (Store : Type 0) (head : Store → Option Head) (claims : Store → Lis
         (model.TwoArchives Pair head_of_pair claims_of_pair AnyPair AnyPair frame_of_pair read_of_pair) TwoArchives
         (carried.two_archives_fro Pair Sight head_of_pair claims_of_pair AnyPair AnyPair frame_of_pair read_of_pair
         head_seen claims_seen Any Any frame_seen nothing_read (λ p. p.sight) (λ p. p.beside.head_is)
-        (λ p. p.beside.claims_are) (λ p. p.beside.frame_is))
+        (λ p. ap passages p.beside.claims_are) (λ p. p.beside.frame_is))
         (carried.two_archives_to Pair Store head_of_pair claims_of_pair AnyPair AnyPair frame_of_pair read_of_pair
         head claims IsFormed IsTied frame_of read (λ p. p.store) (λ p. refl) (λ p. refl) (λ p. refl))
 
@@ -123,7 +124,7 @@ module _ (Store : Type 0) (head : Store → Option Head) (claims : Store → Lis
         head claims IsFormed IsTied frame_of read (λ p. p.store) (λ p. refl) (λ p. refl) (λ p. refl) ps test id)
         (λ ps. carried.counted_to Pair Sight head_of_pair claims_of_pair AnyPair AnyPair frame_of_pair read_of_pair
         head_seen claims_seen Any Any frame_seen nothing_read (λ p. p.sight) (λ p. p.beside.head_is)
-        (λ p. p.beside.claims_are) (λ p. p.beside.frame_is) ps test id)
+        (λ p. ap passages p.beside.claims_are) (λ p. p.beside.frame_is) ps test id)
 
     pub counted_said : (test : ℕ → Bool) (id : List ℕ) → model.Counted Sight head_seen claims_seen Any Any
         frame_seen
@@ -133,7 +134,7 @@ module _ (Store : Type 0) (head : Store → Option Head) (claims : Store → Lis
         (λ xs. model.Counted Sight head_seen claims_seen Any Any frame_seen nothing_read test xs id)
         (λ ps. carried.counted_fro Pair Sight head_of_pair claims_of_pair AnyPair AnyPair frame_of_pair read_of_pair
         head_seen claims_seen Any Any frame_seen nothing_read (λ p. p.sight) (λ p. p.beside.head_is)
-        (λ p. p.beside.claims_are) (λ p. p.beside.frame_is) ps test id)
+        (λ p. ap passages p.beside.claims_are) (λ p. p.beside.frame_is) ps test id)
         (λ ps. carried.counted_to Pair Store head_of_pair claims_of_pair AnyPair AnyPair frame_of_pair read_of_pair
         head claims IsFormed IsTied frame_of read (λ p. p.store) (λ p. refl) (λ p. refl) (λ p. refl) ps test id)
 
@@ -146,7 +147,7 @@ module _ (Store : Type 0) (head : Store → Option Head) (claims : Store → Lis
         head claims IsFormed IsTied frame_of read (λ p. p.store) (λ p. refl) (λ p. refl) (λ p. refl) ps id)
         (λ ps. carried.foreign_to Pair Sight head_of_pair claims_of_pair AnyPair AnyPair frame_of_pair read_of_pair
         head_seen claims_seen Any Any frame_seen nothing_read (λ p. p.sight) (λ p. p.beside.head_is)
-        (λ p. p.beside.claims_are) (λ p. p.beside.frame_is) ps id)
+        (λ p. ap passages p.beside.claims_are) (λ p. p.beside.frame_is) ps id)
 
     pub foreign_said : (id : List ℕ) → ForeignFrame sights id
         → model.ForeignFrame Store head claims IsFormed IsTied frame_of read stores id
@@ -155,7 +156,7 @@ module _ (Store : Type 0) (head : Store → Option Head) (claims : Store → Lis
         (λ xs. ForeignFrame xs id)
         (λ ps. carried.foreign_fro Pair Sight head_of_pair claims_of_pair AnyPair AnyPair frame_of_pair read_of_pair
         head_seen claims_seen Any Any frame_seen nothing_read (λ p. p.sight) (λ p. p.beside.head_is)
-        (λ p. p.beside.claims_are) (λ p. p.beside.frame_is) ps id)
+        (λ p. ap passages p.beside.claims_are) (λ p. p.beside.frame_is) ps id)
         (λ ps. carried.foreign_to Pair Store head_of_pair claims_of_pair AnyPair AnyPair frame_of_pair read_of_pair
         head claims IsFormed IsTied frame_of read (λ p. p.store) (λ p. refl) (λ p. refl) (λ p. refl) ps id)
 
@@ -169,7 +170,7 @@ module _ (Store : Type 0) (head : Store → Option Head) (claims : Store → Lis
         (λ p. model.is_live_store Store head claims IsFormed IsTied frame_of read (map (λ q. q.store) ps) p.store)
         (λ p. carried.live_store_seen Pair Sight head_of_pair claims_of_pair AnyPair AnyPair frame_of_pair
         read_of_pair head_seen claims_seen Any Any frame_seen nothing_read (λ q. q.sight) (λ q. q.beside.head_is)
-        (λ q. q.beside.claims_are) (λ q. q.beside.frame_is) ps p
+        (λ q. ap passages q.beside.claims_are) (λ q. q.beside.frame_is) ps p
         ∙ sym (carried.live_store_seen Pair Store head_of_pair claims_of_pair AnyPair AnyPair frame_of_pair
         read_of_pair head claims IsFormed IsTied frame_of read (λ q. q.store) (λ q. refl) (λ q. refl) (λ q. refl)
         ps p)) ps

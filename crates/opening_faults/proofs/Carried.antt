@@ -1,4 +1,4 @@
--- The words of opening over stores that are seen as others with the same head, claims and frame: each word of the
+-- The words of opening over stores that are seen as others with the same head, passages and frame: each word of the
 -- seen stores is that of the stores.
 use Rattle.std.specs.Prelude.{◌≡◌, ◌⊎◌, ℕ, zero, suc, ◌≤◌, Bool, true, false, cond, ◌&&◌}
 use Rattle.std.specs.Prelude.{◌||◌, ◌==◌, List, [], ◌∷◌}
@@ -15,7 +15,9 @@ use Rattle.sheet_types.specs.declared.frame.Frame.{Frame}
 use Rattle.sheet_types.proofs.Sums.{count-cons}
 use Rattle.sheet_types.proofs.Basics.{some_same, None≢Some}
 use Rattle.sheet_types.proofs.Same.{In, In-map, In-of_map, Contains-In}
+use Rattle.opening_faults.specs.Passages.{passages}
 use Rattle.opening_faults.proofs.Members.{contained}
+use Rattle.opening_faults.proofs.Passages.{any_same, open_passes, passages_flat, open_alike, any_open_alike, there_alike}
 
 -- ---- lists
 
@@ -36,11 +38,6 @@ flat_seen : {X Y Z : Type 0} (see : X → Y) (f : X → List Z) (g : Y → List 
 flat_seen see f g same [] = refl
 flat_seen see f g same (x ∷ xs) = ap (λ ys. ys ++ flat_map g (map see xs)) (same x)
     ∙ ap (λ ys. f x ++ ys) (flat_seen see f g same xs)
-
-any_same : {X : Type 0} (p q : X → Bool) → ((x : X) → q x ≡ p x) → (xs : List X)
-    → list_any q xs ≡ list_any p xs
-any_same p q same [] = refl
-any_same p q same (x ∷ xs) = ap (λ b. b || list_any q xs) (same x) ∙ ap (λ b. p x || b) (any_same p q same xs)
 
 count_seen : {X Y : Type 0} (see : X → Y) (p : X → Bool) (q : Y → Bool) → ((x : X) → q (see x) ≡ p x)
     → (xs : List X)
@@ -102,7 +99,7 @@ module _ (Store Seen : Type 0)
     (IsTied' : Seen → Type 0)
     (frame_of' : Seen → Frame) (read' : Seen → Package)
     (see : Store → Seen) (same_head : (s : Store) → head' (see s) ≡ head s)
-    (same_claims : (s : Store) → claims' (see s) ≡ claims s)
+    (same_passages : (s : Store) → passages (claims' (see s)) ≡ passages (claims s))
     (same_frame : (s : Store) → frame_of' (see s) ≡ frame_of s) where
   pub root_seen : (s : Store) → model.is_root Seen head' claims' IsFormed' IsTied' frame_of' read' (see s)
       ≡ model.is_root Store head claims IsFormed IsTied frame_of read s
@@ -126,26 +123,27 @@ module _ (Store Seen : Type 0)
     abbrev said' : ℕ → List Claim
     said' k = model.claims_at Seen head' claims' IsFormed' IsTied' frame_of' read' k (map see stores)
 
-    said_by : (k : ℕ) → ((s : Store) → at' k (see s) ≡ at k s) → said' k ≡ said k
-    said_by k h = ap (flat_map claims') (filter_seen see (at k) (at' k) h stores)
-        ∙ flat_seen see claims claims' same_claims (filter (at k) stores)
+    said_by : (k : ℕ) → ((s : Store) → at' k (see s) ≡ at k s) → passages (said' k) ≡ passages (said k)
+    said_by k h = passages_flat claims' (filter (at' k) (map see stores))
+        ∙ ap (flat_map (λ s. passages (claims' s))) (filter_seen see (at k) (at' k) h stores)
+        ∙ flat_seen see (λ s. passages (claims s)) (λ s. passages (claims' s)) same_passages (filter (at k) stores)
+        ∙ sym (passages_flat claims (filter (at k) stores))
 
     pub reached_seen : (k : ℕ) (s : Store) → at' k (see s) ≡ at k s
     reached_seen zero s = root_seen s
     reached_seen (suc k) s =
-        let same : said' k ≡ said k = said_by k (reached_seen k) in
         ap (λ b. b || list_any (λ c. model.is_loan_of Seen head' claims' IsFormed' IsTied' frame_of' read' c (see s)
         && is_open_claim (said' k) c) (said' k)) (reached_seen k s)
-        ∙ ap (λ cs. at k s || list_any (λ c. model.is_loan_of Seen head' claims' IsFormed' IsTied' frame_of' read' c
-        (see s) && is_open_claim cs c) cs) same
+        ∙ ap (λ b. at k s || b) (any_open_alike (said' k) (said k) (said_by k (reached_seen k))
+        (λ c. model.is_loan_of Seen head' claims' IsFormed' IsTied' frame_of' read' c (see s)))
         ∙ ap (λ b. at k s || b) (any_same
         (λ c. model.is_loan_of Store head claims IsFormed IsTied frame_of read c s && is_open_claim (said k) c)
         (λ c. model.is_loan_of Seen head' claims' IsFormed' IsTied' frame_of' read' c (see s) && is_open_claim
         (said k) c)
         (λ c. ap (λ b. b && is_open_claim (said k) c) (loan_seen c s)) (said k))
 
-    pub claims_seen : (k : ℕ) → said' k ≡ said k
-    claims_seen k = said_by k (reached_seen k)
+    passages_seen : (k : ℕ) → passages (said' k) ≡ passages (said k)
+    passages_seen k = said_by k (reached_seen k)
 
     pub live_store_seen : (s : Store) → model.is_live_store Seen head' claims' IsFormed' IsTied' frame_of' read'
         (map see stores) (see s) ≡ model.is_live_store Store head claims IsFormed IsTied frame_of read stores s
@@ -170,9 +168,8 @@ module _ (Store Seen : Type 0)
     open_to s c h = (
       h.0,
       found_to h.0 s h.1,
-      subst (λ cs. Contains cs c) (sym (same_claims s)) h.2,
-      ap
-          (λ cs. is_open_claim cs c) (claims_seen h.0) ∙ h.3,
+      there_alike (claims s) (claims' (see s)) (sym (same_passages s)) c (open_passes (said h.0) c h.3) h.2,
+      open_alike (said' h.0) (said h.0) (passages_seen h.0) c ∙ h.3,
     )
 
     pub open_fro : (s : Store) (c : Claim) → model.IsOpenSplitOf Seen head' claims' IsFormed' IsTied' frame_of' read'
@@ -180,9 +177,8 @@ module _ (Store Seen : Type 0)
     open_fro s c h = (
       h.0,
       found_fro h.0 s h.1,
-      subst (λ cs. Contains cs c) (same_claims s) h.2,
-      ap
-          (λ cs. is_open_claim cs c) (sym (claims_seen h.0)) ∙ h.3,
+      there_alike (claims' (see s)) (claims s) (same_passages s) c (open_passes (said' h.0) c h.3) h.2,
+      open_alike (said h.0) (said' h.0) (sym (passages_seen h.0)) c ∙ h.3,
     )
 
     roots_same : count_by (model.is_root Seen head' claims' IsFormed' IsTied' frame_of' read') (map see stores)

@@ -1,4 +1,5 @@
 pub mod Members
+pub mod Passages
 pub mod SameFrames
 pub mod Carried
 pub mod Listing

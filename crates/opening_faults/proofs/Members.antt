@@ -4,7 +4,7 @@ use Rattle.std.proofs.Common.{subst}
 use Rattle.std.proofs.lemmas.List.Elements.{All-from_recursion}
 use Rattle.sheet_types.proofs.Same.{In, In-all}
 
-all_contains : {X : Type 0} (P : X → Type 0) (xs : List X) (x : X) → All P xs → Contains xs x → P x
+pub all_contains : {X : Type 0} (P : X → Type 0) (xs : List X) (x : X) → All P xs → Contains xs x → P x
 all_contains P xs x all h = subst P h.2 (all h.0 x h.1)
 
 pub contained : {X : Type 0} (xs : List X) (x : X) → Contains xs x → In x xs

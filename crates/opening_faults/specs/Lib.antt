@@ -1,4 +1,5 @@
 pub mod Sights
+pub mod Passages
 pub mod Frames
 pub mod Standings
 pub mod Merges

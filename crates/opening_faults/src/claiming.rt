@@ -3,6 +3,7 @@ ghost use Rattle.std.specs.Prelude.{◌≡◌, pos, bytes_eq};
 ghost use Rattle.sheet_types.specs.Matrix.{is_within};
 ghost use Rattle.sheet_types.specs.Texts.{uuid_text};
 ghost use Rattle.sheet_types.specs.Opening.{claims_split, claims_merge};
+ghost use Rattle.opening_faults.specs.Passages.{is_passage};
 ghost use Rattle.opening_faults.specs.Sights.{claim_said, is_loan_of};
 
 use crate::sights::{Sight, StoreClaim};
@@ -26,6 +27,17 @@ pub fn claims_merge(claim: &StoreClaim) -> bool
     matches!(
         read_line(claim.line.as_str()),
         Some(LineEntry::Merge { .. })
+    )
+}
+
+/// Whether a claim is of a split or of a merge: by it a package goes out or comes home. Which stores
+/// live, and which splits are open, depends on these claims alone.
+pub fn is_passage(claim: &StoreClaim) -> bool
+    ensures { result ≡ is_passage (claim_said claim.now) }
+{
+    matches!(
+        read_line(claim.line.as_str()),
+        Some(LineEntry::Split { .. } | LineEntry::Merge { .. })
     )
 }
 

@@ -1,12 +1,14 @@
 -- What the looks at a store come to: some right view of it is seen so.
-use Rattle.std.proofs.Common.{◌≡◌, ◌∙◌, map, Bool, true, false, Some, None, ap, subst}
+use Rattle.std.proofs.Common.{◌≡◌, ◌∙◌, List, map, Bool, true, false, Some, None, ap, subst}
 use Rattle.std.specs.Prelude.{option_map}
 use Rattle.std.proofs.lemmas.Bool.{false≢true}
 use Rattle.sqlite.specs.Effect.{Database}
 use Rattle.sheet_types.specs.Lines.{IsUuid}
+use Rattle.sheet_types.specs.Opening.{Claim}
 use Rattle.sheet_types.specs.World.{Package, no_package}
 use Rattle.sheet_types.specs.declared.frame.Frame.{Frame}
 use Rattle.sheet_laws.specs.Laws.{StoreSight, SeesItsPackage}
+use Rattle.opening_faults.specs.Passages.{passages}
 use Rattle.opening_faults.specs.Sights.{head_said, claim_said}
 use Rattle.opening_faults.specs.declared.sights.StoreHead.{StoreHead}
 use Rattle.package_tables.specs.Package.{tables_of}
@@ -24,22 +26,23 @@ use Rattle.opening_survey.proofs.Levelling.{Level, levelled}
 
 -- ---- views
 
--- what is said, and no package
-abbrev view_without : Said → Frame → Bool → StoreSight
-view_without s f is_formed = record {
+-- the head that is said, these claims, and no package
+abbrev view_without : Said → List Claim → Frame → Bool → StoreSight
+view_without s claims f is_formed = record {
   head = option_map head_said s.head;
-  claims = map claim_said s.claims.items;
+  claims = claims;
   is_formed = is_formed;
   is_tied = false;
   frame = f;
   reads_as = no_package;
 }
 
-seen_without : (s : Said) (f : Frame) (is_formed : Bool) (x : StoreSeen) → IsSeenWithout s f is_formed x
-    → IsSeenAs x (view_without s f is_formed)
-seen_without s f is_formed x seen = record {
+seen_without : (s : Said) (claims : List Claim) (f : Frame) (is_formed : Bool) (x : StoreSeen)
+    → map claim_said s.claims.items ≡ passages claims → IsSeenWithout s f is_formed x
+    → IsSeenAs x (view_without s claims f is_formed)
+seen_without s claims f is_formed x taken seen = record {
   head = ap (option_map head_said) seen.head;
-  claims = ap (λ v. map claim_said v.items) seen.claims;
+  claims = ap (λ v. map claim_said v.items) seen.claims ∙ taken;
   formed = seen.formed;
   tied = seen.tied;
   frame = seen.frame;
@@ -52,16 +55,16 @@ seen_without s f is_formed x seen = record {
 pub unformed : (db : Database) (s : Said) (f : Frame) (x : StoreSeen) → IsSaid db s → (IsFormed db → ⊥)
     → IsSeenWithout s f false x → IsSeenRight db x
 unformed db s f x said lacks seen = (
-  view_without s f false,
+  view_without s said.claims.claims f false,
   record {
     head = said.head;
-    claims = said.claims;
+    claims = said.claims.reads;
     formed = lacks;
     frame = λ h. absurd (false≢true h);
     tied = λ h. absurd (false≢true h);
     reads = λ h. absurd (false≢true h);
   },
-  seen_without s f false x seen,
+  seen_without s said.claims.claims f false x said.claims.taken seen,
 )
 
 -- a store without head is none
@@ -91,21 +94,21 @@ pub untied : (db : Database) (s : Said) (h : StoreHead) (y : Formed) (x : StoreS
     → IsSaid db s
     → IsRead y db → TellsTied (tables_of db) false → IsSeenWithout s y.frame true x → IsSeenRight db x
 untied db s h y x some said read told seen = (
-  view_without s y.frame true,
+  view_without s said.claims.claims y.frame true,
   record {
     head = said.head;
-    claims = said.claims;
+    claims = said.claims.reads;
     formed = (y.frame, whole db s h y some said read);
     frame = λ _. whole db s h y some said read;
     tied = λ _. told.tied;
     reads = λ _ tied. absurd (false≢true tied);
   },
-  seen_without s y.frame true x seen,
+  seen_without s said.claims.claims y.frame true x said.claims.taken seen,
 )
 
 -- ---- a store that is formed and tied
 
--- seen with this head and these claims, this frame, and a package that is told so
+-- seen with this head and these splits and merges, this frame, and a package that is told so
 pub record IsSeenWith (db : Database) (s : Said) (h : StoreHead) (y : Formed) (x : StoreSeen) : Type 0 where
   pub head : x.sight.head ≡ s.head
   pub claims : x.sight.claims ≡ s.claims
@@ -114,24 +117,24 @@ pub record IsSeenWith (db : Database) (s : Said) (h : StoreHead) (y : Formed) (x
   pub tied : x.is_tied ≡ true
   pub held : (f : Frame) (p : Package) → Reads f p db → TellsHeld (head_said h) y.receipts.items f p x.held
 
-abbrev view_with : Said → Frame → Package → StoreSight
-view_with s f p = record {
+abbrev view_with : Said → List Claim → Frame → Package → StoreSight
+view_with s claims f p = record {
   head = option_map head_said s.head;
-  claims = map claim_said s.claims.items;
+  claims = claims;
   is_formed = true;
   is_tied = true;
   frame = f;
   reads_as = p;
 }
 
-reading : (db : Database) (s : Said) (h : StoreHead) (y : Formed) (p : Package) → s.head ≡ Some h → IsSaid db s
-    → IsRead y db → IsPackageOf y.frame db (head_said h) y.receipts.items p
-    → SeesItsPackage (view_with s y.frame p)
+reading : (db : Database) (s : Said) (h : StoreHead) (y : Formed) (p : Package) → s.head ≡ Some h
+    → (said : IsSaid db s) → IsRead y db → IsPackageOf y.frame db (head_said h) y.receipts.items p
+    → SeesItsPackage (view_with s said.claims.claims y.frame p)
 reading db s h y p some said read law formed tied =
     let headed = known db s h some said in
     record {
       heads = ap (option_map head_said) some ∙ ap Some law.heads;
-      claimed = said.claims.0 read.formed.receipts ∙ law.claimed;
+      claimed = said.claims.reads.0 read.formed.receipts ∙ law.claimed;
       frame = read.framed.frame.0;
       uuid = subst (λ k. IsUuid k.uuid) law.heads headed.1.2.uuid;
       keeps = law.keeps;
@@ -146,10 +149,10 @@ packaged law db s h y x some said read told seen =
     let q : (p : Package) × IsPackageOf y.frame db (head_said h) y.receipts.items p =
     law y.frame db (head_said h) y.receipts.items w (known db s h some said) told.tied told.unique
     read.receipts in (
-      view_with s y.frame q.0,
+      view_with s said.claims.claims y.frame q.0,
       record {
         head = said.head;
-        claims = said.claims;
+        claims = said.claims.reads;
         formed = (y.frame, w);
         frame = λ _. w;
         tied = λ _. told.tied;
@@ -157,7 +160,7 @@ packaged law db s h y x some said read told seen =
       },
       record {
         head = ap (option_map head_said) seen.head;
-        claims = ap (λ v. map claim_said v.items) seen.claims;
+        claims = ap (λ v. map claim_said v.items) seen.claims ∙ said.claims.taken;
         formed = seen.formed;
         tied = seen.tied;
         frame = seen.frame;

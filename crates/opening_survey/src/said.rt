@@ -5,8 +5,9 @@ ghost use Rattle.store_sql.specs.Transactions.{Rests};
 ghost use Rattle.opening_faults.specs.Sights as opening;
 ghost use Rattle.package_schema.specs.Heads.{head_said};
 ghost use Rattle.package_schema.specs.Looking.{LooksAt};
-ghost use Rattle.opening_survey.specs.Surveying.{claim_told, IsSaid};
+ghost use Rattle.opening_survey.specs.Surveying.{claim_told, passages_told, IsSaid};
 
+use opening_faults::claiming::is_passage;
 use opening_faults::sights::{StoreClaim, StoreHead};
 use package_schema::claims::{StoreClaim as ReadClaim, claims};
 use package_schema::heads::{StoreHead as ReadHead, head};
@@ -14,7 +15,8 @@ use package_tables::fault::Fault;
 use sqlite::{Alter, Connection};
 use std::alloc::{AllocError, Global};
 
-/// Whose a store is, and what its receipts claim.
+/// Whose a store is, and what its splits and merges claim. Nothing that an opening tells depends on
+/// another claim, so of many thousand receipts none of the others stays in memory.
 #[derive(Drop)]
 pub struct Said {
     pub head: Option<StoreHead>,
@@ -43,6 +45,18 @@ pub fn head_told(found: Option<ReadHead>) -> Option<StoreHead>
     }
 }
 
+/// A claim in the words of the opening.
+fn claim_of(claim: ReadClaim) -> StoreClaim
+    ensures { result ≡ claim_told claim }
+{
+    StoreClaim {
+        seq: claim.seq,
+        line: claim.line,
+        source: claim.source,
+        target: claim.target,
+    }
+}
+
 /// The claims in the words of the opening.
 ///
 /// # Errors
@@ -51,16 +65,28 @@ pub fn head_told(found: Option<ReadHead>) -> Option<StoreHead>
 pub fn claims_of(alloc: Global, claims: Vec<ReadClaim>) -> Result<Vec<StoreClaim>, AllocError>
     ensures { IfOk result (λ told. told.items ≡ map claim_told claims.items) }
 {
-    let told = claims.into_iter().map(|claim| StoreClaim {
-        seq: claim.seq,
-        line: claim.line,
-        source: claim.source,
-        target: claim.target,
-    });
-    told.collect(alloc)
+    claims
+        .into_iter()
+        .map(|claim| claim_of(claim))
+        .collect(alloc)
 }
 
-/// Whose the store is, and what its receipts claim.
+/// The splits and merges among the claims, in the words of the opening. The others are let go.
+///
+/// # Errors
+///
+/// Want of memory.
+pub fn passages_of(alloc: Global, claims: Vec<ReadClaim>) -> Result<Vec<StoreClaim>, AllocError>
+    ensures { IfOk result (λ told. told.items ≡ passages_told claims.items) }
+{
+    claims
+        .into_iter()
+        .map(|claim| claim_of(claim))
+        .filter(|claim| is_passage(claim))
+        .collect(alloc)
+}
+
+/// Whose the store is, and what its splits and merges claim.
 ///
 /// # Errors
 ///
@@ -71,7 +97,7 @@ pub(crate) fn read_said<S: Alter>(conn: &mut Connection<S>, alloc: Global) -> Re
 {
     let found = head(conn, alloc)?;
     let read = claims(conn, alloc)?;
-    let told = claims_of(alloc, read)?;
+    let told = passages_of(alloc, read)?;
     Ok(Said {
         head: head_told(found),
         claims: told,

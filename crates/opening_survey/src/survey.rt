@@ -103,8 +103,8 @@ fn survey_formed<S: Alter>(
     })
 }
 
-/// What the opening of a world sees of a store: whose it is, what its receipts claim, whether it is
-/// a package, and which. One content is in memory at a time, until it is told by its digest.
+/// What the opening of a world sees of a store: whose it is, what its splits and merges claim,
+/// whether it is a package, and which. One content is in memory at a time, until it is told by its digest.
 ///
 /// # Errors
 ///

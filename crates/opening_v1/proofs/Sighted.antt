@@ -1,12 +1,14 @@
 -- What the looks at a store of the first version come to: some right view of it is seen so.
-use Rattle.std.proofs.Common.{◌≡◌, ◌∙◌, map, false, Some, None, Result, Ok, Err, sym, ap, subst}
+use Rattle.std.proofs.Common.{◌≡◌, ◌∙◌, List, map, false, Some, None, Result, Ok, Err, sym, ap, subst}
 use Rattle.std.specs.Prelude.{option_map, pos, IfOk}
 use Rattle.std.proofs.lemmas.Bool.{false≢true}
 use Rattle.sqlite.specs.Effect.{Database}
 use Rattle.sqlite.specs.State.{State, HasCleanDisk}
+use Rattle.sheet_types.specs.Opening.{Claim}
 use Rattle.sheet_types.specs.World.{no_package}
 use Rattle.sheet_types.specs.declared.frame.Frame.{Frame}
 use Rattle.sheet_laws.specs.Laws.{StoreSight}
+use Rattle.opening_faults.specs.Passages.{passages}
 use Rattle.opening_faults.specs.Sights.{head_said, claim_said}
 use Rattle.opening_faults.specs.declared.sights.StoreHead.{StoreHead}
 use Rattle.package_tables.specs.Damaged.{AreFormedAt}
@@ -29,21 +31,23 @@ use Rattle.opening_v1.proofs.Copied.{whole_copy}
 use Rattle.opening_v1.proofs.Numbering.{numbered}
 use Rattle.opening_v1.proofs.Viewed.{view_seen}
 
--- what is said, and no package
-abbrev view_without : Said → Frame → StoreSight
-view_without s f = record {
+-- the head that is said, these claims, and no package
+abbrev view_without : Said → List Claim → Frame → StoreSight
+view_without s claims f = record {
   head = option_map head_said s.head;
-  claims = map claim_said s.claims.items;
+  claims = claims;
   is_formed = false;
   is_tied = false;
   frame = f;
   reads_as = no_package;
 }
 
-seen_without : (s : Said) (f : Frame) (x : StoreSeen) → IsSeenWithout s f false x → IsSeenAs x (view_without s f)
-seen_without s f x seen = record {
+seen_without : (s : Said) (claims : List Claim) (f : Frame) (x : StoreSeen)
+    → map claim_said s.claims.items ≡ passages claims → IsSeenWithout s f false x
+    → IsSeenAs x (view_without s claims f)
+seen_without s claims f x taken seen = record {
   head = ap (option_map head_said) seen.head;
-  claims = ap (λ v. map claim_said v.items) seen.claims;
+  claims = ap (λ v. map claim_said v.items) seen.claims ∙ taken;
   formed = seen.formed;
   tied = seen.tied;
   frame = seen.frame;
@@ -56,16 +60,16 @@ pub unformed : (db : Database) (s : Said) (f : Frame) (x : StoreSeen) → IsFirs
     → (IsFirstFormed db → ⊥)
     → IsSeenWithout s f false x → IsFirstSeenRight db x
 unformed db s f x said lacks seen = (
-  view_without s f,
+  view_without s said.claims.claims f,
   record {
     head = said.head;
-    claims = said.claims;
+    claims = said.claims.reads;
     formed = lacks;
     frame = λ h. absurd (false≢true h);
     tied = λ h. absurd (false≢true h);
     reads = λ h. absurd (false≢true h);
   },
-  seen_without s f x seen,
+  seen_without s said.claims.claims f x said.claims.taken seen,
 )
 
 -- a store without head is none

@@ -1,20 +1,20 @@
 -- What the parts of a survey answer, one after the other. Profile.
-use Rattle.std.specs.Prelude.{pos, map, Option, MatchOption, option_map}
+use Rattle.std.specs.Prelude.{pos, Option, MatchOption, option_map}
 use Rattle.sqlite.specs.Effect.{Database}
 use Rattle.sheet_types.specs.declared.frame.Frame.{Frame}
-use Rattle.opening_faults.specs.Sights.{head_said, claim_said}
-use Rattle.package_tables.specs.Damaged.{ReadsClaims}
+use Rattle.opening_faults.specs.Sights.{head_said}
 use Rattle.package_tables.specs.Package.{tables_of}
 use Rattle.package_schema.specs.Forms.{HasFirstForm}
 use Rattle.package_schema.specs.Frames.{HasFirstFrame, AreDated}
 use Rattle.package_schema.specs.Heads.{ReadsHeadAt}
+use Rattle.opening_survey.specs.Surveying.{HasPassages}
 use Rattle.opening_survey.specs.declared.said.Said.{Said}
 use Rattle.opening_v1.specs.Views.{IsFirstFormed}
 
--- these are the head, of the first version, and the claims of the database
+-- these are the head, of the first version, and the splits and merges of the database
 pub record IsFirstSaid (db : Database) (s : Said) : Type 0 where
   pub head : ReadsHeadAt (pos 1) db (option_map head_said s.head)
-  pub claims : ReadsClaims db (map claim_said s.claims.items)
+  pub claims : HasPassages db s.claims.items
 
 -- the fourteen tables have their form, and their fixed rows, with a moment each, are those of this frame
 pub record IsFirstRead (f : Frame) (db : Database) : Type 0 where

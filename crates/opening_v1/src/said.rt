@@ -4,7 +4,7 @@ ghost use Rattle.store_sql.specs.Transactions.{Rests};
 ghost use Rattle.package_schema.specs.Looking.{LooksAt};
 ghost use Rattle.opening_v1.specs.Surveying.{IsFirstSaid};
 
-use opening_survey::said::{Said, claims_of, head_told};
+use opening_survey::said::{Said, head_told, passages_of};
 use package_schema::claims::claims;
 use package_schema::heads::head_at;
 use package_schema::versions::Version;
@@ -12,7 +12,7 @@ use package_tables::fault::Fault;
 use sqlite::{Alter, Connection};
 use std::alloc::Global;
 
-/// Whose the store is, where it is one of the first version, and what its receipts claim.
+/// Whose the store is, where it is one of the first version, and what its splits and merges claim.
 ///
 /// # Errors
 ///
@@ -26,7 +26,7 @@ pub(crate) fn read_first_said<S: Alter>(
 {
     let found = head_at(conn, alloc, Version::First)?;
     let read = claims(conn, alloc)?;
-    let told = claims_of(alloc, read)?;
+    let told = passages_of(alloc, read)?;
     Ok(Said {
         head: head_told(found),
         claims: told,

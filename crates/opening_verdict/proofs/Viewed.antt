@@ -17,6 +17,7 @@ use Rattle.sheet_types.proofs.Basics.{None≢Some, some_once, some_same}
 use Rattle.sheet_types.proofs.Same.{In, In-filter, In-map, In-of_map, In-all, All-In, Contains-In}
 use Rattle.sheet_types.proofs.Every.{All-taken, All-weaker}
 use Rattle.sheet_laws.specs.Laws.{StoreSight}
+use Rattle.opening_faults.specs.Passages.{passages}
 use Rattle.opening_faults.specs.Sights as sights
 use Rattle.opening_faults.specs.Sights.{Any, nothing_read, head_said, head_seen, claims_seen, frame_seen, is_live_store}
 use Rattle.opening_faults.specs.Unfit.{IsUnfitIn, IsUnfit}
@@ -25,6 +26,7 @@ use Rattle.opening_faults.specs.declared.sights.StoreHead.{StoreHead}
 use Rattle.opening_faults.proofs.Carried as carried
 use Rattle.opening_faults.proofs.Carried.{least_same, never_same}
 use Rattle.opening_faults.proofs.Members.{contained}
+use Rattle.opening_faults.proofs.Passages.{passages_again}
 use Rattle.opening_verdict.specs.Checks.{flags_of, HasUnfit}
 use Rattle.opening_verdict.specs.Views.{IsSeenAs, AreSeenAs, is_live_view, live_views}
 use Rattle.opening_verdict.specs.declared.seen.StoreSeen.{StoreSeen}
@@ -50,6 +52,10 @@ head_of_pair p = p.view.head
 
 abbrev claims_of_pair : Pair → List Claim
 claims_of_pair p = p.view.claims
+
+-- what was seen has the passages of what is right
+same_passages : (p : Pair) → passages (claims_seen p.seen.sight) ≡ passages p.view.claims
+same_passages p = ap passages p.is.claims ∙ passages_again p.view.claims
 
 abbrev frame_of_pair : Pair → Frame
 frame_of_pair p = p.view.frame
@@ -171,14 +177,14 @@ module _ (ps : List Pair) where
       frame_of_pair read_of_pair (λ v. v.head) (λ v. v.claims) (λ v. v.is_formed ≡ true) (λ v. v.is_tied ≡ true)
       (λ v. v.frame) (λ v. v.reads_as) (λ p. p.view) (λ p. refl) (λ p. refl) (λ p. refl) ps
       (carried.no_archive_fro Pair Sight head_of_pair claims_of_pair FormedPair TiedPair frame_of_pair read_of_pair
-      head_seen claims_seen Any Any frame_seen nothing_read (λ p. p.seen.sight) (λ p. p.is.head) (λ p. p.is.claims)
+      head_seen claims_seen Any Any frame_seen nothing_read (λ p. p.seen.sight) (λ p. p.is.head) same_passages
       (λ p. p.is.frame) ps h)
 
   no_archive_fro : model.NoArchive StoreSight (λ v. v.head) (λ v. v.claims) (λ v. v.is_formed ≡ true)
       (λ v. v.is_tied ≡ true) (λ v. v.frame) (λ v. v.reads_as) views_of → sights.NoArchive sights_of
   no_archive_fro h = carried.no_archive_to Pair Sight head_of_pair claims_of_pair FormedPair TiedPair frame_of_pair
       read_of_pair head_seen claims_seen Any Any frame_seen nothing_read (λ p. p.seen.sight) (λ p. p.is.head)
-      (λ p. p.is.claims) (λ p. p.is.frame) ps (carried.no_archive_fro Pair StoreSight head_of_pair claims_of_pair
+      same_passages (λ p. p.is.frame) ps (carried.no_archive_fro Pair StoreSight head_of_pair claims_of_pair
       FormedPair TiedPair frame_of_pair read_of_pair (λ v. v.head) (λ v. v.claims) (λ v. v.is_formed ≡ true)
       (λ v. v.is_tied ≡ true) (λ v. v.frame) (λ v. v.reads_as) (λ p. p.view) (λ p. refl) (λ p. refl)
       (λ p. refl) ps h)
@@ -189,14 +195,14 @@ module _ (ps : List Pair) where
       frame_of_pair read_of_pair (λ v. v.head) (λ v. v.claims) (λ v. v.is_formed ≡ true) (λ v. v.is_tied ≡ true)
       (λ v. v.frame) (λ v. v.reads_as) (λ p. p.view) (λ p. refl) (λ p. refl) (λ p. refl) ps
       (carried.two_archives_fro Pair Sight head_of_pair claims_of_pair FormedPair TiedPair frame_of_pair read_of_pair
-      head_seen claims_seen Any Any frame_seen nothing_read (λ p. p.seen.sight) (λ p. p.is.head) (λ p. p.is.claims)
+      head_seen claims_seen Any Any frame_seen nothing_read (λ p. p.seen.sight) (λ p. p.is.head) same_passages
       (λ p. p.is.frame) ps h)
 
   two_archives_fro : model.TwoArchives StoreSight (λ v. v.head) (λ v. v.claims) (λ v. v.is_formed ≡ true)
       (λ v. v.is_tied ≡ true) (λ v. v.frame) (λ v. v.reads_as) views_of → sights.TwoArchives sights_of
   two_archives_fro h = carried.two_archives_to Pair Sight head_of_pair claims_of_pair FormedPair TiedPair
       frame_of_pair read_of_pair head_seen claims_seen Any Any frame_seen nothing_read (λ p. p.seen.sight)
-      (λ p. p.is.head) (λ p. p.is.claims) (λ p. p.is.frame) ps
+      (λ p. p.is.head) same_passages (λ p. p.is.frame) ps
       (carried.two_archives_fro Pair StoreSight head_of_pair claims_of_pair FormedPair TiedPair frame_of_pair
       read_of_pair (λ v. v.head) (λ v. v.claims) (λ v. v.is_formed ≡ true) (λ v. v.is_tied ≡ true)
       (λ v. v.frame)
@@ -217,7 +223,7 @@ module _ (ps : List Pair) where
       frame_of_pair read_of_pair (λ v. v.head) (λ v. v.claims) (λ v. v.is_formed ≡ true) (λ v. v.is_tied ≡ true)
       (λ v. v.frame) (λ v. v.reads_as) (λ p. p.view) (λ p. refl) (λ p. refl) (λ p. refl) ps test id
       (carried.counted_fro Pair Sight head_of_pair claims_of_pair FormedPair TiedPair frame_of_pair read_of_pair
-      head_seen claims_seen Any Any frame_seen nothing_read (λ p. p.seen.sight) (λ p. p.is.head) (λ p. p.is.claims)
+      head_seen claims_seen Any Any frame_seen nothing_read (λ p. p.seen.sight) (λ p. p.is.head) same_passages
       (λ p. p.is.frame) ps test id h)
 
   pub counted_fro : (test : ℕ → Bool) (id : List ℕ) → model.Counted StoreSight (λ v. v.head) (λ v. v.claims)
@@ -225,7 +231,7 @@ module _ (ps : List Pair) where
       → model.Counted Sight head_seen claims_seen Any Any frame_seen nothing_read test sights_of id
   counted_fro test id h = carried.counted_to Pair Sight head_of_pair claims_of_pair FormedPair TiedPair frame_of_pair
       read_of_pair head_seen claims_seen Any Any frame_seen nothing_read (λ p. p.seen.sight) (λ p. p.is.head)
-      (λ p. p.is.claims) (λ p. p.is.frame) ps test id (carried.counted_fro Pair StoreSight head_of_pair claims_of_pair
+      same_passages (λ p. p.is.frame) ps test id (carried.counted_fro Pair StoreSight head_of_pair claims_of_pair
       FormedPair TiedPair frame_of_pair read_of_pair (λ v. v.head) (λ v. v.claims) (λ v. v.is_formed ≡ true)
       (λ v. v.is_tied ≡ true) (λ v. v.frame) (λ v. v.reads_as) (λ p. p.view) (λ p. refl) (λ p. refl)
       (λ p. refl) ps
@@ -240,7 +246,7 @@ module _ (ps : List Pair) where
       (λ v. v.frame)
       (λ v. v.reads_as) (λ p. p.view) (λ p. refl) (λ p. refl) (λ p. refl) ps id
       (carried.foreign_fro Pair Sight head_of_pair claims_of_pair FormedPair TiedPair frame_of_pair read_of_pair
-      head_seen claims_seen Any Any frame_seen nothing_read (λ p. p.seen.sight) (λ p. p.is.head) (λ p. p.is.claims)
+      head_seen claims_seen Any Any frame_seen nothing_read (λ p. p.seen.sight) (λ p. p.is.head) same_passages
       (λ p. p.is.frame) ps id h)
 
   pub foreign_fro : (id : List ℕ) → model.ForeignFrame StoreSight (λ v. v.head) (λ v. v.claims)
@@ -248,7 +254,7 @@ module _ (ps : List Pair) where
       → sights.ForeignFrame sights_of id
   foreign_fro id h = carried.foreign_to Pair Sight head_of_pair claims_of_pair FormedPair TiedPair frame_of_pair
       read_of_pair head_seen claims_seen Any Any frame_seen nothing_read (λ p. p.seen.sight) (λ p. p.is.head)
-      (λ p. p.is.claims) (λ p. p.is.frame) ps id (carried.foreign_fro Pair StoreSight head_of_pair claims_of_pair
+      same_passages (λ p. p.is.frame) ps id (carried.foreign_fro Pair StoreSight head_of_pair claims_of_pair
       FormedPair TiedPair frame_of_pair read_of_pair (λ v. v.head) (λ v. v.claims) (λ v. v.is_formed ≡ true)
       (λ v. v.is_tied ≡ true) (λ v. v.frame) (λ v. v.reads_as) (λ p. p.view) (λ p. refl) (λ p. refl)
       (λ p. refl) ps id
@@ -258,7 +264,7 @@ module _ (ps : List Pair) where
   pub live_same : (p : Pair) → is_live_store sights_of p.seen.sight ≡ is_live_view views_of p.view
   live_same p = carried.live_store_seen Pair Sight head_of_pair claims_of_pair FormedPair TiedPair frame_of_pair
       read_of_pair head_seen claims_seen Any Any frame_seen nothing_read (λ p. p.seen.sight) (λ p. p.is.head)
-      (λ p. p.is.claims) (λ p. p.is.frame) ps p ∙ sym (carried.live_store_seen Pair StoreSight head_of_pair
+      same_passages (λ p. p.is.frame) ps p ∙ sym (carried.live_store_seen Pair StoreSight head_of_pair
       claims_of_pair FormedPair TiedPair frame_of_pair read_of_pair (λ v. v.head) (λ v. v.claims)
       (λ v. v.is_formed ≡ true) (λ v. v.is_tied ≡ true) (λ v. v.frame) (λ v. v.reads_as) (λ p. p.view)
       (λ p. refl)

@@ -10,6 +10,7 @@ use Rattle.sheet_types.specs.Register.{IsRegister}
 use Rattle.sheet_types.specs.World.{World, receipts_of}
 use Rattle.sheet_laws.specs.Laws.{StoreSight, StoresStandFor, SeesItsPackage}
 use Rattle.sheet_balance.specs.Sights.{IsSightOf}
+use Rattle.opening_faults.specs.Passages.{passages}
 use Rattle.opening_faults.specs.Sights.{head_said, head_seen, claims_seen, frame_seen}
 use Rattle.opening_faults.specs.declared.faults.RecoverFault.{RecoverFault}
 use Rattle.opening_faults.specs.declared.faults.RecoverFault.TheVariants.{NoArchive, TwoArchives, NotAPackage}
@@ -20,11 +21,11 @@ use Rattle.opening_verdict.specs.declared.seen.StoreSeen.{StoreSeen}
 use Rattle.opening_verdict.specs.declared.verdict.Kept.{Kept}
 use Rattle.opening_verdict.specs.declared.verdict.Verdict.{Verdict}
 
--- what was seen of a store is right: this is its head, its claims, its frame, whether it is formed and tied, and
--- where it is both its package, which keeps its own rules
+-- what was seen of a store is right: this is its head, its frame, whether it is formed and tied, and where it is both
+-- its package, which keeps its own rules; of its claims these are the splits and merges
 pub record IsSeenAs (x : StoreSeen) (v : StoreSight) : Type 0 where
   pub head : head_seen x.sight ≡ v.head
-  pub claims : claims_seen x.sight ≡ v.claims
+  pub claims : claims_seen x.sight ≡ passages v.claims
   pub formed : x.is_formed ≡ v.is_formed
   pub tied : x.is_tied ≡ v.is_tied
   pub frame : frame_seen x.sight ≡ v.frame

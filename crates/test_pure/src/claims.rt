@@ -7,6 +7,7 @@ use crate::receipts::{ARCHIVE, LOAN, line_of, package, package_word};
 use crate::steps::{Of, Table, Told, cut, uuid, wrong_of};
 use crate::values::text;
 use opening_faults::archives::{has_no_archive, has_two_archives};
+use opening_faults::claiming::is_passage;
 use opening_faults::faults::RecoverFault;
 use opening_faults::foreign::least_foreign;
 use opening_faults::least::{least_copied, least_missing};
@@ -157,6 +158,15 @@ fn tell_number(
     Ok(())
 }
 
+// Which claims of the stores are of a split or of a merge.
+fn tell_passages(seen: &[Sight], told: &mut Told) {
+    for sight in seen {
+        for claim in sight.claims.iter() {
+            told.sign(is_passage(claim));
+        }
+    }
+}
+
 // Of two live stores, or of a first that alone is, the least that is not fit, where the first is
 // fit and the second is not.
 fn tell_claims(
@@ -171,6 +181,7 @@ fn tell_claims(
         "has_two_archives" => told.answer(has_two_archives(seen)),
         "unfit" => told.word(package_word(least_unfit(alloc, seen, &[true, true], &fit)?)),
         "unfit_of_one" => told.word(package_word(least_unfit(alloc, seen, &[true, false], &fit)?)),
+        "passages" => tell_passages(seen, told),
         "missing" | "copied" | "foreign" | "splits" | "live" => {
             let reached = reach(alloc, seen)?;
             return tell_reached(alloc, seen, &reached, asks, told);
@@ -194,7 +205,7 @@ pub(crate) fn claims_of(alloc: Global, question: &str, told: &mut Told) -> Resul
 }
 
 const CLAIMS: Table = Table(
-    26,
+    28,
     "live loan lender => [++]
 splits loan lender => [1]
 missing loan lender => [-]
@@ -221,6 +232,8 @@ number_foreign lender => [-]
 number_altered loan lender => [1]
 number_altered loan => [-]
 number_dangling lender loan => [no receipt]
+passages loan returned => [-++]
+passages loan => []
 ",
 );
 

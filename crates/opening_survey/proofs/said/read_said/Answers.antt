@@ -1,12 +1,11 @@
-use Rattle.std.proofs.Common.{◌∙◌, ap, sym, subst}
-use Rattle.sqlite_trees.proofs.ListLemmas.{map-map}
-use Rattle.opening_faults.specs.Sights as opening
+use Rattle.std.proofs.Common.{sym, subst}
 use Rattle.std.specs.Prelude.{map, option_map}
 use Rattle.store_sql.specs.Writing.{AreKeyed}
 use Rattle.package_tables.specs.Damaged.{ReadsClaims}
 use Rattle.package_schema.specs.Heads.{head_said, claim_said, ReadsHead}
 use Rattle.package_schema.proofs.Seeing.{seen, seen_then, sees}
-use Rattle.opening_survey.specs.Surveying.{claim_told, IsSaid}
+use Rattle.opening_survey.specs.Surveying.{IsSaid}
+use Rattle.opening_survey.proofs.Passing.{has_passages}
 use Rattle.opening_survey.proofs.said.read_said.Goals as goal
 
 pub returns : goal.returns
@@ -17,7 +16,6 @@ returns g c =
     c.in_ok-read.was c.claims.ensures)
     (λ db told keyed. record {
       head = subst (ReadsHead db) (sym c.head_told.ensures) (told.0 keyed);
-      claims =
-          subst (ReadsClaims db) (sym (ap (map opening.claim_said) c.in_ok-told.ensures
-          ∙ map-map opening.claim_said claim_told c.in_ok-read.read.items)) (told.1 keyed);
+      claims = has_passages db c.in_ok-read.read.items c.in_ok-told.told.items (told.1 keyed)
+          c.in_ok-told.ensures;
     })
