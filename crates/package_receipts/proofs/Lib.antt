@@ -2,3 +2,5 @@ pub mod Ranges
 pub mod Lists
 pub mod Walking
 pub mod Saying
+pub mod BetweenStatements
+pub mod Parts

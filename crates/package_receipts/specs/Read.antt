@@ -1,6 +1,6 @@
 -- What rows in their ranges say. Profile.
 use Rattle.std.specs.Prelude.{◌≡◌, ◌⊎◌, ℕ, ◌+◌, ℤ, ◌<ℤ◌, ◌≤ℤ◌, Bool, true, not}
-use Rattle.std.specs.Prelude.{◌&&◌, pos, if◌then◌else◌, List, []}
+use Rattle.std.specs.Prelude.{◌&&◌, pos, if◌then◌else◌, List, [], false, int_le, int_lt, Option, Some, None}
 use Rattle.std.specs.Prelude.{◌∷◌, map, flat_map, IsPermutation}
 use Rattle.std.specs.List.{AllByRecursion, enumerate_from}
 use Rattle.sqlite_trees.specs.Tree.{IsAscending}
@@ -9,6 +9,7 @@ use Rattle.sheet_types.specs.World.{receipt_key}
 use Rattle.sheet_types.specs.declared.receipt.Moved.{Moved}
 use Rattle.sheet_types.specs.declared.receipt.Receipt.{Receipt}
 use Rattle.sheet_types.specs.declared.receipt.Sums.{Sums}
+use Rattle.package_tables.specs.Calls.{AreThose}
 use Rattle.package_tables.specs.Package.{Tables}
 use Rattle.package_tables.specs.declared.rows.MovedRow.{MovedRow}
 use Rattle.package_tables.specs.declared.rows.ReceiptRow.{ReceiptRow}
@@ -93,6 +94,43 @@ pub record AreSaid (t : Tables) (entered : List Receipt) : Type 0 where
   pub range : AreReceiptsInRange t.receipts t.moved
   pub order : IsArranged receipt_key entered
   pub says : SaysReceipts entered entered t.receipts t.moved
+
+-- ---- a part of the tables, by the numbers of the receipts
+
+-- a number comes after another; any does where there is no other
+abbrev pub is_past : Option ℤ → ℤ → Bool
+is_past None number = true
+is_past (Some before) number = int_lt before number
+
+-- and not after one more; any does where there is none
+abbrev pub is_between : Option ℤ → Option ℤ → ℤ → Bool
+is_between None None number = true
+is_between None (Some last) number = int_le number last
+is_between (Some before) None number = int_lt before number
+is_between (Some before) (Some last) number = int_lt before number && int_le number last
+
+-- The rows of both tables under the numbers that pass are in their ranges, and say these receipts, which stand in the
+-- order of their numbers.
+pub record AreSaidUnder (passes : ℤ → Bool) (t : Tables) (entered : List Receipt) : Type 0 where
+  pub rows : AreThose (λ r. passes r.seq) t.receipts (map receipt_row entered)
+  pub things : AreThose (λ m. passes m.seq) t.moved (flat_map moved_rows entered)
+  pub rising : IsAscending IsEarlier (map receipt_row entered)
+  pub range : AreReceiptsInRange (map receipt_row entered) (flat_map moved_rows entered)
+  pub fit : AllByRecursion IsFitReceipt entered
+
+-- the receipts up to a number; none where there is no number
+abbrev pub AreSaidTo : Option ℤ → Tables → List Receipt → Type 0
+AreSaidTo None t entered = entered ≡ []
+AreSaidTo (Some last) t entered = AreSaidUnder (λ number. int_le number last) t entered
+
+-- those up to a number; all where there is no number
+abbrev pub AreSaidUntil : Option ℤ → Tables → List Receipt → Type 0
+AreSaidUntil end t entered = AreSaidUnder (is_between None end) t entered
+
+-- The receipts up to one number have become those up to another. Else rows of the tables are not in their ranges.
+abbrev pub GoesOn : Option ℤ → Option ℤ → Tables → List Receipt → List Receipt → Bool → Type 0
+GoesOn after end t old new true = AreSaidTo after t old → AreSaidUntil end t new
+GoesOn after end t old new false = AreReceiptsInRange t.receipts t.moved → ⊥
 
 -- Rows of both tables, in order and in their ranges, are those of some receipts.
 abbrev pub RowsSayReceipts : Type 0
