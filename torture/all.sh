@@ -24,6 +24,7 @@ each operations sqlite3 "$torture/operations.sh"
 each desk 'curl jq' "$torture/desk_curl.sh"
 each desk_client - "$torture/desk_client.py"
 each file_dates - "$torture/file_dates.py" $((quick ? 100 : 2000))
+each receipt_parts - "$torture/receipt_parts.py"
 each served_folder - "$torture/served_folder.py" $((quick ? 50 : 1000))
 each odd_desks - "$torture/odd_desks.py"
 each foreign_page chromium "$torture/foreign_page.py"
